@@ -1,0 +1,22 @@
+//! Texts, bytes and lists that contracts see as plain lists, copies that may want memory, and the error of
+//! that want.
+#![tactic(auto)]
+
+mod bytes;
+mod copy;
+mod listed;
+mod memory;
+mod pattern;
+mod text;
+mod typed;
+
+pub use bytes::Bytes;
+pub use copy::TryCopy;
+pub use listed::Listed;
+pub use memory::NoMemory;
+pub use pattern::Pattern;
+pub use text::Text;
+pub use typed::Typed;
+
+#[cfg(test)]
+mod tests;
