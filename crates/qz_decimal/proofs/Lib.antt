@@ -1,0 +1,6 @@
+pub mod Nearest
+pub mod DigitRuns
+pub mod Scan
+pub mod Places
+pub mod Spelled
+pub mod Complete

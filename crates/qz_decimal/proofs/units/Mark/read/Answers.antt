@@ -1,0 +1,18 @@
+use Rattle.std.proofs.Common.{◌≡◌, ◌*◌, ℤ, pos, neg_ℤ, Result, rules}
+use Rattle.qz_decimal.specs.declared.reading.BadNumber.{BadNumber}
+use Rattle.qz_decimal.specs.Numbers.{one}
+use Rattle.qz_decimal.specs.Reading.{mark_form, mark_in}
+use Rattle.qz_decimal.proofs.Complete.{reads-as, mark_usual}
+use Rattle.qz_decimal.proofs.units.Mark.read.Goals as goal
+
+pub returns-in_err-units : goal.returns-in_err-units
+returns-in_err-units c =
+    let value : ◌≡◌ {A = Result ℤ BadNumber} _ (mark_in c.args.text.now) = search rules in
+    let law = reads-as mark_form (neg_ℤ (pos (100000 * one))) (pos (100000 * one)) c.args.text.now _ mark_usual value in
+    record { value = value; found = law.found; malformed = law.malformed; range = law.range }
+
+pub returns : goal.returns
+returns c =
+    let value : ◌≡◌ {A = Result ℤ BadNumber} _ (mark_in c.args.text.now) = search rules in
+    let law = reads-as mark_form (neg_ℤ (pos (100000 * one))) (pos (100000 * one)) c.args.text.now _ mark_usual value in
+    record { value = value; found = law.found; malformed = law.malformed; range = law.range }
