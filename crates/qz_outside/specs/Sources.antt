@@ -1,0 +1,81 @@
+-- What reading a source whole and writing all of some bytes leave, and what sources and sinks in memory hold.
+use Rattle.std.specs.Prelude.{◌≡◌, ℕ, ◌+◌, ◌<◌, ◌≤◌, List, ◌++◌, length, Option, Result, MatchResult}
+use Rattle.std.specs.Io.KnownBytes.{Appends, Consumes, IsAtEnd}
+use Rattle.qz_outside.specs.declared.read.ReadStop.{ReadStop}
+use Rattle.qz_outside.specs.declared.read.ReadStop.TheVariants.{Fault, TooLong, Memory}
+use Rattle.qz_outside.specs.Causes.{HasRisen}
+
+-- a source lost these bytes, and its count of faults didn't fall
+pub record ReadsOn (old new : Option (List ℕ)) (before now : ℕ) (bytes : List ℕ) : Type 0 where
+  pub taken : Consumes old new bytes
+  pub later : before ≤ now
+
+-- it was read to its end, and these bytes, at most `limit` of them, are all that it had
+pub record ReadsWhole (limit : ℕ) (old new : Option (List ℕ)) (before now : ℕ) (bytes : List ℕ) : Type 0 where
+  pub taken : Consumes old new bytes
+  pub at_end : IsAtEnd new
+  pub within : length bytes ≤ limit
+  pub later : before ≤ now
+
+-- it failed behind some bytes, at most `limit` of them
+pub record FailsReading (limit : ℕ) (old new : Option (List ℕ)) (before now : ℕ) : Type 0 where
+  pub bytes : List ℕ
+  pub taken : Consumes old new bytes
+  pub within : length bytes ≤ limit
+  pub later : before ≤ now
+  pub risen : HasRisen before now
+
+-- it had more than `limit` bytes, of which one past the limit was read
+pub record ReadsPast (limit : ℕ) (old new : Option (List ℕ)) (before now : ℕ) : Type 0 where
+  pub bytes : List ℕ
+  pub taken : Consumes old new bytes
+  pub past : limit < length bytes
+  pub within : length bytes ≤ limit + 1
+  pub later : before ≤ now
+
+-- some bytes were read, at most so many
+pub record ReadsSome (most : ℕ) (old new : Option (List ℕ)) (before now : ℕ) : Type 0 where
+  pub bytes : List ℕ
+  pub taken : Consumes old new bytes
+  pub within : length bytes ≤ most
+  pub later : before ≤ now
+
+-- why a reading of at most `limit` bytes stopped
+abbrev pub StopsReading : ℕ → Option (List ℕ) → Option (List ℕ) → ℕ → ℕ → ReadStop → Type 0
+StopsReading limit old new before now Fault = FailsReading limit old new before now
+StopsReading limit old new before now TooLong = ReadsPast limit old new before now
+StopsReading limit old new before now Memory = ReadsSome (limit + 1) old new before now
+
+-- how a reading of at most `limit` bytes ended
+abbrev pub EndsReading : ℕ → Option (List ℕ) → Option (List ℕ) → ℕ → ℕ → Result (List ℕ) ReadStop → Type 0
+EndsReading limit old new before now result = MatchResult result (ReadsWhole limit old new before now) (StopsReading limit old new before now)
+
+-- one piece was read: these bytes stand behind `items` now, and none only at the end or with no room
+pub record ReadsPiece (room : ℕ) (old new : Option (List ℕ)) (before now : ℕ) (items longer : List ℕ) (count : ℕ) : Type 0 where
+  pub bytes : List ℕ
+  pub taken : Consumes old new bytes
+  pub longer_is : longer ≡ items ++ bytes
+  pub count_is : count ≡ length bytes
+  pub fits : count ≤ room
+  pub at_end : count ≡ 0 → 0 < room → IsAtEnd new
+  pub later : before ≤ now
+
+-- a piece was not read: the source failed and lost none, or what was read found no memory
+abbrev pub StopsPiece : ℕ → Option (List ℕ) → Option (List ℕ) → ℕ → ℕ → ReadStop → Type 0
+StopsPiece room old new before now Fault = FailsReading 0 old new before now
+StopsPiece room old new before now TooLong = ⊥
+StopsPiece room old new before now Memory = ReadsSome room old new before now
+
+-- a sink took a front of the bytes, behind which `rest` stands, and its count of faults didn't fall
+pub record WritesOn (old new : Option (List ℕ)) (before now : ℕ) (bytes rest : List ℕ) : Type 0 where
+  pub front : List ℕ
+  pub split : bytes ≡ front ++ rest
+  pub appends : Appends old new front
+  pub later : before ≤ now
+
+-- a sink took a front of the bytes
+pub record AppendsFront (old new : Option (List ℕ)) (bytes : List ℕ) : Type 0 where
+  pub front : List ℕ
+  pub rest : List ℕ
+  pub split : bytes ≡ front ++ rest
+  pub appends : Appends old new front
