@@ -1,6 +1,6 @@
 -- One more piece read or written.
-use Rattle.std.proofs.Common.{ℕ, ◌-◌, ◌+◌, ◌≤◌, List, ◌++◌, length, take, drop, Option, sym, ◌∙◌, ap, append_assoc, take-append-drop, length-append, arith}
-use Rattle.std.proofs.lemmas.List.{take_rest}
+use Rattle.std.proofs.Common.{◌≡◌, ℕ, ◌-◌, ◌+◌, ◌<◌, ◌≤◌, min, List, [], ◌++◌, length, take, drop, Option, sym, ◌∙◌, ap, append_assoc, take-append-drop, length-append, length-take, length-drop, arith}
+use Rattle.std.proofs.lemmas.List.{take_rest, take_at, drop_all}
 use Rattle.std.specs.Io.KnownBytes.{Appends}
 use Rattle.std.proofs.KnownBytes.{Appends-trans, Consumes-trans}
 use Rattle.qz_outside.specs.declared.read.ReadStop.{ReadStop}
@@ -35,3 +35,14 @@ stops_more limit room old mid new before between now items Memory reads within f
   within = omega (arith, length-append items stopped.bytes, stopped.within);
   later = omega (arith, reads.later, stopped.later);
 }
+
+-- what a source in memory gives of `rest`, the bytes left, is a front of them, and nothing only at the end or with no room
+pub gives_front : (rest room piece : List ℕ) (most n : ℕ) → n ≡ min (min most (length room)) (length rest) → 0 < most → piece ≡ take n rest
+    → (rest ≡ take n (piece ++ drop n room) ++ drop n rest) × (n ≡ 0 → 0 < length (piece ++ drop n room) → drop n rest ≡ [])
+gives_front rest room piece most n count_is some piece_is =
+    let size : length piece ≡ n = omega (arith, ap length piece_is, length-take n rest) in (
+      rw (take_at piece (drop n room) n size, piece_is) (sym (take-append-drop n rest)),
+      λ none has_room.
+          let full : length (piece ++ drop n room) ≡ n + (length room - n) = omega (arith, length-append piece (drop n room), length-drop n room) in
+          drop_all n rest (omega arith),
+    )

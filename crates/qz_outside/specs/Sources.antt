@@ -1,9 +1,9 @@
 -- What reading a source whole and writing all of some bytes leave, and what sources and sinks in memory hold.
-use Rattle.std.specs.Prelude.{◌≡◌, ℕ, ◌+◌, ◌<◌, ◌≤◌, List, ◌++◌, length, Option, Result, MatchResult}
+use Rattle.std.specs.Prelude.{◌≡◌, ℕ, ◌+◌, ◌-◌, ◌<◌, ◌≤◌, min, ◌==◌, nat_lt, ◌&&◌, if◌then◌else◌, List, ◌++◌, length, take, drop, Option, Result, MatchResult}
 use Rattle.std.specs.Io.KnownBytes.{Appends, Consumes, IsAtEnd}
 use Rattle.qz_outside.specs.declared.read.ReadStop.{ReadStop}
 use Rattle.qz_outside.specs.declared.read.ReadStop.TheVariants.{Fault, TooLong, Memory}
-use Rattle.qz_outside.specs.Causes.{HasRisen}
+use Rattle.qz_outside.specs.Causes.{HasRisen, counted}
 
 -- a source lost these bytes, and its count of faults didn't fall
 pub record ReadsOn (old new : Option (List ℕ)) (before now : ℕ) (bytes : List ℕ) : Type 0 where
@@ -79,3 +79,41 @@ pub record AppendsFront (old new : Option (List ℕ)) (bytes : List ℕ) : Type 
   pub rest : List ℕ
   pub split : bytes ≡ front ++ rest
   pub appends : Appends old new front
+
+-- a source in memory: the bytes left, the most of one call, the numbers of the calls that are to fail, and how many
+-- calls and faults there were
+pub record Feed : Type 0 where
+  pub left : List ℕ
+  pub most : ℕ
+  pub failing : List ℕ
+  pub calls : ℕ
+  pub faults : ℕ
+
+-- a call gave the front of the bytes left: as many as there are, the room has place for, and one call gives
+pub record GivesFront (old new : Feed) (room filled : List ℕ) (count : ℕ) : Type 0 where
+  pub count_is : count ≡ min (min old.most (length room)) (length old.left)
+  pub filled_is : filled ≡ take count old.left ++ drop count room
+  pub after : new ≡ record old { left = drop count old.left; calls = counted old.calls }
+
+-- a sink in memory: the bytes held, the room left for more, and the rest as in a `Feed`
+pub record Store : Type 0 where
+  pub held : List ℕ
+  pub room : ℕ
+  pub most : ℕ
+  pub failing : List ℕ
+  pub calls : ℕ
+  pub faults : ℕ
+
+-- a full sink counts a fault for a piece that isn't empty
+abbrev pub faults_after : Store → List ℕ → ℕ
+faults_after old piece = if (old.room == 0) && nat_lt 0 (length piece) then counted old.faults else old.faults
+
+-- a call took the front of the piece: as much as there is, the sink has room for, and one call takes
+pub record TakesFront (old new : Store) (piece : List ℕ) (count : ℕ) : Type 0 where
+  pub count_is : count ≡ min (min old.most old.room) (length piece)
+  pub after : new ≡ record old {
+    held = old.held ++ take count piece;
+    room = old.room - count;
+    calls = counted old.calls;
+    faults = faults_after old piece;
+  }
