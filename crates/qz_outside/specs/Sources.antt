@@ -117,3 +117,8 @@ pub record TakesFront (old new : Store) (piece : List ℕ) (count : ℕ) : Type 
     calls = counted old.calls;
     faults = faults_after old piece;
   }
+
+-- a reader or a writer of std, and how many of its calls failed
+pub record Adapted (S : Type 0) : Type 0 where
+  pub inner : S
+  pub faults : ℕ

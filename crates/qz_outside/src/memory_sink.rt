@@ -40,8 +40,8 @@ impl Model for MemorySink {
 }
 
 impl MemorySink {
-    /// A sink with room for so many bytes. The calls of `write` whose numbers, from 1, are in `failing` fail, and
-    /// each other takes `most` bytes at most.
+    /// A sink with room for `room` bytes. The calls of `write` whose numbers, from 1, are in `failing` fail, and each
+    /// other takes `most` bytes at most.
     pub fn new(
         alloc: Global,
         room: usize,
@@ -84,14 +84,16 @@ impl Sink for MemorySink {
         ensures count { IfOk result (λ n. n ≤ length piece.now) }
         ensures bytes { WriteAppends (Some self.old.held) (Some self.new.held) result piece.now }
         ensures cause { HasCause self.old.faults self.new.faults result }
-        ensures stuck { IfOk result (λ n. n ≡ 0 → 0 < length piece.now → HasRisen self.old.faults self.new.faults) }
+        ensures stuck { IfOk result (λ n. n ≡ 0 → 0 < length piece.now
+            → HasRisen self.old.faults self.new.faults) }
 
         // It fails where the number of this call is listed, and there alone.
         ensures fails { IsErr result ↔ Contains self.old.failing (counted self.old.calls) }
-        ensures sound { self.old.failing ≡ [] → 0 < self.old.room → IsOk result × (self.new.faults ≡ self.old.faults) }
+        ensures sound { self.old.failing ≡ [] → 0 < self.old.room
+            → IsOk result × (self.new.faults ≡ self.old.faults) }
         ensures takes { IfOk result (TakesFront self.old self.new piece.now) }
 
-        // A call that fails has no effect but on the counts.
+        // A call that fails has no effect but to raise the counts.
         ensures failed { OnErr result (self.new
             ≡ record self.old { calls = counted self.old.calls; faults = counted self.old.faults }) }
     {

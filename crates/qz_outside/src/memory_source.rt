@@ -81,7 +81,7 @@ impl Source for MemorySource {
         ensures sound { self.old.failing ≡ [] → IsOk result }
         ensures gives { IfOk result (GivesFront self.old self.new room.old room.new) }
 
-        // A call that fails has no effect but on the counts.
+        // A call that fails has no effect but to raise the counts.
         ensures failed { OnErr result (self.new
             ≡ record self.old { calls = counted self.old.calls; faults = counted self.old.faults }) }
         ensures room_stays { OnErr result (room.new ≡ room.old) }

@@ -20,5 +20,6 @@ pub trait Sink {
         ensures count { IfOk result (λ n. n ≤ length piece.now) }
         ensures bytes { WriteAppends (holds self.old) (holds self.new) result piece.now }
         ensures cause { HasCause (faults self.old) (faults self.new) result }
-        ensures stuck { IfOk result (λ n. n ≡ 0 → 0 < length piece.now → HasRisen (faults self.old) (faults self.new)) };
+        ensures stuck { IfOk result (λ n. n ≡ 0 → 0 < length piece.now
+            → HasRisen (faults self.old) (faults self.new)) };
 }
