@@ -1,6 +1,6 @@
 -- Quotients that are rounded once, and the numbers of a quiz that they give. A mark, a max mark and a fraction are whole
 -- numbers of units of 10^-7.
-use Rattle.std.specs.Prelude.{◌≡◌, ℕ, suc, ◌+◌, ◌*◌, ◌/◌, ◌^◌, ◌≤◌, Bool, true, false, ℤ, pos, negsuc, neg_ℤ, ◌-ℤ◌, ◌*ℤ◌, ◌≤ℤ◌, unsigned_abs}
+use Rattle.std.specs.Prelude.{◌≡◌, ℕ, zero, suc, ◌+◌, ◌*◌, ◌/◌, ◌^◌, ◌≤◌, Bool, true, false, ℤ, pos, negsuc, neg_ℤ, ◌-ℤ◌, ◌*ℤ◌, ◌≤ℤ◌, unsigned_abs}
 
 -- ---- the nearest whole number
 
@@ -51,3 +51,19 @@ IsEarnedFraction = IsWithin (neg_ℤ (pos (6 * one))) (pos (6 * one))
 -- the mark that a fraction earns of a max mark
 abbrev pub mark_of : ℤ → ℤ → ℤ
 mark_of fraction max = nearest (fraction *ℤ max) one
+
+-- a part of a whole, as a fraction
+abbrev pub share : ℕ → ℕ → ℤ
+share right all = nearest (pos (right * one)) all
+
+-- the fraction that a mark is of its max mark, and 0 of a max mark of 0
+abbrev pub fraction_of : ℤ → ℤ → ℤ
+fraction_of mark (pos zero) = pos 0
+fraction_of mark (pos (suc max)) = nearest (mark *ℤ pos one) (suc max)
+fraction_of mark (negsuc max) = pos 0
+
+-- a mark given out of one max mark, for another, and 0 where it was given out of 0
+abbrev pub rescale : ℤ → ℤ → ℤ → ℤ
+rescale mark (pos zero) max = pos 0
+rescale mark (pos (suc given)) max = nearest (mark *ℤ max) (suc given)
+rescale mark (negsuc given) max = pos 0

@@ -1,0 +1,6 @@
+pub mod Grading
+pub mod Steps
+pub mod Behaviours
+pub mod Slots
+pub mod Words
+pub mod Examples

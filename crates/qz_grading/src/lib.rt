@@ -1,0 +1,19 @@
+//! One question and the steps taken on it: types, spellings, and what grading and behaviours mean.
+#![tactic(auto)]
+
+mod grading;
+mod outcome;
+mod question;
+mod refusal;
+mod response;
+mod spelled;
+mod words;
+
+pub use grading::same;
+pub use outcome::{Behaviour, Moved, Outcome, State};
+pub use question::{
+    Bank, Choice, Extent, Format, Item, Kind, Num, Pair, Question, Rich, Shape, Short,
+};
+pub use refusal::{AttemptId, Refusal, Thing};
+pub use response::{Answer, Response, Step};
+pub use spelled::Spelled;
