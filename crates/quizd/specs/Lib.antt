@@ -1,0 +1,6 @@
+pub mod Lines
+pub mod Replay
+pub mod Readings
+pub mod Narrow
+pub mod Tracked
+pub mod Endings

@@ -1,0 +1,47 @@
+//! The quiz server's program.
+#![tactic(auto)]
+
+mod lines;
+mod reading;
+mod replay;
+mod run;
+mod saying;
+mod slot;
+mod stop;
+mod taken;
+mod true_false;
+
+use qz_outside::{StdSink, StdSource};
+use qz_text::{NoMemory, Text};
+pub use replay::replay;
+pub use run::run;
+use std::alloc::Global;
+use std::process::ExitCode;
+use std::rt::Env;
+use std::{env, io};
+
+/// The status where memory was wanting before a command began.
+const NO_MEMORY: u8 = 8;
+
+/// The words of the command line behind the program's name. No words stand for arguments that the system doesn't give as text.
+fn words(rt: &(impl Env + Alloc<A = Global>)) -> Result<Vec<Text>, NoMemory> {
+    let mut words = Vec::new(rt.alloc());
+    let args = match env::args(rt) {
+        Ok(args) => args,
+        Err(error) if error.kind() == io::ErrorKind::OutOfMemory => return Err(NoMemory),
+        Err(_) => return Ok(words),
+    };
+    for items in args.skip(1) {
+        words.push(Text { items })?;
+    }
+    Ok(words)
+}
+
+fn main(rt: HostRuntime) -> ExitCode {
+    let Ok(words) = words(&rt) else {
+        return ExitCode::from(NO_MEMORY);
+    };
+    let mut source = StdSource::new(rt.reader());
+    let mut sink = StdSink::new(io::writer(&rt));
+    ExitCode::from(run(rt.alloc(), &words, &mut source, &mut sink))
+}

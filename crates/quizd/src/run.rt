@@ -1,0 +1,54 @@
+//! The command line.
+
+ghost use Rattle.std.specs.Prelude.{◌≡◌};
+ghost use Rattle.quizd.specs.Endings.{Ended, UsageWritten, RunEnds, RunsAll, is_replay};
+
+use crate::replay::replay;
+use crate::stop::Stop;
+use qz_outside::{Sink, Source, write_all};
+use qz_text::Text;
+use std::alloc::Global;
+
+const USAGE: &str =
+    "usage: quizd replay | gift check | gift fmt | script FOLDER | found FOLDER SHARDS TOKEN | serve FOLDER PORT WORKERS REGRADERS LINKS | bulk N\n";
+
+/// Runs the command that the words name, over a source and a sink, and answers its exit status.
+///
+/// The command so far is `replay`. Words that are no command are status 2: nothing is read, and the usage line is written. Where
+/// the sink fails under the usage line the status is 5.
+pub fn run<S: Source, O: Sink>(alloc: Global, words: &[Text], source: &mut S, sink: &mut O) -> u8
+    ensures ended { Ended
+        (RunEnds words.now
+        (record { left = S.left source.old; source_faults = S.faults source.old; holds = O.holds sink.old; sink_faults = O.faults sink.old })
+        (record { left = S.left source.new; source_faults = S.faults source.new; holds = O.holds sink.new; sink_faults = O.faults sink.new }))
+        result }
+    ensures complete { RunsAll words.now
+        (record { left = S.left source.old; source_faults = S.faults source.old; holds = O.holds sink.old; sink_faults = O.faults sink.old })
+        (record { left = S.left source.new; source_faults = S.faults source.new; holds = O.holds sink.new; sink_faults = O.faults sink.new })
+        result }
+{
+    if asks_replay(words) {
+        replay(alloc, source, sink)
+    } else {
+        show_usage(sink).status()
+    }
+}
+
+fn asks_replay(words: &[Text]) -> bool
+    ensures { result ≡ is_replay words.now }
+{
+    match words {
+        [word] => word.as_str() == "replay",
+        _ => false,
+    }
+}
+
+/// Writes the usage line.
+fn show_usage<O: Sink>(sink: &mut O) -> Stop
+    ensures { UsageWritten (O.holds sink.old) (O.holds sink.new) (O.faults sink.old) (O.faults sink.new) result }
+{
+    match write_all(sink, USAGE.as_bytes()) {
+        Ok(()) => Stop::BadWords,
+        Err(_) => Stop::SinkFault,
+    }
+}
