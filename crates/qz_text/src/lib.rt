@@ -4,7 +4,10 @@
 
 mod bytes;
 mod copy;
+mod folding;
+mod gaps;
 mod listed;
+mod matching;
 mod memory;
 mod pattern;
 mod text;
