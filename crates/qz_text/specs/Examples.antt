@@ -1,6 +1,7 @@
 -- Worked rows: patterns that fit, and patterns that don't.
-use Rattle.std.specs.Prelude.{◌≡◌, true, false, refl, [], ◌∷◌, encode_utf8_all, codes}
-use Rattle.qz_text.specs.Patterns.{pattern_fits, is_blank, plain_parts}
+use Rattle.std.specs.Prelude.{◌≡◌, ℕ, true, false, refl, List, [], ◌∷◌, encode_utf8_all, codes}
+use Rattle.std.specs.List.{list_any}
+use Rattle.qz_text.specs.Patterns.{pattern_fits, fits_parts, endings, folded, is_blank, plain_parts}
 use Rattle.qz_text.specs.Computing.{patterns}
 
 star-for_letters : pattern_fits (codes "  Stra*e ") (codes "STRASSE") ≡ true
@@ -15,9 +16,14 @@ star-for_none : pattern_fits (codes "*a**b*") (codes "AB") ≡ true
 unfolding patterns
 star-for_none = refl
 
-star-for_all : pattern_fits (codes "*") (codes " ") ≡ true
+empty_ending : (text : List ℕ) → list_any (fits_parts ([] ∷ [])) (endings text) ≡ true
+empty_ending [] = refl
+empty_ending (c ∷ cs) = empty_ending cs
+
+-- a star alone fits every text
+star-for_all : (typed : List ℕ) → pattern_fits (codes "*") typed ≡ true
 unfolding patterns
-star-for_all = refl
+star-for_all typed = empty_ending (folded typed)
 
 all-anchored : pattern_fits (codes "a*b*c") (codes "abcb") ≡ false
 unfolding patterns

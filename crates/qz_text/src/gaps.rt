@@ -42,8 +42,8 @@ fn first_sign(pattern: &[u8]) -> Option<(u8, &[u8])>
 /// The first part, and what follows its gap. `None` says that there is but one part.
 pub(crate) fn split_at_gap(parts: &[u8]) -> Option<(&[u8], &[u8])>
     ensures cut { MatchOption result (parts_between_gaps parts.now ≡ parts.now ∷ [])
-        (λ cut. parts_between_gaps parts.now ≡ cut.0.now ∷ parts_between_gaps cut.1.now) }
-    ensures shorter { IfSome result (λ cut. length cut.1.now < length parts.now) }
+        (λ split. parts_between_gaps parts.now ≡ split.0.now ∷ parts_between_gaps split.1.now) }
+    ensures shorter { IfSome result (λ split. length split.1.now < length parts.now) }
 {
     let place = memchr(GAP, parts)?;
     Some((&parts[..place], &parts[place + 1..]))

@@ -27,11 +27,12 @@ impl Model for Pattern {
 
     ghost view = { λ p. p.text };
 
-    ghost invariant = { λ p. parts_between_gaps p.parts.items ≡ map encode_utf8_all (folded_parts p.text) };
+    ghost invariant = { λ p. parts_between_gaps p.parts.items
+        ≡ map encode_utf8_all (folded_parts p.text) };
 }
 
 impl Pattern {
-    /// The pattern with the text `text`.
+    /// The pattern that is written so. Each text is a pattern.
     pub fn of(alloc: Global, text: &str) -> Result<Pattern, NoMemory>
         ensures { IfOk result (λ made. made ≡ text.now) }
     {

@@ -24,7 +24,7 @@ impl Model for Typed {
 }
 
 impl Typed {
-    /// The typed text `text`.
+    /// A typed text. It is folded here, once for all its comparisons.
     pub fn of(alloc: Global, text: &str) -> Result<Typed, NoMemory>
         ensures { IfOk result (λ made. made ≡ text.now) }
     {
