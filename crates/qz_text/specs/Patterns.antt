@@ -45,12 +45,13 @@ woven [] runs = []
 woven (part ∷ parts) [] = part
 woven (part ∷ parts) (run ∷ runs) = part ++ (run ++ woven parts runs)
 
--- the text is the parts in order, with some run, or none, in place of each star
+-- the text is the parts in order, with a run of characters, maybe the empty one, in place of each star
 pub record FitsParts (parts : List (List ℕ)) (text : List ℕ) : Type 0 where
   pub runs : List (List ℕ)
   pub one_each : length runs + 1 ≡ length parts
   pub filled : text ≡ woven parts runs
 
+-- a typed text fits a pattern
 abbrev pub PatternFits : List ℕ → List ℕ → Type 0
 PatternFits pattern typed = FitsParts (folded_parts pattern) (folded typed)
 
