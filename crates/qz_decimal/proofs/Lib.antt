@@ -4,3 +4,5 @@ pub mod Scan
 pub mod Places
 pub mod Spelled
 pub mod Complete
+pub mod Exact
+pub mod Weights

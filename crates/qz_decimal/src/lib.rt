@@ -3,6 +3,7 @@
 
 mod digits;
 mod marks;
+mod percent;
 mod quotient;
 mod reading;
 mod tone;
