@@ -5,4 +5,6 @@ pub mod Places
 pub mod Spelled
 pub mod Complete
 pub mod Exact
+pub mod Scales
+pub mod DecimalTexts
 pub mod Weights

@@ -1,6 +1,7 @@
 //! Exact numbers of a quiz, each rounded once.
 #![tactic(auto)]
 
+mod decimal;
 mod digits;
 mod marks;
 mod percent;
