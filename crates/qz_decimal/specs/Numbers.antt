@@ -67,3 +67,10 @@ abbrev pub rescale : ℤ → ℤ → ℤ → ℤ
 rescale mark (pos zero) max = pos 0
 rescale mark (pos (suc given)) max = nearest (mark *ℤ max) (suc given)
 rescale mark (negsuc given) max = pos 0
+
+-- the grade for a sum of totals and their number, where a whole total would have the quiz's grade; 0 where the max marks
+-- sum up to 0
+abbrev pub grade_of : ℤ → ℕ → ℤ → ℤ → ℤ
+grade_of total count grade (pos zero) = pos 0
+grade_of total count grade (pos (suc sum)) = nearest (total *ℤ grade) (count * suc sum)
+grade_of total count grade (negsuc sum) = pos 0
