@@ -4,3 +4,6 @@ pub mod Behaviours
 pub mod Slots
 pub mod Words
 pub mod Examples
+pub mod Shapes
+pub mod Canonical
+pub mod CanonicalExamples
