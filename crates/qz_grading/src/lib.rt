@@ -1,7 +1,9 @@
 //! One question and the steps taken on it: types, spellings, and what grading and behaviours mean.
 #![tactic(auto)]
 
+mod counting;
 mod grading;
+mod matching;
 mod outcome;
 mod question;
 mod refusal;
@@ -9,6 +11,7 @@ mod response;
 mod spelled;
 mod words;
 
+pub use counting::Steps;
 pub use grading::same;
 pub use outcome::{Behaviour, Moved, Outcome, State};
 pub use question::{
