@@ -1,5 +1,5 @@
 -- What every question keeps: how much it has, how long its texts are, and the ranges of its numbers.
-use Rattle.std.specs.Prelude.{ℕ, ◌+◌, ◌^◌, Bool, true, not, ◌&&◌, nat_lt, nat_le, List, [], ◌∷◌, ◌++◌, length, map, sum_by, ℤ, pos, neg_ℤ, int_le, unsigned_abs, IsTrue}
+use Rattle.std.specs.Prelude.{ℕ, ◌+◌, ◌^◌, ◌≤◌, Bool, true, not, ◌&&◌, nat_lt, nat_le, List, [], ◌∷◌, ◌++◌, length, map, sum_by, ℤ, pos, neg_ℤ, int_le, unsigned_abs, IsTrue}
 use Rattle.std.specs.List.{list_any, list_all, flat_map}
 use Rattle.std.specs.Ordering.{int_eq}
 use Rattle.qz_decimal.specs.Numbers.{one}
@@ -31,36 +31,52 @@ is_extent extent.Any = true
 is_extent (extent.Near centre slack) = is_short_number centre && (is_short_number slack && int_le (pos 0) slack)
 is_extent (extent.Between low high) = is_short_number low && (is_short_number high && int_le low high)
 
--- ---- choices, answers and pairs
+-- ---- choices, pairs and answers
 
--- from so many to 64
-abbrev pub is_count : {A : Type 0} → ℕ → List A → Bool
-is_count least xs = nat_le least (length xs) && nat_le (length xs) 64
+-- how many of them
+abbrev pub parts : Kind → ℕ
+parts (kind.One choices) = length choices
+parts (kind.Several choices) = length choices
+parts (kind.Matching pairs) = length pairs
+parts (kind.ShortAnswer answers) = length answers
+parts (kind.Numerical answers) = length answers
+parts k = 0
 
-abbrev pub are_choices : List Choice → Bool
-are_choices choices = is_count 2 choices && (list_all (λ (c : Choice). is_weight c.weight) choices && list_all (λ (c : Choice). not (is_blank c.text.text)) choices)
+abbrev pub least_parts : Kind → ℕ
+least_parts (kind.One choices) = 2
+least_parts (kind.Several choices) = 2
+least_parts (kind.Matching pairs) = 2
+least_parts (kind.ShortAnswer answers) = 1
+least_parts (kind.Numerical answers) = 1
+least_parts k = 0
 
--- some choice is wholly right
-abbrev pub has_right_choice : List Choice → Bool
-has_right_choice choices = list_any (λ (c : Choice). int_eq c.weight (pos one)) choices
+abbrev pub are_weighed : List Choice → Bool
+are_weighed choices = list_all (λ (c : Choice). is_weight c.weight) choices
 
--- no answer is blank, and some stem isn't
-abbrev pub are_pairs : List Pair → Bool
-are_pairs pairs = is_count 2 pairs && (nat_lt 0 (length (stems pairs)) && list_all (λ (p : Pair). not (is_blank p.answer)) pairs)
+abbrev pub has_numbers_in_range : Kind → Bool
+has_numbers_in_range (kind.One choices) = are_weighed choices
+has_numbers_in_range (kind.Several choices) = are_weighed choices
+has_numbers_in_range (kind.ShortAnswer answers) = list_all (λ (a : Short). is_weight a.weight) answers
+has_numbers_in_range (kind.Numerical answers) = list_all (λ (a : Num). is_weight a.weight && is_extent a.extent) answers
+has_numbers_in_range k = true
 
-abbrev pub are_shorts : List Short → Bool
-are_shorts answers = is_count 1 answers && (list_all (λ (a : Short). is_weight a.weight) answers && list_all (λ (a : Short). not (is_blank a.pattern)) answers)
+-- no choice, answer or pattern is blank
+abbrev pub has_no_blank : Kind → Bool
+has_no_blank (kind.One choices) = list_all (λ (c : Choice). not (is_blank c.text.text)) choices
+has_no_blank (kind.Several choices) = list_all (λ (c : Choice). not (is_blank c.text.text)) choices
+has_no_blank (kind.Matching pairs) = list_all (λ (p : Pair). not (is_blank p.answer)) pairs
+has_no_blank (kind.ShortAnswer answers) = list_all (λ (a : Short). not (is_blank a.pattern)) answers
+has_no_blank k = true
 
-abbrev pub are_numbers : List Num → Bool
-are_numbers answers = is_count 1 answers && (list_all (λ (a : Num). is_weight a.weight) answers && list_all (λ (a : Num). is_extent a.extent) answers)
+-- where one choice is to be picked, some choice is wholly right
+abbrev pub has_right_choice : Kind → Bool
+has_right_choice (kind.One choices) = list_any (λ (c : Choice). int_eq c.weight (pos one)) choices
+has_right_choice k = true
 
-abbrev pub is_kind : Kind → Bool
-is_kind (kind.One choices) = are_choices choices && has_right_choice choices
-is_kind (kind.Several choices) = are_choices choices
-is_kind (kind.Matching pairs) = are_pairs pairs
-is_kind (kind.ShortAnswer answers) = are_shorts answers
-is_kind (kind.Numerical answers) = are_numbers answers
-is_kind k = true
+-- a matching question has a stem
+abbrev pub has_stem : Kind → Bool
+has_stem (kind.Matching pairs) = nat_lt 0 (length (stems pairs))
+has_stem k = true
 
 -- ---- texts, whose lengths are in bytes
 
@@ -82,9 +98,14 @@ are_no_longer most ts = list_all (λ t. nat_le (length t) most) ts
 -- ---- the condition on questions
 
 pub record IsQuestion (q : Question) : Type 0 where
-  pub kind : IsTrue (is_kind q.kind)
+  pub few : parts q.kind ≤ 64
+  pub enough : least_parts q.kind ≤ parts q.kind
+  pub numbers : IsTrue (has_numbers_in_range q.kind)
+  pub no_blank : IsTrue (has_no_blank q.kind)
+  pub right_choice : IsTrue (has_right_choice q.kind)
+  pub stem : IsTrue (has_stem q.kind)
   pub penalty : IsWrittenFraction q.penalty
   pub lengths : IsTrue (are_no_longer 65536 (texts q))
-  pub few_hints : IsTrue (nat_le (length q.hints) 20)
+  pub few_hints : length q.hints ≤ 20
   pub hints : IsTrue (are_no_longer 4096 q.hints)
-  pub together : IsTrue (nat_le (sum_by length (texts q ++ q.hints)) 262144)
+  pub together : sum_by length (texts q ++ q.hints) ≤ 262144

@@ -23,7 +23,8 @@ fn is_blank(text: &Text) -> bool
 
 /// How many stems there are.
 pub(crate) fn stem_count(pairs: &[Pair]) -> usize
-    ensures { result ≡ length (stems pairs.now) }
+    ensures value { result ≡ length (stems pairs.now) }
+    ensures few { result ≤ length pairs.now }
 {
     pairs.iter().filter(|pair| !is_blank(&pair.stem.text)).count()
 }
