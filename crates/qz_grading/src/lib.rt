@@ -11,6 +11,7 @@ mod refusal;
 mod response;
 mod shape;
 mod spelled;
+mod weights;
 mod words;
 
 pub use counting::Steps;
