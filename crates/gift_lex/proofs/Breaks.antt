@@ -1,12 +1,12 @@
 -- Where the first line of a text ends.
-use Rattle.std.proofs.Common.{◌≡◌, ℕ, ◌+◌, ◌<◌, ◌≤◌, Bool, true, false, cond, ltb, ◌==◌, not, ◌&&◌, ◌||◌, List, [], ◌∷◌, ◌++◌, length, get_or, take, drop, ◌⊎◌, Option, Some, None, refl, sym, ap, ◌∙◌, subst, arith, inl, inr, add-zero}
-use Rattle.std.specs.List.{list_all, prefix_len, position, position_or_len, onto_first}
+use Rattle.std.proofs.Common.{◌≡◌, ℕ, ◌<◌, ◌≤◌, Bool, true, false, cond, ltb, ◌==◌, not, ◌&&◌, List, [], ◌∷◌, ◌++◌, length, get_or, take, drop, ◌⊎◌, Option, Some, None, refl, arith, inl, inr, add-zero}
+use Rattle.std.specs.List.{list_all, position, position_or_len, onto_first}
 use Rattle.std.specs.Prelude.{encode_utf8}
 use Rattle.std.specs.Str.{IsUtf8, IsCharBoundary, chars}
 use Rattle.std.proofs.lemmas.Bool.{and_parts, or_parts, or_cases, not-false, not-true, ne_eqb, eqb-true, ltb-true, ltb-false}
-use Rattle.std.proofs.lemmas.List.{append-nil, length-drop, get_or-drop, take-append-drop, take_all, drop_more}
-use Rattle.std.proofs.lemmas.List.Sums.{prefix_len_stops, prefix_len-le-length}
-use Rattle.std.proofs.lemmas.Str.{encode_ascii, chars-nil, chars-append, chars_past_char, IsUtf8-take, IsUtf8-drop, IsCharBoundary-before_ascii}
+use Rattle.std.proofs.lemmas.List.{append-nil, length-drop, get_or-drop, take-append-drop, take_all}
+use Rattle.std.proofs.lemmas.List.Sums.{prefix_len_stops}
+use Rattle.std.proofs.lemmas.Str.{encode_ascii, chars-append, chars_past_char, IsUtf8-take, IsUtf8-drop, IsCharBoundary-before_ascii}
 use Rattle.gift_lex.specs.Blocks.{line_feed, carriage_return, plain_break, with_plain_breaks, between_feeds}
 use Rattle.gift_lex.specs.Gathering.{is_break, after_break, split_lines}
 use Rattle.gift_lex.proofs.Passing.{list_all-front, list_all-chars}

@@ -4,7 +4,7 @@ use Rattle.std.specs.Prelude.{encode_utf8}
 use Rattle.std.specs.List.{list_all, starts_with}
 use Rattle.std.specs.Str.{IsUtf8, chars, encode_utf8_all}
 use Rattle.std.proofs.lemmas.Bool.{and_parts, cases_lt, ne_eqb, ltb-true}
-use Rattle.std.proofs.lemmas.Str.{encode_ascii, encodes-chars, char_from_byte, length-encode, len_utf8_bounds, length-le-encodes}
+use Rattle.std.proofs.lemmas.Str.{encode_ascii, encodes-chars, char_from_byte, length-le-encodes}
 use Rattle.gift_lex.specs.Blocks.{is_gap, unindented}
 
 -- a line of spaces and tabs alone has nothing else

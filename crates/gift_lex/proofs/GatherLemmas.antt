@@ -1,16 +1,15 @@
 -- Blocks gathered line by line are the groups of the lines.
-use Rattle.std.proofs.Common.{◌≡◌, ℕ, Bool, true, false, cond, not, ◌&&◌, List, [], ◌∷◌, ◌++◌, map, Option, Some, None, refl, sym, ap, ◌∙◌, append_assoc}
-use Rattle.std.specs.List.{filter, list_all, slice_split, onto_first, flat_map, join_by}
+use Rattle.std.proofs.Common.{◌≡◌, Bool, true, false, cond, not, ◌&&◌, List, [], ◌∷◌, ◌++◌, map, Option, Some, None, refl, sym, ap, ◌∙◌, append_assoc}
+use Rattle.std.specs.List.{filter, slice_split, onto_first, flat_map, join_by}
 use Rattle.std.proofs.Math.Bool.{and_assoc, and-true}
 use Rattle.std.proofs.lemmas.List.{append-nil}
 use Rattle.std.proofs.lemmas.List.Folds.{list_all-append}
 use Rattle.std.proofs.lemmas.Grind.{flat_map-append}
 use Rattle.gift_lex.specs.declared.block.Block.{Block}
-use Rattle.gift_lex.specs.declared.block.Piece.{Piece}
 use Rattle.gift_lex.specs.declared.block.Piece.TheVariants.{Plain}
 use Rattle.gift_lex.specs.declared.gathering.Started.{Started}
 use Rattle.gift_lex.specs.Blocks.{Line, line_feed, is_blank, is_comment, is_category, runs, cut, only_comments, groups, line_marks, last_number, block_of}
-use Rattle.gift_lex.specs.Gathering.{at_front, begun, extended, grown, ended, gathered}
+use Rattle.gift_lex.specs.Gathering.{at_front, grown, ended, gathered}
 
 -- ---- the block that has started with some lines
 

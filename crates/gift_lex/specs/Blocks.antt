@@ -30,9 +30,9 @@ abbrev pub byte_order_mark : ℕ
 byte_order_mark = 0xfeff
 
 -- a byte order mark at the front is dropped
-abbrev pub without_mark : List ℕ → List ℕ
-without_mark [] = []
-without_mark (c ∷ cs) = if c == byte_order_mark then cs else c ∷ cs
+abbrev pub without_order_mark : List ℕ → List ℕ
+without_order_mark [] = []
+without_order_mark (c ∷ cs) = if c == byte_order_mark then cs else c ∷ cs
 
 -- a carriage return alone is a line feed
 abbrev pub plain_break : ℕ → ℕ
@@ -47,7 +47,7 @@ with_plain_breaks (c ∷ d ∷ cs) =
 
 -- the characters of a text
 abbrev pub characters : List ℕ → List ℕ
-characters text = with_plain_breaks (without_mark (chars text))
+characters text = with_plain_breaks (without_order_mark (chars text))
 
 -- ---- lines
 
@@ -87,14 +87,14 @@ is_category cs = starts_with nat_eq (unindented cs) (codes "$CATEGORY:")
 abbrev pub runs : List Line → List (List Line)
 runs lines = slice_split (λ line. is_blank line.1) lines
 
--- Lines without a blank one, cut behind each category line that stands at the front of its block but for comments. The test
--- says whether these lines begin there.
+-- Lines of one run, cut behind each category line that stands at the front of its block but for comments. The test tells
+-- whether nothing else of its block stands before the first of these lines.
 abbrev pub cut : Bool → List Line → List (List Line)
 cut at_front [] = [] ∷ []
 cut at_front (line ∷ later) =
     if at_front && is_category line.1 then (line ∷ []) ∷ cut true later else onto_first line (cut (at_front && is_comment line.1) later)
 
--- whether such lines are comments, each one
+-- whether each line is a comment
 abbrev pub only_comments : List Line → Bool
 only_comments lines = list_all (λ line. is_comment line.1) lines
 
@@ -130,6 +130,7 @@ marks_of (c ∷ d ∷ cs) =
 abbrev pub line_marks : Line → List Piece
 line_marks line = if is_comment line.1 then Plain space ∷ [] else marks_of line.1
 
+-- the numbers of the first line and of the last
 abbrev pub first_number : List Line → ℕ
 first_number [] = 0
 first_number (line ∷ later) = line.0

@@ -6,7 +6,7 @@ ghost use Rattle.gift_lex.specs.Gathering.{at_front, begun, extended, ended, Tak
 
 use crate::block::{Block, Piece};
 use crate::lines::{is_blank, is_category, is_comment};
-use crate::marks::push_line;
+use crate::marks::push_marks;
 use qz_text::{Listed, NoMemory};
 use std::alloc::Global;
 
@@ -43,6 +43,7 @@ impl Gathering {
     pub(crate) fn take(&mut self, alloc: Global, line: &str) -> Result<(), NoMemory>
         ensures { OnOk result (TakesLine self.old self.new (chars line.now)) }
     {
+        // A text with more lines than this counts is taken as one for which memory is wanting.
         let number = self.number.checked_add(1).ok_or(NoMemory)?;
         self.number = number;
         if is_blank(line) {
@@ -87,12 +88,16 @@ impl Gathering {
 }
 
 impl Started {
-    /// Adds the marks of a line, which is the last so far.
+    /// Adds the marks of a line, which is the last so far. A comment counts as one space.
     fn extend(&mut self, number: u32, line: &str) -> Result<(), NoMemory>
         ensures { OnOk result (self.new ≡ extended self.old (number, chars line.now)) }
     {
         let is_comment = is_comment(line);
-        push_line(&mut self.marks, line, is_comment)?;
+        if is_comment {
+            self.marks.items.push(Piece::Plain(' '))?;
+        } else {
+            push_marks(&mut self.marks, line)?;
+        }
         self.last_line = number;
         self.only_comments = self.only_comments && is_comment;
         Ok(())

@@ -4,8 +4,9 @@ ghost use Rattle.std.specs.Prelude.{◌≡◌, IfOk};
 ghost use Rattle.gift_lex.specs.Blocks.{blocks_of};
 
 use crate::block::Block;
+use crate::characters::without_order_mark;
 use crate::gathering::Gathering;
-use crate::lines::{split_line, without_mark};
+use crate::lines::split_line;
 use qz_text::{Listed, NoMemory};
 use std::alloc::Global;
 
@@ -22,7 +23,7 @@ pub fn blocks(alloc: Global, text: &str) -> Result<Listed<Block>, LexFault>
     ensures { IfOk result (λ found. found ≡ blocks_of text.now) }
 {
     let mut gathering = Gathering::new(alloc);
-    let mut rest = without_mark(text);
+    let mut rest = without_order_mark(text);
     loop {
         let (line, after) = split_line(rest);
         gathering.take(alloc, line)?;

@@ -2,6 +2,7 @@
 #![tactic(auto)]
 
 mod block;
+mod characters;
 mod gathering;
 mod lexer;
 mod lines;

@@ -1,33 +1,11 @@
 //! The lines of a text, and what kind each is of.
 
-ghost use Rattle.std.specs.Prelude.{◌≡◌, ◌<◌, [], ◌∷◌, length, position, MatchOption, IfSome, IfNone};
+ghost use Rattle.std.specs.Prelude.{◌≡◌, ◌<◌, [], ◌∷◌, length, position, MatchOption, IfSome};
 ghost use Rattle.std.specs.Str.{chars};
-ghost use Rattle.gift_lex.specs.Blocks.{without_mark, unindented, is_gap, is_blank, is_comment, is_category};
+ghost use Rattle.gift_lex.specs.Blocks.{unindented, is_blank, is_comment, is_category};
 ghost use Rattle.gift_lex.specs.Gathering.{is_break, after_break, split_lines};
 
-/// The first character of a text, and what follows it.
-#[inline]
-pub(crate) fn split_char(text: &str) -> Option<(char, &str)>
-    ensures cases { MatchOption result (chars text.now ≡ []) (λ x. chars text.now ≡ x.0 ∷ chars x.1.now) }
-    ensures empty { IfNone result (text.now ≡ []) }
-    ensures shorter { IfSome result (λ x. length x.1.now < length text.now) }
-{
-    let mut chars = text.chars();
-    match chars.next() {
-        Some(first) => Some((first, chars.as_str())),
-        None => None,
-    }
-}
-
-/// A text without a byte order mark at its front.
-pub(crate) fn without_mark(text: &str) -> &str
-    ensures { chars result.now ≡ without_mark (chars text.now) }
-{
-    match split_char(text) {
-        Some(('\u{feff}', after)) => after,
-        _ => text,
-    }
-}
+use crate::characters::split_char;
 
 /// The first line of a text, and what follows its break, where it has one.
 pub(crate) fn split_line(text: &str) -> (&str, Option<&str>)

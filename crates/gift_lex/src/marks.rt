@@ -1,26 +1,17 @@
 //! The marks of a line.
 
-ghost use Rattle.std.specs.Prelude.{◌≡◌, ◌<◌, ◌++◌, [], ◌∷◌, length, MatchOption, IfSome, OnOk, if◌then◌else◌};
+ghost use Rattle.std.specs.Prelude.{◌≡◌, ◌<◌, ◌++◌, [], ◌∷◌, length, MatchOption, IfSome, OnOk};
 ghost use Rattle.std.specs.Str.{chars};
 ghost use Rattle.gift_lex.specs.Blocks.{is_sign, is_escape, escaped, single, marks_of};
 
 use crate::block::Piece;
-use crate::lines::split_char;
+use crate::characters::split_char;
 use qz_text::{Listed, NoMemory};
 
-/// Puts the marks of a line behind others. A comment counts as one space.
-pub(crate) fn push_line(
-    marks: &mut Listed<Piece>,
-    line: &str,
-    is_comment: bool,
-) -> Result<(), NoMemory>
-    ensures { OnOk result (marks.new
-        ≡ marks.old ++ (if is_comment then Piece.Plain 32 ∷ [] else marks_of (chars line.now))) }
+/// Puts the marks of a line's characters behind others.
+pub(crate) fn push_marks(marks: &mut Listed<Piece>, line: &str) -> Result<(), NoMemory>
+    ensures { OnOk result (marks.new ≡ marks.old ++ marks_of (chars line.now)) }
 {
-    if is_comment {
-        marks.items.push(Piece::Plain(' '))?;
-        return Ok(());
-    }
     let mut rest = line;
     while let Some((mark, after)) = split_mark(rest) {
         marks.items.push(mark)?;

@@ -1,12 +1,11 @@
-use Rattle.std.proofs.Common.{◌≡◌, ◌++◌, [], sym, ◌∙◌}
-use Rattle.gift_lex.specs.Blocks.{lines_of, blocks_of}
-use Rattle.gift_lex.specs.Gathering.{ended}
+use Rattle.std.proofs.Common.{[], sym, ◌∙◌}
+use Rattle.gift_lex.specs.Blocks.{lines_of}
 use Rattle.gift_lex.proofs.GatherLemmas.{gathered-groups}
 use Rattle.gift_lex.proofs.lexer.blocks.Goals as goal
 
 pub loop-gathering-init : goal.loop-gathering-init
 loop-gathering-init c =
-    (c.without_mark-rest.utf8, rw (c.new-gathering.ensures, c.without_mark-rest.ensures) (gathered-groups (lines_of c.args.text.now)))
+    (c.without_order_mark-rest.utf8, rw (c.new-gathering.ensures, c.without_order_mark-rest.ensures) (gathered-groups (lines_of c.args.text.now)))
 
 pub returns-in-None : goal.returns-in-None
 returns-in-None c =

@@ -1,4 +1,4 @@
-use Rattle.std.proofs.Common.{◌≡◌, eqb, length, sym, ap, ◌∙◌, ◌==◌}
+use Rattle.std.proofs.Common.{eqb, length, sym, ap, ◌∙◌}
 use Rattle.std.specs.Str.{chars}
 use Rattle.gift_lex.proofs.Fronts.{all_gap-unindented, length-chars-zero}
 use Rattle.gift_lex.proofs.lines.is_blank.Goals as goal

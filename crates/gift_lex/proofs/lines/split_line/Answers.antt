@@ -1,6 +1,3 @@
-use Rattle.std.proofs.Common.{◌≡◌, ap, ◌∙◌, ◌∷◌}
-use Rattle.std.specs.Str.{chars}
-use Rattle.gift_lex.specs.Gathering.{after_break, split_lines}
 use Rattle.gift_lex.proofs.Breaks.{split_lines-whole, split_lines-first, IsCharBoundary-break}
 use Rattle.gift_lex.proofs.lines.split_line.Goals as goal
 

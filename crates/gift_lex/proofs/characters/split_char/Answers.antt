@@ -3,7 +3,7 @@ use Rattle.std.specs.Prelude.{encode_utf8}
 use Rattle.std.specs.Str.{chars}
 use Rattle.std.proofs.lemmas.List.{nil_from_length}
 use Rattle.std.proofs.lemmas.Str.{chars-nil, chars_past_char}
-use Rattle.gift_lex.proofs.lines.split_char.Goals as goal
+use Rattle.gift_lex.proofs.characters.split_char.Goals as goal
 
 pub returns-in-Some-clause-cases : goal.returns-in-Some-clause-cases
 returns-in-Some-clause-cases c =
