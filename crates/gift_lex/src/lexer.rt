@@ -13,9 +13,10 @@ use std::alloc::Global;
 /// Why a text has no blocks: memory was wanting, and nothing else.
 pub type LexFault = NoMemory;
 
-/// The blocks of a GIFT text in order, as the page "GIFT format" of Moodle's documentation parts it: blank lines, of
-/// spaces and tabs alone, stand between blocks; a line that begins with `//` is a comment; and a line that begins with
-/// `$CATEGORY:` ends its block where only comments stand before it there. Comments alone are no block.
+/// The blocks of a GIFT text in order, after the page "GIFT format" of Moodle's documentation; what it leaves open is
+/// settled here. Blank lines, of spaces and tabs alone, stand between blocks. A line that begins with `//` is a comment. A
+/// line that begins with `$CATEGORY:` ends its block where only comments stand before it there. Comments alone are no
+/// block.
 ///
 /// A byte order mark at the front is dropped. A carriage return, with or without a line feed behind it, ends a line as a
 /// line feed does. A text with more lines than a `u32` counts is want of memory.
