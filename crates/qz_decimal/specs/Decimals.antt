@@ -1,7 +1,6 @@
 -- What number a text spells in a numerical question: 1 to 30 digits with a sign, a point and an exponent. Its units are 10^-10.
-use Rattle.std.specs.Prelude.{◌≡◌, ℕ, ◌+◌, ◌-◌, ◌*◌, ◌/◌, ◌%◌, ◌^◌, ◌<◌, ◌≤◌, Bool, true, false, IsTrue, if◌then◌else◌, ◌==◌, ◌&&◌, ◌||◌, nat_lt, ℤ, List, [], ◌∷◌, ◌++◌, length, drop, Option, Some, None, IfSome, option_and_then, unwrap_or}
+use Rattle.std.specs.Prelude.{◌≡◌, ℕ, ◌+◌, ◌-◌, ◌*◌, ◌/◌, ◌%◌, ◌^◌, ◌<◌, Bool, true, false, IsTrue, if◌then◌else◌, ◌==◌, ◌||◌, nat_lt, ℤ, List, [], ◌∷◌, ◌++◌, length, drop, Option, Some, None, IfSome, option_and_then, unwrap_or}
 use Rattle.std.specs.List.{prefix_len, list_all}
-use Rattle.std.specs.Str.{all_ascii_digits}
 use Rattle.std.specs.Str.Parse.{digits_value}
 use Rattle.std.specs.Float.Numeral as byte
 use Rattle.qz_decimal.specs.declared.decimal.Digits.{Digits}
@@ -49,7 +48,7 @@ decimal_text parts = sign_bytes parts.sign ++ (parts.whole ++ (point_text parts.
 abbrev pub digits_of : DecimalParts → List ℕ
 digits_of parts = parts.whole ++ unwrap_or parts.decimals []
 
--- an exponent as powers of ten to multiply by and to divide by
+-- the powers of ten to multiply by and to divide by, without an exponent, with the digits of one, and of either
 abbrev pub no_tens : Tens
 no_tens = record { up = 0; down = 0 }
 
@@ -60,6 +59,7 @@ abbrev pub tens_of : Option Exponent → Tens
 tens_of None = no_tens
 tens_of (Some e) = signed_tens (is_minus e.sign) (digits_value 10 e.digits)
 
+-- 1 to 30 digits on both sides of the point, and 1 to 3 in an exponent
 pub record IsDecimalFormed (parts : DecimalParts) : Type 0 where
   pub digits : IsDigits 30 (digits_of parts)
   pub some_digits : 0 < length (digits_of parts)
@@ -70,7 +70,8 @@ pub record IsDecimalFormed (parts : DecimalParts) : Type 0 where
 abbrev pub is_blank : ℕ → Bool
 is_blank b = b == 32 || b == 9 || b == 10
 
--- The text spells this number of units: it is the number told, exactly, and has at most 15 whole digits.
+-- Between blanks the text spells this number of units. Its size is exactly that of the digits, with the point and the exponent
+-- in their places, and has at most 15 whole digits.
 pub record IsDecimal (text : List ℕ) (units : ℤ) : Type 0 where
   pub before : List ℕ
   pub parts : DecimalParts
@@ -86,6 +87,7 @@ pub record IsDecimal (text : List ℕ) (units : ℤ) : Type 0 where
 
 -- ---- the same by reading from the left
 
+-- what follows blanks
 abbrev pub after_blanks : List ℕ → List ℕ
 after_blanks text = drop (prefix_len is_blank text) text
 
@@ -141,6 +143,7 @@ infixl 10 ◌>>=◌
 abbrev pub ◌>>=◌ : {A B : Type 0} → Option A → (A → Option B) → Option B
 o >>= f = option_and_then f o
 
+-- the whole text
 unfoldable pub decimal_in : List ℕ → Option ℤ
 decimal_in text = do
   digits ← digits_in (after_sign (after_blanks text))

@@ -1,5 +1,4 @@
--- Quotients that are rounded once, and the numbers of a quiz that they give. A mark, a max mark and a fraction are whole
--- numbers of units of 10^-7.
+-- Quotients that are rounded once, and the numbers of a quiz that they give.
 use Rattle.std.specs.Prelude.{◌≡◌, ℕ, suc, ◌+◌, ◌*◌, ◌/◌, ◌^◌, ◌≤◌, Bool, true, false, ℤ, pos, negsuc, neg_ℤ, ◌-ℤ◌, ◌*ℤ◌, ◌≤ℤ◌, unsigned_abs, int_lt, if◌then◌else◌}
 use Rattle.std.specs.Ordering.{int_eq}
 use Rattle.qz_decimal.specs.declared.tone.Tone.{Tone}
@@ -30,6 +29,7 @@ abbrev pub signed : Bool → ℕ → ℤ
 signed true size = neg_ℤ (pos size)
 signed false size = pos size
 
+-- from the least to the greatest
 abbrev pub IsWithin : ℤ → ℤ → ℤ → Type 0
 IsWithin least greatest units = (least ≤ℤ units) × (units ≤ℤ greatest)
 

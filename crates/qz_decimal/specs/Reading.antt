@@ -75,17 +75,18 @@ pub record Stuck (form : Form) (text : List ℕ) (place : ℕ) : Type 0 where
 
 -- ---- the texts of marks, fractions and grades
 
+-- Six whole digits, and seven decimals behind a point, or five.
 abbrev pub mark_form : Form
 mark_form = record { whole = 6; places = 7; bare_point = false }
 
 abbrev pub grade_form : Form
 grade_form = record { whole = 6; places = 5; bare_point = false }
 
--- a mark that may be written is from -100,000 to 100,000
+-- A mark that may be written is from -100,000 to 100,000
 abbrev pub IsWrittenMark : ℤ → Type 0
 IsWrittenMark = IsWithin (neg_ℤ (pos (100000 * one))) (pos (100000 * one))
 
--- and a fraction from 0 to 1
+-- a fraction from 0 to 1
 abbrev pub IsWrittenFraction : ℤ → Type 0
 IsWrittenFraction = IsWithin (pos 0) (pos one)
 
@@ -131,6 +132,7 @@ size_at form place text =
     let digits = first_digits form.whole text in
     if length digits == 0 then Err (Malformed place) else rest_at form (place + length digits) (digits_value 10 digits * 10 ^ form.places) (after_digits form.whole text)
 
+-- whether a minus stands first, and what follows it
 abbrev pub has_minus : List ℕ → Bool
 has_minus [] = false
 has_minus (b ∷ rest) = b == minus
@@ -139,6 +141,7 @@ abbrev pub without_minus : List ℕ → List ℕ
 without_minus [] = []
 without_minus (b ∷ rest) = if b == minus then rest else b ∷ rest
 
+-- the units of the whole text
 unfoldable pub units_in : Form → List ℕ → Result ℤ BadNumber
 units_in form text = do
   size ← size_at form (if has_minus text then 1 else 0) (without_minus text)

@@ -7,8 +7,8 @@ use crate::reading::{Form, read_within};
 use crate::units::Fraction;
 
 impl Fraction {
-    /// Reads a weight: `%`, an optional `-`, one to three digits, optionally a point and up to five digits, and `%`. It is
-    /// from -100% to 100%.
+    /// Reads a weight as Moodle's GIFT format has it: `%`, an optional `-`, one to three digits, optionally a point and up to
+    /// five digits, and `%`. It is from -100% to 100%, and `None` is any other text.
     pub fn of_percent(text: &[u8]) -> Option<Fraction>
         ensures value { result ≡ weight_in text.now }
         ensures found { (units : ℤ) → (result ≡ Some units) ↔ IsWeight text.now units }

@@ -1,4 +1,4 @@
-use Rattle.std.proofs.Common.{◌≡◌, ◌^◌, ◌<◌, ◌≤◌, arith, sym}
+use Rattle.std.proofs.Common.{◌^◌, ◌<◌, ◌≤◌, arith, sym}
 use Rattle.qz_decimal.proofs.DigitRuns.{pow10-le}
 use Rattle.qz_decimal.proofs.Scales.{pow10-pos, short_quotient-below}
 use Rattle.qz_decimal.proofs.decimal.over_tens.Goals as goal

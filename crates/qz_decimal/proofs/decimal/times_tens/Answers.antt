@@ -1,4 +1,4 @@
-use Rattle.std.proofs.Common.{◌≡◌, ◌+◌, ◌-◌, ◌*◌, ◌^◌, ◌<◌, ◌≤◌, arith, sym}
+use Rattle.std.proofs.Common.{◌-◌, ◌*◌, ◌^◌, ◌<◌, ◌≤◌, arith, sym}
 use Rattle.qz_decimal.proofs.DigitRuns.{pow10-le}
 use Rattle.qz_decimal.proofs.Scales.{long-by_tens, long-by_digits, short-by_digits, short_size-long, short_size-short}
 use Rattle.qz_decimal.proofs.decimal.times_tens.Goals as goal
