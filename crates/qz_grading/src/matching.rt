@@ -13,7 +13,7 @@ use crate::Pair;
 use qz_text::Text;
 
 /// Whether a text of a question is blank. Its white space is space, tab and line feed.
-fn is_blank(text: &Text) -> bool
+pub(crate) fn is_blank(text: &Text) -> bool
     ensures { result ≡ is_blank text.now }
 {
     text.as_bytes()
