@@ -1,4 +1,5 @@
--- What number a text spells in a numerical question: 1 to 30 digits with a sign, a point and an exponent. Its units are 10^-10.
+-- What number a text spells in a numerical question: 1 to 30 digits with a sign, a point and an
+-- exponent. Its units are 10^-10.
 use Rattle.std.specs.Prelude.{◌≡◌, ℕ, ◌+◌, ◌-◌, ◌*◌, ◌/◌, ◌%◌, ◌^◌, ◌<◌, Bool, true, false, IsTrue, if◌then◌else◌, ◌==◌, ◌||◌, nat_lt, ℤ, List, [], ◌∷◌, ◌++◌, length, drop, Option, Some, None, IfSome, option_and_then, unwrap_or}
 use Rattle.std.specs.List.{prefix_len, list_all}
 use Rattle.std.specs.Str.Parse.{digits_value}
@@ -42,13 +43,14 @@ exponent_text None = []
 exponent_text (Some e) = (if e.capital then byte.upper_e else byte.lower_e) ∷ (sign_bytes e.sign ++ e.digits)
 
 abbrev pub decimal_text : DecimalParts → List ℕ
-decimal_text parts = sign_bytes parts.sign ++ (parts.whole ++ (point_text parts.decimals ++ exponent_text parts.exponent))
+decimal_text parts =
+    sign_bytes parts.sign ++ (parts.whole ++ (point_text parts.decimals ++ exponent_text parts.exponent))
 
 -- the digits on both sides of the point
 abbrev pub digits_of : DecimalParts → List ℕ
 digits_of parts = parts.whole ++ unwrap_or parts.decimals []
 
--- the powers of ten to multiply by and to divide by, without an exponent, with the digits of one, and of either
+-- the powers of ten to multiply by and to divide by: without an exponent, with one, and for either
 abbrev pub no_tens : Tens
 no_tens = record { up = 0; down = 0 }
 
@@ -70,8 +72,8 @@ pub record IsDecimalFormed (parts : DecimalParts) : Type 0 where
 abbrev pub is_blank : ℕ → Bool
 is_blank b = b == 32 || b == 9 || b == 10
 
--- Between blanks the text spells this number of units. Its size is exactly that of the digits, with the point and the exponent
--- in their places, and has at most 15 whole digits.
+-- Between blanks the text spells this number of units. Its size is exactly what the digits, the
+-- point and the exponent tell, and has at most 15 whole digits.
 pub record IsDecimal (text : List ℕ) (units : ℤ) : Type 0 where
   pub before : List ℕ
   pub parts : DecimalParts
@@ -81,7 +83,9 @@ pub record IsDecimal (text : List ℕ) (units : ℤ) : Type 0 where
   pub blank_after : IsTrue (list_all is_blank after)
   pub formed : IsDecimalFormed parts
   pub size : ℕ
-  pub exact : size * 10 ^ (length (unwrap_or parts.decimals []) + (tens_of parts.exponent).down) ≡ digits_value 10 (digits_of parts) * 10 ^ (10 + (tens_of parts.exponent).up)
+  pub exact :
+      size * 10 ^ (length (unwrap_or parts.decimals []) + (tens_of parts.exponent).down)
+      ≡ digits_value 10 (digits_of parts) * 10 ^ (10 + (tens_of parts.exponent).up)
   pub small : size < 10 ^ (15 + 10)
   pub units_are : units ≡ signed (is_minus parts.sign) size
 
@@ -120,7 +124,9 @@ digits_in text =
 unfoldable pub tens_in : List ℕ → Option (Tens × List ℕ)
 tens_in text =
     let digits = first_digits 3 (after_sign text) in
-    if length digits == 0 then None else Some (signed_tens (has_minus text) (digits_value 10 digits), after_digits 3 (after_sign text))
+    if length digits == 0
+    then None
+    else Some (signed_tens (has_minus text) (digits_value 10 digits), after_digits 3 (after_sign text))
 
 -- the exponent, where there is one, and what follows it
 abbrev pub exponent_in : List ℕ → Option (Tens × List ℕ)

@@ -73,16 +73,20 @@ share right all = nearest (pos (right * one)) all
 
 -- the fraction that a mark is of a max mark
 abbrev pub fraction_of : ℤ → ℤ → ℤ
-fraction_of mark max = if int_eq max (pos 0) then pos 0 else nearest (mark *ℤ pos one) (unsigned_abs max)
+fraction_of mark max =
+    if int_eq max (pos 0) then pos 0 else nearest (mark *ℤ pos one) (unsigned_abs max)
 
 -- a mark given out of one max mark, as a mark out of another
 abbrev pub rescale : ℤ → ℤ → ℤ → ℤ
-rescale mark given max = if int_eq given (pos 0) then pos 0 else nearest (mark *ℤ max) (unsigned_abs given)
+rescale mark given max =
+    if int_eq given (pos 0) then pos 0 else nearest (mark *ℤ max) (unsigned_abs given)
 
 -- the grade for a sum of totals and their number, where a whole total would have the quiz's grade
 abbrev pub grade_of : ℤ → ℕ → ℤ → ℤ → ℤ
-grade_of total count grade sum = if int_eq sum (pos 0) then pos 0 else nearest (total *ℤ grade) (count * unsigned_abs sum)
+grade_of total count grade sum =
+    if int_eq sum (pos 0) then pos 0 else nearest (total *ℤ grade) (count * unsigned_abs sum)
 
 -- a fraction below 0.000001 is wrong, one above 0.999999 is right, and one between is partial
 abbrev pub tone_of : ℤ → Tone
-tone_of fraction = if int_lt fraction (pos 10) then Wrong else (if int_lt (pos 9999990) fraction then Right else Partial)
+tone_of fraction =
+    if int_lt fraction (pos 10) then Wrong else (if int_lt (pos 9999990) fraction then Right else Partial)

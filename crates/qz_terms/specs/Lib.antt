@@ -1,0 +1,8 @@
+use Rattle.qz_terms.specs.declared.access.Review.{Review}
+
+pub mod Lists
+pub mod Access
+pub mod Rows
+pub mod Visible
+pub mod History
+pub mod Catalog
