@@ -20,7 +20,7 @@ pub fn fits(question: &Question, response: &Response, behaviour: Behaviour) -> b
         && certainty_fits(behaviour, response.certainty)
 }
 
-fn answer_fits(kind: &Kind, answer: &Answer) -> bool
+pub(crate) fn answer_fits(kind: &Kind, answer: &Answer) -> bool
     ensures { result ≡ answer_fits kind.now answer.now }
 {
     match (kind, answer) {

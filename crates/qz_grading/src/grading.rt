@@ -5,7 +5,7 @@ ghost use Rattle.qz_decimal.specs.Numbers.{one, IsWithin};
 ghost use Rattle.qz_grading.specs.declared.question.Kind.TheVariants as kind;
 ghost use Rattle.qz_grading.specs.declared.response.Answer.TheVariants as answer;
 ghost use Rattle.qz_grading.specs.Grading.{answer_fits, grade, grade_answer, same_answer, same, stems};
-ghost use Rattle.qz_grading.specs.Questions.{IsSound, parts, has_numbers_in_range, has_stem};
+ghost use Rattle.qz_grading.specs.Questions.{IsQuestion, parts, has_numbers_in_range, has_stem};
 
 use crate::matching::{right_stems, stem_count};
 use crate::weights::{numerical_weight, short_weight, weight_at, weight_of_picked, whole_if};
@@ -23,7 +23,7 @@ pub fn grade<L: Ledger>(
     response: &Response,
     steps: &mut Steps<L>,
 ) -> Fraction
-    requires kind { IsSound question.now.kind }
+    requires question { IsQuestion question.now }
     requires fits { IsTrue (answer_fits question.now.kind response.now.answer) }
     ensures value { result ≡ grade question.now response.now }
     ensures within { IsWithin (neg_ℤ (pos one)) (pos one) result }
@@ -33,7 +33,7 @@ pub fn grade<L: Ledger>(
     grade_answer(&question.kind, &response.answer)
 }
 
-fn grade_answer(kind: &Kind, answer: &Answer) -> Fraction
+pub(crate) fn grade_answer(kind: &Kind, answer: &Answer) -> Fraction
     requires few { parts kind.now ≤ 64 }
     requires numbers { IsTrue (has_numbers_in_range kind.now) }
     requires stem { IsTrue (has_stem kind.now) }

@@ -27,3 +27,6 @@ pub use response::{Answer, Response, Step};
 pub use shape::shape_of;
 pub use sound::is_sound;
 pub use spelled::Spelled;
+
+#[cfg(test)]
+mod tests;

@@ -1,6 +1,7 @@
 //! How marks, grades and numbers are spelled.
 
 ghost use Rattle.std.specs.Prelude.{◌≡◌, ◌^◌, ◌<◌, ◌++◌, List, ℕ, OnOk, IfOk, string_bytes, codes};
+ghost use Rattle.qz_decimal.specs.Reading.{sign_text};
 ghost use Rattle.qz_grading.specs.Words.{mark_text, units_text, grade_text, grade_units_text, number_text, size_text, without_zeros, in_digits};
 
 use qz_decimal::{Decimal, Grade, Mark};
@@ -26,6 +27,16 @@ const UNITS: u64 = 10_000_000;
 const GRADE_UNITS: u128 = 100_000;
 const NUMBER_UNITS: u128 = 10_000_000_000;
 
+/// A minus before a number below 0.
+fn sign_onto(out: &mut String, negative: bool) -> Result<(), NoMemory>
+    ensures { OnOk result (string_bytes out.new ≡ string_bytes out.old ++ sign_text negative) }
+{
+    if negative {
+        out.push_str("-")?;
+    }
+    Ok(())
+}
+
 /// The whole part, a point and seven decimals.
 fn units_onto(out: &mut String, units: u64) -> Result<(), NoMemory>
     ensures { OnOk result (string_bytes out.new ≡ string_bytes out.old ++ units_text units) }
@@ -41,9 +52,7 @@ impl Spelled for Mark {
     ghost spelling = { mark_text };
 
     fn spell_onto(self, out: &mut String) -> Result<(), NoMemory> {
-        if self.0 < 0 {
-            out.push_str("-")?;
-        }
+        sign_onto(out, self.0 < 0)?;
         units_onto(out, self.0.unsigned_abs())
     }
 
@@ -69,9 +78,7 @@ impl Spelled for Grade {
     ghost spelling = { grade_text };
 
     fn spell_onto(self, out: &mut String) -> Result<(), NoMemory> {
-        if self.0 < 0 {
-            out.push_str("-")?;
-        }
+        sign_onto(out, self.0 < 0)?;
         grade_units_onto(out, self.0.unsigned_abs())
     }
 
@@ -118,9 +125,7 @@ impl Spelled for Decimal {
     ghost spelling = { number_text };
 
     fn spell_onto(self, out: &mut String) -> Result<(), NoMemory> {
-        if self.0 < 0 {
-            out.push_str("-")?;
-        }
+        sign_onto(out, self.0 < 0)?;
         size_onto(out, self.0.unsigned_abs())
     }
 
