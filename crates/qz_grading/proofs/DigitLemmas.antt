@@ -1,5 +1,5 @@
 -- Decimals without the zeros at their end.
-use Rattle.std.proofs.Common.{◌≡◌, ℕ, zero, suc, ◌+◌, ◌-◌, ◌*◌, ◌/◌, ◌%◌, ◌^◌, ◌<◌, ◌≤◌, ◌≢◌, inl, inr, Bool, true, false, cond, eqb, List, [], ◌∷◌, ◌++◌, length, take, reverse, replicate, refl, sym, ap, ◌∙◌, append_assoc, arith}
+use Rattle.std.proofs.Common.{◌≡◌, ℕ, zero, suc, ◌+◌, ◌-◌, ◌*◌, ◌/◌, ◌%◌, ◌^◌, ◌<◌, ◌≤◌, ◌≢◌, inl, inr, Bool, true, false, cond, eqb, List, [], ◌∷◌, ◌++◌, length, take, replicate, refl, sym, ap, ◌∙◌, append_assoc, arith}
 use Rattle.std.proofs.Math.Nat.{pow-suc}
 use Rattle.std.proofs.lemmas.Bool.{cases_lt}
 use Rattle.std.specs.Fmt.{decimal}
@@ -64,10 +64,10 @@ one_digit k n short = let d = decimal_digit n short in rw d refl
 pub keep_last : (k n : ℕ) → 0 < n → n < 10 ^ k → n < 2 ^ 64 → n % 10 ≢ 0 → without_zeros (in_digits k n) ≡ in_digits k n
 keep_last zero n some fits wide ends = absurd (omega arith)
 keep_last (suc k) n some fits wide ends = elim (cases_lt n 10) [
-    inl short ↦
+  | inl short ↦
       let one = one_digit (suc k) n short in
       ap without_zeros one ∙ without_zeros-other (replicate (suc k - 1) 48) (48 + n) (omega arith) ∙ sym one
   | inr long ↦
       let step = in_digits-step (suc k) n long wide (omega arith) in
       ap without_zeros step ∙ without_zeros-other (in_digits (suc k - 1) (n / 10)) (48 + n % 10) (omega arith) ∙ sym step
-  ]
+]

@@ -1,5 +1,5 @@
 -- Worked slots: what one true-false question shows, step by step. Then what responses to the other kinds are worth, and texts.
-use Rattle.std.specs.Prelude.{◌≡◌, Bool, true, false, List, [], ◌∷◌, map, replicate, Option, Some, None, ℕ, ℤ, pos, negsuc, codes, refl}
+use Rattle.std.specs.Prelude.{◌≡◌, true, false, List, [], ◌∷◌, replicate, Option, Some, None, ℕ, ℤ, pos, negsuc, codes, refl}
 use Rattle.qz_grading.specs.declared.outcome.Behaviour.{Behaviour}
 use Rattle.qz_grading.specs.declared.outcome.Behaviour.TheVariants as behaviour
 use Rattle.qz_grading.specs.declared.outcome.State.{State}

@@ -16,8 +16,7 @@ use qz_text::Typed;
 pub fn fits(question: &Question, response: &Response, behaviour: Behaviour) -> bool
     ensures { result ≡ fits question.now response.now behaviour }
 {
-    answer_fits(&question.kind, &response.answer)
-        && certainty_fits(behaviour, response.certainty)
+    answer_fits(&question.kind, &response.answer) && certainty_fits(behaviour, response.certainty)
 }
 
 pub(crate) fn answer_fits(kind: &Kind, answer: &Answer) -> bool

@@ -26,7 +26,10 @@ pub(crate) fn stem_count(pairs: &[Pair]) -> usize
     ensures value { result ≡ length (stems pairs.now) }
     ensures few { result ≤ length pairs.now }
 {
-    pairs.iter().filter(|pair| !is_blank(&pair.stem.text)).count()
+    pairs
+        .iter()
+        .filter(|pair| !is_blank(&pair.stem.text))
+        .count()
 }
 
 /// Whether one of these pairs has the answer.

@@ -97,9 +97,7 @@ fn are_weighed_shorts(answers: &[Short]) -> bool
 fn are_weighed_extents(answers: &[Num]) -> bool
     ensures { result ≡ are_weighed_extents answers.now }
 {
-    answers
-        .iter()
-        .all(|answer| is_weight(answer.weight) && is_extent(answer.extent))
+    answers.iter().all(|answer| is_weight(answer.weight) && is_extent(answer.extent))
 }
 
 fn has_numbers_in_range(kind: &Kind) -> bool
@@ -128,7 +126,9 @@ fn no_blank_answer(pairs: &[Pair]) -> bool
 fn no_blank_pattern(answers: &[Short]) -> bool
     ensures { result ≡ no_blank_pattern answers.now }
 {
-    answers.iter().all(|answer| !is_blank(answer.pattern.text()))
+    answers
+        .iter()
+        .all(|answer| !is_blank(answer.pattern.text()))
 }
 
 /// Whether no choice, pattern or answer of a pair is blank.

@@ -24,7 +24,9 @@ pub trait Spelled {
 
 /// The units in a mark, a grade and a number of 1.
 const UNITS: u64 = 10_000_000;
+
 const GRADE_UNITS: u128 = 100_000;
+
 const NUMBER_UNITS: u128 = 10_000_000_000;
 
 /// A minus before a number below 0.

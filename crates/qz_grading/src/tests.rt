@@ -12,7 +12,9 @@ use std::sync::ledger::{Blank, Ledger};
 use std::test::Fail;
 
 const WHOLE: i64 = 10_000_000;
+
 const HALF: i64 = 5_000_000;
+
 const THIRD: i64 = 3_333_333;
 
 fn rich(alloc: Global, text: &str) -> Result<Rich, NoMemory> {
@@ -78,7 +80,10 @@ fn choices_are_weighed(rt: HostRuntime) -> Result<(), Fail> {
         (&[HALF, WHOLE + 1], &[1], None),
         (&[WHOLE], &[1], None),
     ] {
-        assert_eq!(rt; picks_earn(alloc, weights, picked).ok().ok_or("memory")?, want);
+        assert_eq!(rt;
+            picks_earn(alloc, weights, picked).ok().ok_or("memory")?,
+            want
+        );
     }
     Ok(())
 }
@@ -100,7 +105,10 @@ fn a_choice_keeps_its_weight(rt: HostRuntime) -> Result<(), Fail> {
         (0, None),
         (4, None),
     ] {
-        assert_eq!(rt; pick_earns(alloc, &spectrum, picked).ok().ok_or("memory")?, want);
+        assert_eq!(rt;
+            pick_earns(alloc, &spectrum, picked).ok().ok_or("memory")?,
+            want
+        );
     }
     Ok(())
 }
@@ -152,7 +160,10 @@ fn capitals_are_matched(rt: HostRuntime) -> Result<(), Fail> {
         (&[1, 2, 3, 5], None),
         (&[1, 2, 3], None),
     ] {
-        assert_eq!(rt; match_earns(alloc, &capitals, chosen).ok().ok_or("memory")?, want);
+        assert_eq!(rt;
+            match_earns(alloc, &capitals, chosen).ok().ok_or("memory")?,
+            want
+        );
     }
     Ok(())
 }
@@ -167,7 +178,10 @@ fn things_are_matched(rt: HostRuntime) -> Result<(), Fail> {
         ([1, 3, 2], Some(THIRD)),
         ([1, 1, 4], None),
     ] {
-        assert_eq!(rt; match_earns(alloc, &things, &chosen).ok().ok_or("memory")?, want);
+        assert_eq!(rt;
+            match_earns(alloc, &things, &chosen).ok().ok_or("memory")?,
+            want
+        );
     }
     Ok(())
 }
@@ -205,9 +219,17 @@ fn texts_are_compared(rt: HostRuntime) -> Result<(), Fail> {
         ("walk", -THIRD),
         ("", -THIRD),
     ] {
-        assert_eq!(rt; text_earns(alloc, &moving, typed).ok().ok_or("memory")?, Some(want));
+        assert_eq!(rt;
+            text_earns(alloc, &moving, typed).ok().ok_or("memory")?,
+            Some(want)
+        );
     }
-    assert_eq!(rt; text_earns(alloc, &[(WHOLE, "four")], "five").ok().ok_or("memory")?, Some(0));
+    assert_eq!(rt;
+        text_earns(alloc, &[(WHOLE, "four")], "five")
+            .ok()
+            .ok_or("memory")?,
+        Some(0)
+    );
     Ok(())
 }
 
@@ -268,7 +290,10 @@ fn numbers_are_compared(rt: HostRuntime) -> Result<(), Fail> {
         ("1824.0000000001", 0),
         ("in 1822", 0),
     ] {
-        assert_eq!(rt; number_earns(alloc, &born, typed).ok().ok_or("memory")?, Some(want));
+        assert_eq!(rt;
+            number_earns(alloc, &born, typed).ok().ok_or("memory")?,
+            Some(want)
+        );
     }
     Ok(())
 }
@@ -284,10 +309,16 @@ fn ranges_are_compared(rt: HostRuntime) -> Result<(), Fail> {
         ("-3.1415", -THIRD),
         ("pi", 0),
     ] {
-        assert_eq!(rt; number_earns(alloc, &pi, typed).ok().ok_or("memory")?, Some(want));
+        assert_eq!(rt;
+            number_earns(alloc, &pi, typed).ok().ok_or("memory")?,
+            Some(want)
+        );
     }
     let backwards = [(WHOLE, between("2", "1"))];
-    assert_eq!(rt; number_earns(alloc, &backwards, "1").ok().ok_or("memory")?, None);
+    assert_eq!(rt;
+        number_earns(alloc, &backwards, "1").ok().ok_or("memory")?,
+        None
+    );
     Ok(())
 }
 
@@ -390,9 +421,15 @@ fn typed_answers_are_complete(rt: HostRuntime) -> Result<(), Fail> {
         ("\u{a0}5", true, false),
     ] {
         let kind = Kind::Essay;
-        assert_eq!(rt; is_complete(alloc, kind, typed).ok().ok_or("memory")?, essay);
+        assert_eq!(rt;
+            is_complete(alloc, kind, typed).ok().ok_or("memory")?,
+            essay
+        );
         let kind = Kind::Numerical(Listed::empty(alloc));
-        assert_eq!(rt; is_complete(alloc, kind, typed).ok().ok_or("memory")?, number);
+        assert_eq!(rt;
+            is_complete(alloc, kind, typed).ok().ok_or("memory")?,
+            number
+        );
     }
     Ok(())
 }

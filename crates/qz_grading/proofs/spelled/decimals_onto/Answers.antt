@@ -1,5 +1,5 @@
 -- A number without its zeros, with zeros in front up to its places.
-use Rattle.std.proofs.Common.{◌≡◌, ◌++◌, ◌∷◌, ◌∙◌, List, ℕ, ◌<◌, ◌^◌, Bool, false, ◌==◌, sym, ap, refl, arith, string_bytes}
+use Rattle.std.proofs.Common.{◌≡◌, ◌++◌, ◌∷◌, ◌∙◌, List, ℕ, ◌<◌, ◌^◌, false, ◌==◌, sym, ap, refl, arith, string_bytes}
 use Rattle.std.proofs.Padding.{padded_integral_zeros}
 use Rattle.std.specs.Fmt.{decimal, styled_decimal, format_spec}
 use Rattle.qz_grading.specs.Words.{in_digits}
