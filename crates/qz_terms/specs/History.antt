@@ -3,6 +3,7 @@ use Rattle.std.specs.List.{list_any}
 use Rattle.std.specs.Prelude.{ℕ, ◌+◌, max, Bool, true, false, not, ◌&&◌, ◌||◌, List, [], map, length, ℤ, is_some, if◌then◌else◌, nat_lt, ◌==◌, Some, None, fold, filter, flat_map, filter_map, Option, unwrap_or, option_map, option_and_then}
 use Rattle.qz_grading.specs.declared.outcome.Behaviour.{Behaviour}
 use Rattle.qz_grading.specs.declared.outcome.State.{State}
+use Rattle.qz_grading.specs.declared.outcome.State.TheVariants.{Todo}
 use Rattle.qz_grading.specs.declared.question.Question.{Question}
 use Rattle.qz_grading.specs.declared.refusal.AttemptId.{AttemptId}
 use Rattle.qz_grading.specs.declared.response.Step.{Step}
@@ -174,6 +175,13 @@ state_of s = slot_state s.behaviour s.question s.steps
 
 abbrev pub mark_in : Slot → Option ℤ
 mark_in s = slot_mark s.behaviour s.question s.bound.max s.steps
+
+-- the state of a slot, which is todo where there is no such slot
+abbrev pub state : List Record → AttemptId → ℕ → State
+state h a k = unwrap_or (option_map state_of (slot h a k)) Todo
+
+abbrev pub mark : List Record → AttemptId → ℕ → Option ℤ
+mark h a k = option_and_then mark_in (slot h a k)
 
 -- how many slots an attempt has
 abbrev pub slot_count : List Record → AttemptId → ℕ

@@ -6,3 +6,6 @@ pub mod Rows
 pub mod Visible
 pub mod History
 pub mod Catalog
+pub mod Spelling
+pub mod ExamplesBytes
+pub mod Cause
