@@ -9,3 +9,5 @@ pub mod Catalog
 pub mod Spelling
 pub mod ExamplesBytes
 pub mod Cause
+pub mod Parts
+pub mod Answer
