@@ -11,3 +11,5 @@ pub mod ExamplesBytes
 pub mod Cause
 pub mod Parts
 pub mod Answer
+pub mod ExampleSchool
+pub mod ExampleFirstAttempt
