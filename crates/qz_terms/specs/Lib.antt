@@ -13,3 +13,6 @@ pub mod Parts
 pub mod Answer
 pub mod ExampleSchool
 pub mod ExampleFirstAttempt
+pub mod ExampleRows
+pub mod ExampleTimes
+pub mod ExampleOverrides
