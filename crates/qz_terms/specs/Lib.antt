@@ -16,3 +16,7 @@ pub mod ExampleFirstAttempt
 pub mod ExampleRows
 pub mod ExampleTimes
 pub mod ExampleOverrides
+pub mod ExampleRegrade
+pub mod ExampleSkipped
+pub mod ExampleMarked
+pub mod ExampleReview
