@@ -46,7 +46,7 @@ use Rattle.qz_terms.specs.Catalog as catalog
 use Rattle.qz_terms.specs.Cause.{Denied, Granted, Repeated, Verdict, forbidden, is_student, missing_in, said_at, sees_marks, verdict_here, verdict_in}
 use Rattle.qz_terms.specs.History.{Start}
 use Rattle.qz_terms.specs.History as history
-use Rattle.qz_terms.specs.Lists.{first_of, how_many, in_order, up_to_first}
+use Rattle.qz_terms.specs.Lists.{first_of, how_many, in_order, once, up_to_first}
 use Rattle.qz_terms.specs.Parts.{part}
 use Rattle.qz_terms.specs.Visible.{shown_state, shown_value, shows_grade, shows_marks}
 
@@ -61,14 +61,9 @@ learned_as s = record { entry = s.0.entry; version = s.0.version; question = s.1
 abbrev same_version : Learned → Learned → Bool
 same_version a b = (a.entry == b.entry) && (a.version == b.version)
 
--- each version once, in order
-abbrev pub once : List Learned → List Learned
-once [] = []
-once (l ∷ ls) = l ∷ filter (λ k. not (same_version l k)) (once ls)
-
--- the versions that a shard hasn't learned
+-- the versions that a shard hasn't learned, each once, in order
 abbrev pub new_versions : List Record → List Learned → List Learned
-new_versions h ls = filter (λ (l : Learned). is_none (history.version h l.entry l.version)) (once ls)
+new_versions h ls = filter (λ (l : Learned). is_none (history.version h l.entry l.version)) (once same_version ls)
 
 -- ---- the record that a request to a shard puts
 
@@ -295,17 +290,21 @@ live_answer h a = reply.Ok (length h) (done.Live (history.live_after h a))
 
 -- ---- the answer over the catalogue's list
 
+-- the moment of a request to the catalogue: the clock's, but not before the last record
+abbrev pub moment_in : List Record → ℕ → ℕ
+moment_in c now = max now (unwrap_or (last_of (map (λ (r : Record). r.moment) c)) 0)
+
 abbrev record_in : List Record → ℕ → User → Ask → Record
-record_in c now user ask = record { moment = max now (unwrap_or (last_of (map (λ (r : Record). r.moment) c)) 0); caller = user.number; owner = 0; key = ask.key; terms = None; event = event.Asked ask.request }
+record_in c now user ask = record { moment = moment_in c now; caller = user.number; owner = 0; key = ask.key; terms = None; event = event.Asked ask.request }
 
 -- no look puts a record
-abbrev puts : Request → Bool
-puts request.Jobs = false
-puts (request.Bank entry version) = false
-puts x = true
+abbrev pub is_look_in : Request → Bool
+is_look_in request.Jobs = true
+is_look_in (request.Bank entry version) = true
+is_look_in x = false
 
 abbrev pub put_in : List Record → ℕ → User → Ask → Option Record
-put_in c now user ask = if puts ask.request then Some (record_in c now user ask) else None
+put_in c now user ask = if is_look_in ask.request then None else Some (record_in c now user ask)
 
 abbrev gift_reply : Option Question → Done
 gift_reply None = done.Idle
@@ -367,6 +366,10 @@ asks_catalog request.Jobs = true
 asks_catalog (request.Bank entry version) = true
 asks_catalog x = false
 
+-- whether the catalogue keeps a request
+abbrev pub keeps_record : Request → Bool
+keeps_record x = asks_catalog x && not (is_look_in x)
+
 -- an attempt that isn't there has no plan
 abbrev pub shard_answer : List Record → List Record → ℕ → User → Ask → Reply
 shard_answer c h now user ask = unwrap_or (option_map (λ plan. answer_here h now user plan ask) (plan_for c h user ask.request)) (reply.Refused (refusal.Unknown thing.Attempt))
@@ -404,6 +407,12 @@ user_after c h now ask user = if is_some (first_refusal c user ask.request) then
 -- the answer over the catalogue and the shard that the request goes to; nobody has an unknown token
 abbrev pub answer : List Record → List Record → ℕ → Ask → Reply
 answer c h now ask = unwrap_or (option_map (user_answer c h now ask) (catalog.user_of c ask.caller)) (reply.Refused refusal.UnknownToken)
+
+-- the shard whose list a request to a user's shard goes to
+abbrev pub part_of : List Record → User → Request → ℕ
+part_of c user (request.Work job shard) = shard
+part_of c user (request.Live shard attempt) = shard
+part_of c user x = named_user user x % catalog.shards c
 
 -- the shard's list afterwards
 abbrev pub shard_list : List Record → List Record → ℕ → Ask → List Record

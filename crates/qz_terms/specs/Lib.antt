@@ -20,3 +20,4 @@ pub mod ExampleRegrade
 pub mod ExampleSkipped
 pub mod ExampleMarked
 pub mod ExampleReview
+pub mod Legal
