@@ -421,3 +421,20 @@ shard_list c h now ask = unwrap_or (option_map (user_after c h now ask) (catalog
 -- the catalogue's list afterwards
 abbrev pub catalog_list : List Record → ℕ → Ask → List Record
 catalog_list c now ask = unwrap_or (option_map (λ user. if is_some (first_refusal c user ask.request) || not (asks_catalog ask.request) then c else catalog_after c now user ask) (catalog.user_of c ask.caller)) c
+
+-- ---- the answer of a school with several shards
+
+abbrev part_at : List (List Record) → ℕ → List Record
+part_at parts k = unwrap_or (slice_get parts k) []
+
+abbrev school_answer_by : List Record → List (List Record) → ℕ → Ask → User → Request → Reply
+school_answer_by c parts now ask user (request.Report quiz) = unwrap_or (option_map reply.Refused (first_refusal c user ask.request)) (report_answer c parts quiz)
+school_answer_by c parts now ask user x = user_answer c (part_at parts (part_of c user x)) now ask user
+
+-- a report reads every shard, and any other request at most one
+abbrev pub school_answer : List Record → List (List Record) → ℕ → Ask → Reply
+school_answer c parts now ask = unwrap_or (option_map (λ user. school_answer_by c parts now ask user ask.request) (catalog.user_of c ask.caller)) (reply.Refused refusal.UnknownToken)
+
+-- the shard that a request goes to, where it goes to one
+abbrev pub asked_part : List Record → Ask → Option ℕ
+asked_part c ask = option_and_then (λ user. if asks_catalog ask.request then None else Some (part_of c user ask.request)) (catalog.user_of c ask.caller)

@@ -21,3 +21,4 @@ pub mod ExampleSkipped
 pub mod ExampleMarked
 pub mod ExampleReview
 pub mod Legal
+pub mod Serial
