@@ -101,12 +101,13 @@ is_ended h a = is_some (ended h a)
 abbrev pub ended_at : List Record → AttemptId → Option ℕ
 ended_at h a = option_map (λ how. place (up_to_first (λ r. is_some (ends a r)) h) a.user) (ended h a)
 
-abbrev is_finished_by : Option How → Bool
-is_finished_by (Some how.Finished) = true
-is_finished_by o = false
+-- whether it ended by a finish
+abbrev pub ended_finished : Option How → Bool
+ended_finished (Some how.Finished) = true
+ended_finished o = false
 
 abbrev pub is_finished : List Record → AttemptId → Bool
-is_finished h a = is_finished_by (ended h a)
+is_finished h a = ended_finished (ended h a)
 
 -- ---- versions that the shard has learned
 

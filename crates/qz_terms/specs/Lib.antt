@@ -22,3 +22,4 @@ pub mod ExampleMarked
 pub mod ExampleReview
 pub mod Legal
 pub mod Serial
+pub mod Laws

@@ -1,0 +1,69 @@
+-- What the definitions have to mean: facts that hold of all lists.
+use Rattle.std.specs.Prelude.{◌≡◌, ℕ, max, true, List, [], ◌∷◌, ◌++◌, ℤ, Some, None, Option}
+use Rattle.qz_grading.specs.declared.outcome.Behaviour.{Behaviour}
+use Rattle.qz_grading.specs.declared.question.Question.{Question}
+use Rattle.qz_grading.specs.declared.refusal.AttemptId.{AttemptId}
+use Rattle.qz_grading.specs.declared.refusal.Refusal.{Refusal}
+use Rattle.qz_grading.specs.declared.response.Response.{Response}
+use Rattle.qz_grading.specs.declared.response.Step.{Step}
+use Rattle.qz_grading.specs.declared.response.Step.TheVariants as step
+use Rattle.qz_grading.specs.Behaviours.{has_ended}
+use Rattle.qz_grading.specs.Slots.{slot_mark, slot_state}
+use Rattle.qz_terms.specs.declared.ask.Ask.{Ask}
+use Rattle.qz_terms.specs.declared.grades.Policy.{Policy}
+use Rattle.qz_terms.specs.declared.people.Caller.{Caller}
+use Rattle.qz_terms.specs.declared.people.User.{User}
+use Rattle.qz_terms.specs.declared.plan.Bound.{Bound}
+use Rattle.qz_terms.specs.declared.plan.Plan.{Plan}
+use Rattle.qz_terms.specs.declared.record.Event.TheVariants as event
+use Rattle.qz_terms.specs.declared.record.Learned.{Learned}
+use Rattle.qz_terms.specs.declared.record.Record.{Record}
+use Rattle.qz_terms.specs.declared.reply.Reply.TheVariants as reply
+use Rattle.qz_terms.specs.declared.request.Request.{Request}
+use Rattle.qz_terms.specs.Answer.{answer, answer_here, first_refusal, list_after, moment_of, plan_for, put_here, shard_list}
+use Rattle.qz_terms.specs.Catalog as catalog
+use Rattle.qz_terms.specs.Cause.{Repeated, verdict_here}
+use Rattle.qz_terms.specs.History as history
+
+-- A record of a step that was the same as before changes no reading of an attempt and no grade.
+abbrev pub noted : Record → AttemptId → ℕ → Step → Record
+noted r b j x = record r { event = event.Noted b j x }
+
+pub record NotedChangesNothing : Type 0 where
+  pub steps : (h : List Record) (r : Record) (b : AttemptId) (j : ℕ) (x : Step) (a : AttemptId) (k : ℕ) → history.steps (h ++ noted r b j x ∷ []) a k ≡ history.steps h a k
+  pub bound : (h : List Record) (r : Record) (b : AttemptId) (j : ℕ) (x : Step) (a : AttemptId) (k : ℕ) → history.bound (h ++ noted r b j x ∷ []) a k ≡ history.bound h a k
+  pub state : (h : List Record) (r : Record) (b : AttemptId) (j : ℕ) (x : Step) (a : AttemptId) (k : ℕ) → history.state (h ++ noted r b j x ∷ []) a k ≡ history.state h a k
+  pub mark : (h : List Record) (r : Record) (b : AttemptId) (j : ℕ) (x : Step) (a : AttemptId) (k : ℕ) → history.mark (h ++ noted r b j x ∷ []) a k ≡ history.mark h a k
+  pub total : (h : List Record) (r : Record) (b : AttemptId) (j : ℕ) (x : Step) (a : AttemptId) → history.total (h ++ noted r b j x ∷ []) a ≡ history.total h a
+  pub row : (h : List Record) (r : Record) (b : AttemptId) (j : ℕ) (x : Step) (q u : ℕ) (policy : Policy) → history.row (h ++ noted r b j x ∷ []) q policy u ≡ history.row h q policy u
+
+-- A job that binds the version and the max mark that are bound already changes neither the state nor the mark of the slot.
+abbrev pub rebound : Record → ℕ → AttemptId → ℕ → Bound → List Learned → Record
+rebound r job a k b learned = record r { event = event.Rebound job a k b learned }
+
+abbrev pub later_bound : Bound → ℕ → Bound
+later_bound b position = record b { at = position }
+
+pub record SameBoundChangesNothing : Type 0 where
+  pub state : (h : List Record) (r : Record) (job position : ℕ) (a : AttemptId) (k : ℕ) (b : Bound) (learned : List Learned) (q : Question) → history.bound h a k ≡ Some b → history.version h b.entry b.version ≡ Some q
+      → history.state (h ++ rebound r job a k (later_bound b position) learned ∷ []) a k ≡ history.state h a k
+  pub mark : (h : List Record) (r : Record) (job position : ℕ) (a : AttemptId) (k : ℕ) (b : Bound) (learned : List Learned) (q : Question) → history.bound h a k ≡ Some b → history.version h b.entry b.version ≡ Some q
+      → history.mark (h ++ rebound r job a k (later_bound b position) learned ∷ []) a k ≡ history.mark h a k
+
+-- A response that is saved behind the end of a slot changes neither its mark nor its state.
+pub record SaveKeepsTheEnd : Type 0 where
+  pub mark : (b : Behaviour) (q : Question) (max : ℤ) (s : List Step) (r : Response) → has_ended b q s ≡ true → slot_mark b q max (s ++ step.Save r ∷ []) ≡ slot_mark b q max s
+  pub state : (b : Behaviour) (q : Question) (s : List Step) (r : Response) → has_ended b q s ≡ true → slot_state b q (s ++ step.Save r ∷ []) ≡ slot_state b q s
+
+-- A request that is refused, one that repeats a kept one, and one that puts no record leave the list as it was.
+pub record AddsNothing : Type 0 where
+  pub refused : (h : List Record) (now : ℕ) (user : User) (plan : Plan) (ask : Ask) (r : Refusal) → answer_here h now user plan ask ≡ reply.Refused r → list_after h now user plan ask ≡ h
+  pub repeated : (h : List Record) (now : ℕ) (user : User) (plan : Plan) (ask : Ask) (l : List Record) (r : Record) → verdict_here h (moment_of h now user ask.request) user plan ask ≡ Repeated l r → list_after h now user plan ask ≡ h
+  pub looked : (h : List Record) (now : ℕ) (user : User) (plan : Plan) (ask : Ask) → put_here h (moment_of h now user ask.request) user plan ask ≡ None → list_after h now user plan ask ≡ h
+
+-- Where the catalogue gives the user and the plan and finds nothing missing, the answer is that over the shard's list alone.
+pub record AnsweredHere : Type 0 where
+  pub reply : (c h : List Record) (now : ℕ) (who : Caller) (key : Option (List ℕ)) (x : Request) (user : User) (plan : Plan) → catalog.user_of c who ≡ Some user → first_refusal c user x ≡ None → plan_for c h user x ≡ Some plan
+      → answer c h now (record { caller = who; key = key; request = x }) ≡ answer_here h now user plan (record { caller = who; key = key; request = x })
+  pub list : (c h : List Record) (now : ℕ) (who : Caller) (key : Option (List ℕ)) (x : Request) (user : User) (plan : Plan) → catalog.user_of c who ≡ Some user → first_refusal c user x ≡ None → plan_for c h user x ≡ Some plan
+      → shard_list c h now (record { caller = who; key = key; request = x }) ≡ list_after h now user plan (record { caller = who; key = key; request = x })
