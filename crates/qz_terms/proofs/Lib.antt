@@ -1,2 +1,5 @@
 pub mod Readings
 pub mod Noted
+pub mod Adding
+pub mod Joined
+pub mod Rebinding

@@ -56,7 +56,7 @@ abbrev pub is_past : Option ℕ → ℕ → Bool
 is_past None moment = false
 is_past (Some end) moment = nat_lt end moment
 
-abbrev grace_under : Handling → ℕ → ℕ
+abbrev pub grace_under : Handling → ℕ → ℕ
 grace_under handling.GracePeriod grace = grace
 grace_under h grace = 0
 

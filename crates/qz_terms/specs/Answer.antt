@@ -55,10 +55,10 @@ use Rattle.qz_terms.specs.Visible.{shown_state, shown_value, shows_grade, shows_
 abbrev pub bind : ℕ → Planned → Bound
 bind at s = record { entry = s.entry; version = s.version; max = s.max; at = at }
 
-abbrev learned_as : Planned × Question → Learned
+abbrev pub learned_as : Planned × Question → Learned
 learned_as s = record { entry = s.0.entry; version = s.0.version; question = s.1 }
 
-abbrev same_version : Learned → Learned → Bool
+abbrev pub same_version : Learned → Learned → Bool
 same_version a b = (a.entry == b.entry) && (a.version == b.version)
 
 -- the versions that a shard hasn't learned, each once, in order
@@ -67,16 +67,16 @@ new_versions h ls = filter (λ (l : Learned). is_none (history.version h l.entry
 
 -- ---- the record that a request to a shard puts
 
-abbrev terms_under : Plan → Terms
+abbrev pub terms_under : Plan → Terms
 terms_under plan = record { at = plan.at; settings = plan.settings }
 
-abbrev record_under : ℕ → User → ℕ → Option (List ℕ) → Plan → Event → Record
+abbrev pub record_under : ℕ → User → ℕ → Option (List ℕ) → Plan → Event → Record
 record_under moment user owner key plan e = record { moment = moment; caller = user.number; owner = owner; key = key; terms = Some (terms_under plan); event = e }
 
 abbrev pub started_by : List Record → User → Plan → Event
 started_by h user plan = event.Started plan.quiz (history.next_attempt h user.number).nth plan.behaviour (map (bind plan.at) plan.slots) (new_versions h (map learned_as (zip plan.slots plan.questions)))
 
-abbrev acted_or_noted : Moved → AttemptId → ℕ → Step → Event
+abbrev pub acted_or_noted : Moved → AttemptId → ℕ → Step → Event
 acted_or_noted Kept a k x = event.Acted a k x
 acted_or_noted Same a k x = event.Noted a k x
 
@@ -85,7 +85,7 @@ abbrev pub stepped_by : List Record → AttemptId → ℕ → Step → Event
 stepped_by h a k x = acted_or_noted (moved (history.steps h a k) x) a k x
 
 -- the max mark bound now
-abbrev max_now : List Record → AttemptId → ℕ → ℤ
+abbrev pub max_now : List Record → AttemptId → ℕ → ℤ
 max_now h a k = unwrap_or (option_map (λ (b : Bound). b.max) (history.bound h a k)) (pos 0)
 
 -- an attempt that goes on and is expired
@@ -93,7 +93,7 @@ abbrev pub is_overdue : List Record → ℕ → Plan → AttemptId → Bool
 is_overdue h moment plan a = not (history.is_ended h a) && unwrap_or (option_map (λ (s : Start). expired plan.settings s.moment moment) (history.start h a)) false
 
 -- the event that a request makes, and the user whose attempt it is about; a look makes none
-abbrev event_here : List Record → ℕ → User → Plan → Request → Option (ℕ × Event)
+abbrev pub event_here : List Record → ℕ → User → Plan → Request → Option (ℕ × Event)
 event_here h moment user plan (request.Start quiz) = Some (user.number, started_by h user plan)
 event_here h moment user plan (request.Save attempt slot certainty response) = Some (attempt.user, stepped_by h attempt slot (step.Save (record { answer = response; certainty = certainty })))
 event_here h moment user plan (request.Submit attempt slot certainty response) = Some (attempt.user, stepped_by h attempt slot (step.Submit (record { answer = response; certainty = certainty })))
@@ -108,23 +108,23 @@ put_here h moment user plan ask = option_map (λ (e : ℕ × Event). record_unde
 
 -- ---- the record that work puts
 
-abbrev record_of_job : ℕ → ℕ → ℕ → Event → Record
+abbrev pub record_of_job : ℕ → ℕ → ℕ → Event → Record
 record_of_job moment caller owner e = record { moment = moment; caller = caller; owner = owner; key = None; terms = None; event = e }
 
 -- a target of equal shape is bound anew, and another is skipped
-abbrev rebound_or_skipped : List Record → Job → AttemptId → ℕ → Planned → Question → Question → Event
+abbrev pub rebound_or_skipped : List Record → Job → AttemptId → ℕ → Planned → Question → Question → Event
 rebound_or_skipped h job a k s old newer =
     if same_shape (shape old) (shape newer) then event.Rebound job.number a k (bind job.position s) (new_versions h (learned_as (s, newer) ∷ []))
     else event.Skipped job.number a k (shape old) (shape newer)
 
-abbrev target_event : List Record → Job → AttemptId × ℕ → Option Event
+abbrev pub target_event : List Record → Job → AttemptId × ℕ → Option Event
 target_event h job t = option_and_then (λ old. option_and_then (λ s. option_map (λ newer. rebound_or_skipped h job t.0 t.1 s old newer) (at_place job.plan.questions t.1)) (at_place job.plan.slots t.1)) (history.question h t.0 t.1)
 
 -- the first target of the job, if any is left
 abbrev pub first_target : List Record → Job → Option (AttemptId × ℕ)
 first_target h job = first_of (history.targets h job.number job.plan.quiz job.position)
 
-abbrev put_target : List Record → ℕ → ℕ → Job → Option (AttemptId × ℕ) → Option Record
+abbrev pub put_target : List Record → ℕ → ℕ → Job → Option (AttemptId × ℕ) → Option Record
 put_target h now caller job None = Some (record_of_job (history.time h 0 now) caller 0 (event.JobDone job.number job.plan.quiz job.position))
 put_target h now caller job (Some t) = option_map (λ e. record_of_job (history.time h t.0.user now) caller t.0.user e) (target_event h job t)
 
@@ -138,31 +138,31 @@ put_by_job h now caller job = if history.is_done h job.number then None else put
 abbrev pub is_visible : List Record → Record → AttemptId → Bool
 is_visible l r a = not (r.caller == r.owner) || unwrap_or (option_map (λ (t : Terms). shows_marks t.settings (history.is_ended l a) r.moment) r.terms) true
 
-abbrev shown_state_in : List Record → Record → AttemptId → ℕ → State
+abbrev pub shown_state_in : List Record → Record → AttemptId → ℕ → State
 shown_state_in l r a k = shown_state (is_visible l r a) (history.state l a k)
 
-abbrev shown_mark_in : List Record → Record → AttemptId → ℕ → Shown ℤ
+abbrev pub shown_mark_in : List Record → Record → AttemptId → ℕ → Shown ℤ
 shown_mark_in l r a k = shown_value (is_visible l r a) (history.mark l a k)
 
-abbrev due_by : Option Terms → ℕ → Option ℕ
+abbrev pub due_by : Option Terms → ℕ → Option ℕ
 due_by None moment = None
 due_by (Some t) moment = due t.settings moment
 
-abbrev acted_reply : List Record → Record → AttemptId → ℕ → Step → Done
+abbrev pub acted_reply : List Record → Record → AttemptId → ℕ → Step → Done
 acted_reply l r a k (step.Mark mark max) = done.Marked (shown_state_in l r a k) (shown_mark_in l r a k)
 acted_reply l r a k x = done.Stepped (shown_state_in l r a k) (shown_mark_in l r a k)
 
 -- a finish is asked with a key, and a settling is not
-abbrev ended_reply : List Record → Record → AttemptId → How → Option (List ℕ) → Done
+abbrev pub ended_reply : List Record → Record → AttemptId → How → Option (List ℕ) → Done
 ended_reply l r a how (Some key) = done.Finished (shown_value (is_visible l r a) (history.total l a))
 ended_reply l r a how None = done.Settled a how
 
 -- ---- what is said of a record of the catalogue
 
-abbrev first_entry : List Record → Bank → ℕ
+abbrev pub first_entry : List Record → Bank → ℕ
 first_entry c gift = if length gift.items == 0 then 0 else length (catalog.entries c) - length gift.items + 1
 
-abbrev asked_reply : List Record → Request → Done
+abbrev pub asked_reply : List Record → Request → Done
 asked_reply c (request.User name role token) = done.Made (length (catalog.users c))
 asked_reply c (request.Group name) = done.Made (length (catalog.groups c))
 asked_reply c (request.Import gift) = done.Imported (first_entry c gift) (length gift.items)
@@ -175,7 +175,7 @@ asked_reply c x = done.Done
 
 -- ---- the reply for the last record of a list
 
-abbrev reply_by : List Record → Record → Event → Done
+abbrev pub reply_by : List Record → Record → Event → Done
 reply_by l r (event.Founded shards token) = done.Made 1
 reply_by l r (event.Asked x) = asked_reply l x
 reply_by l r (event.Started quiz nth behaviour bounds learned) = done.Started (record { user = r.owner; nth = nth }) (length bounds) (due_by r.terms r.moment)
@@ -192,28 +192,28 @@ said l r = reply.Ok (said_at l r) (reply_by l r r.event)
 
 -- ---- looks at a shard
 
-abbrev status_by : Option How → Status
+abbrev pub status_by : Option How → Status
 status_by None = status.Live
 status_by (Some how.Finished) = status.Finished
 status_by (Some how.Abandoned) = status.Abandoned
 
-abbrev answering_steps : List Record → AttemptId → ℕ → ℕ
+abbrev pub answering_steps : List Record → AttemptId → ℕ → ℕ
 answering_steps h a k = how_many is_answering (history.steps h a k)
 
-abbrev version_now : List Record → AttemptId → ℕ → ℕ
+abbrev pub version_now : List Record → AttemptId → ℕ → ℕ
 version_now h a k = unwrap_or (option_map (λ (b : Bound). b.version) (history.bound h a k)) 0
 
-abbrev due_now : List Record → Plan → AttemptId → Option ℕ
+abbrev pub due_now : List Record → Plan → AttemptId → Option ℕ
 due_now h plan a = option_and_then (λ (s : Start). due plan.settings s.moment) (history.start h a)
 
-abbrev viewed : List Record → Bool → AttemptId → ℕ → Done
+abbrev pub viewed : List Record → Bool → AttemptId → ℕ → Done
 viewed h visible a k = done.SlotView (shown_state visible (history.state h a k)) (shown_value visible (history.mark h a k)) (version_now h a k) (answering_steps h a k)
 
 -- the grade of a quiz is hidden from a student alone
-abbrev sees_grade : User → Settings → ℕ → Bool
+abbrev pub sees_grade : User → Settings → ℕ → Bool
 sees_grade user s moment = not (is_student user) || shows_grade s moment
 
-abbrev looked_by : List Record → ℕ → User → Plan → Request → Done
+abbrev pub looked_by : List Record → ℕ → User → Plan → Request → Done
 looked_by h moment user plan (request.View attempt slot) = viewed h (sees_marks h plan.settings user attempt moment) attempt slot
 looked_by h moment user plan (request.Total attempt) = done.Attempt (status_by (history.ended h attempt)) (shown_value (sees_marks h plan.settings user attempt moment) (history.total h attempt)) (due_now h plan attempt)
 looked_by h moment user plan (request.Page attempt) = done.Page attempt plan.name (due_now h plan attempt) (map (part (sees_marks h plan.settings user attempt moment)) (history.slots h attempt))
@@ -244,16 +244,16 @@ looked h moment user plan x = reply.Ok (history.place h (named_user user x)) (lo
 
 -- ---- the answer over one shard's list with a plan
 
-abbrev said_of_put : List Record → Option Record → Reply → Reply
+abbrev pub said_of_put : List Record → Option Record → Reply → Reply
 said_of_put l None look = look
 said_of_put l (Some r) look = said (l ++ r ∷ []) r
 
-abbrev reply_to : Verdict → Reply → Reply
+abbrev pub reply_to : Verdict → Reply → Reply
 reply_to (Denied r) accepted = reply.Refused r
 reply_to (Repeated l r) accepted = said l r
 reply_to Granted accepted = accepted
 
-abbrev list_with : Verdict → List Record → Option Record → List Record
+abbrev pub list_with : Verdict → List Record → Option Record → List Record
 list_with Granted l put = l ++ option_to_list put
 list_with v l put = l
 
@@ -276,7 +276,7 @@ list_after h now user plan ask = list_at h (moment_of h now user ask.request) us
 
 -- ---- work, and what else is asked of a shard
 
-abbrev done_place : List Record → ℕ → ℕ
+abbrev pub done_place : List Record → ℕ → ℕ
 done_place h job = length (up_to_first (history.is_done_in job) h)
 
 abbrev pub work_answer : List Record → ℕ → ℕ → Job → Reply
@@ -294,7 +294,7 @@ live_answer h a = reply.Ok (length h) (done.Live (history.live_after h a))
 abbrev pub moment_in : List Record → ℕ → ℕ
 moment_in c now = max now (unwrap_or (last_of (map (λ (r : Record). r.moment) c)) 0)
 
-abbrev record_in : List Record → ℕ → User → Ask → Record
+abbrev pub record_in : List Record → ℕ → User → Ask → Record
 record_in c now user ask = record { moment = moment_in c now; caller = user.number; owner = 0; key = ask.key; terms = None; event = event.Asked ask.request }
 
 -- no look puts a record
@@ -306,11 +306,11 @@ is_look_in x = false
 abbrev pub put_in : List Record → ℕ → User → Ask → Option Record
 put_in c now user ask = if is_look_in ask.request then None else Some (record_in c now user ask)
 
-abbrev gift_reply : Option Question → Done
+abbrev pub gift_reply : Option Question → Done
 gift_reply None = done.Idle
 gift_reply (Some q) = done.Gift q
 
-abbrev looked_in_by : List Record → Request → Done
+abbrev pub looked_in_by : List Record → Request → Done
 looked_in_by c (request.Bank entry version) = gift_reply (catalog.version c entry version)
 looked_in_by c x = done.Jobs (length (catalog.jobs c))
 
@@ -325,11 +325,11 @@ catalog_after c now user ask = list_with (catalog_verdict c now user ask) c (put
 
 -- ---- reports
 
-abbrev name_of : List Record → ℕ → List ℕ
+abbrev pub name_of : List Record → ℕ → List ℕ
 name_of c u = unwrap_or (option_map (λ (x : User). x.name) (at_place (catalog.users c) u)) []
 
 -- a user's row is read in the user's own shard
-abbrev report_row : List Record → List (List Record) → Policy → ℕ → ℕ → Row
+abbrev pub report_row : List Record → List (List Record) → Policy → ℕ → ℕ → Row
 report_row c parts policy q u = record { user = u; name = name_of c u; grade = unwrap_or (option_map (λ h. history.row h q policy u) (slice_get parts (u % length parts))) None }
 
 abbrev pub report_rows : List Record → List (List Record) → Policy → ℕ → List Row
@@ -377,20 +377,20 @@ shard_answer c h now user ask = unwrap_or (option_map (λ plan. answer_here h no
 abbrev pub shard_after : List Record → List Record → ℕ → User → Ask → List Record
 shard_after c h now user ask = unwrap_or (option_map (λ plan. list_after h now user plan ask) (plan_for c h user ask.request)) h
 
-abbrev job_answer : List Record → List Record → ℕ → User → ℕ → Reply
+abbrev pub job_answer : List Record → List Record → ℕ → User → ℕ → Reply
 job_answer c h now user number = unwrap_or (option_map (work_answer h now user.number) (catalog.job c number)) (reply.Refused (refusal.Unknown thing.Job))
 
-abbrev job_after : List Record → List Record → ℕ → User → ℕ → List Record
+abbrev pub job_after : List Record → List Record → ℕ → User → ℕ → List Record
 job_after c h now user number = unwrap_or (option_map (work_after h now user.number) (catalog.job c number)) h
 
 -- what isn't refused before
-abbrev answer_by : List Record → List Record → ℕ → User → Ask → Request → Reply
+abbrev pub answer_by : List Record → List Record → ℕ → User → Ask → Request → Reply
 answer_by c h now user ask (request.Work job shard) = job_answer c h now user job
 answer_by c h now user ask (request.Live shard attempt) = live_answer h attempt
 answer_by c h now user ask (request.Report quiz) = report_answer c (h ∷ []) quiz
 answer_by c h now user ask x = if asks_catalog x then catalog_answer c now user ask else shard_answer c h now user ask
 
-abbrev after_by : List Record → List Record → ℕ → User → Ask → Request → List Record
+abbrev pub after_by : List Record → List Record → ℕ → User → Ask → Request → List Record
 after_by c h now user ask (request.Work job shard) = job_after c h now user job
 after_by c h now user ask x = if asks_catalog x then h else shard_after c h now user ask
 
@@ -424,10 +424,10 @@ catalog_list c now ask = unwrap_or (option_map (λ user. if is_some (first_refus
 
 -- ---- the answer of a school with several shards
 
-abbrev part_at : List (List Record) → ℕ → List Record
+abbrev pub part_at : List (List Record) → ℕ → List Record
 part_at parts k = unwrap_or (slice_get parts k) []
 
-abbrev school_answer_by : List Record → List (List Record) → ℕ → Ask → User → Request → Reply
+abbrev pub school_answer_by : List Record → List (List Record) → ℕ → Ask → User → Request → Reply
 school_answer_by c parts now ask user (request.Report quiz) = unwrap_or (option_map reply.Refused (first_refusal c user ask.request)) (report_answer c parts quiz)
 school_answer_by c parts now ask user x = user_answer c (part_at parts (part_of c user x)) now ask user
 

@@ -72,7 +72,7 @@ may_ask user x = if user.number == 0 then rule_of x == 4 else role_may user.role
 abbrev pub forbidden : User → Request → Option Refusal
 forbidden user x = when (not (may_ask user x)) (refusal.Forbidden (rule_of x))
 
-abbrev is_student_by : Role → Bool
+abbrev pub is_student_by : Role → Bool
 is_student_by role.Student = true
 is_student_by r = false
 
@@ -93,7 +93,7 @@ missing_entry c e = when (is_none (at_place (catalog.entries c) e)) (refusal.Unk
 abbrev pub missing_quiz : List Record → ℕ → Option Refusal
 missing_quiz c q = when (is_none (at_place (catalog.quizzes c) q)) (refusal.Unknown thing.Quiz)
 
-abbrev missing_whom : List Record → Whom → ℕ → Option Refusal
+abbrev pub missing_whom : List Record → Whom → ℕ → Option Refusal
 missing_whom c whom.User n = missing_user c n
 missing_whom c whom.Group n = missing_group c n
 
@@ -152,7 +152,7 @@ pub data Verdict : Type 0 where
   Repeated : List Record → Record → Verdict
   Granted : Verdict
 
-abbrev has_key_by : List ℕ → Option (List ℕ) → Bool
+abbrev pub has_key_by : List ℕ → Option (List ℕ) → Bool
 has_key_by key None = false
 has_key_by key (Some k) = bytes_eq k key
 
@@ -170,7 +170,7 @@ place_by l r e = history.place l r.owner
 abbrev pub said_at : List Record → Record → ℕ
 said_at l r = place_by l r r.event
 
-abbrev repeated_or_reused : Bool → List Record → Record → Verdict
+abbrev pub repeated_or_reused : Bool → List Record → Record → Verdict
 repeated_or_reused true l r = Repeated l r
 repeated_or_reused false l r = Denied (refusal.KeyReused (said_at l r))
 
@@ -184,7 +184,7 @@ denied r = option_map Denied r
 
 -- ---- the catalogue
 
-abbrev same_request_by : Option Request → Request → Bool
+abbrev pub same_request_by : Option Request → Request → Bool
 same_request_by None x = false
 same_request_by (Some kept) x = bytes_eq (request_bytes kept) (request_bytes x)
 
@@ -196,7 +196,7 @@ abbrev pub too_many : ℕ → ℕ → Option Refusal
 too_many most count = when (nat_le most count) (refusal.TooMany most)
 
 -- the greatest max mark for a question
-abbrev most_for_kind : Kind → ℤ
+abbrev pub most_for_kind : Kind → ℤ
 most_for_kind kind.Description = pos 0
 most_for_kind k = pos (10000 * one)
 
@@ -206,7 +206,7 @@ greatest_max c entry = unwrap_or (option_map (λ (q : Question). most_for_kind q
 abbrev pub bad_max : List Record → ℕ → ℤ → Option Refusal
 bad_max c entry max = when (int_lt max (pos 0) || int_lt (greatest_max c entry) max) (refusal.OutOfRange (greatest_max c entry))
 
-abbrev slot_entry : List Record → ℕ → ℕ → ℕ
+abbrev pub slot_entry : List Record → ℕ → ℕ → ℕ
 slot_entry c quiz k = unwrap_or (option_map (λ (s : Planned). s.entry) (at_place (catalog.slots c quiz) k)) 0
 
 abbrev pub already_ready : List Record → ℕ → Option Refusal
@@ -219,7 +219,7 @@ most_record_bytes = 67108864
 abbrev pub most_version_bytes : ℕ
 most_version_bytes = 262144
 
-abbrev newer_version : List Record → ℕ → Request → Option Question
+abbrev pub newer_version : List Record → ℕ → Request → Option Question
 newer_version c entry x = option_map (λ old. catalog.changed_by old x) (catalog.version c entry (catalog.latest c entry))
 
 -- an edit or a tuning
@@ -235,12 +235,12 @@ import_cause c gift r = first_some (
     ∷ when (nat_lt most_record_bytes (length (spelling r))) (refusal.TooMany most_record_bytes)
     ∷ [])
 
-abbrev overridden : Option Request → Option (ℕ × (ℕ × ℕ))
+abbrev pub overridden : Option Request → Option (ℕ × (ℕ × ℕ))
 overridden (Some (request.Override quiz whom.User number opens closes limit allowed)) = Some (quiz, (0, number))
 overridden (Some (request.Override quiz whom.Group number opens closes limit allowed)) = Some (quiz, (1, number))
 overridden x = None
 
-abbrev override_before : ℕ × (ℕ × ℕ) → ℕ × (ℕ × ℕ) → Bool
+abbrev pub override_before : ℕ × (ℕ × ℕ) → ℕ × (ℕ × ℕ) → Bool
 override_before a b = nat_lt a.0 b.0 || ((a.0 == b.0) && (nat_lt a.1.0 b.1.0 || ((a.1.0 == b.1.0) && nat_lt a.1.1 b.1.1)))
 
 -- for how many quizzes and users or groups something is set otherwise
@@ -264,29 +264,29 @@ cause_in c r x = None
 
 -- ---- a shard
 
-abbrev same_step : Step → Request → Bool
+abbrev pub same_step : Step → Request → Bool
 same_step (step.Save r) (request.Save attempt slot certainty response) = same r (record { answer = response; certainty = certainty })
 same_step (step.Submit r) (request.Submit attempt slot certainty response) = same r (record { answer = response; certainty = certainty })
 same_step step.Again (request.Again attempt slot) = true
 same_step (step.Mark m max) (request.Mark attempt slot mark) = int_eq m mark
 same_step s x = false
 
-abbrev same_slot : AttemptId → ℕ → Request → Bool
+abbrev pub same_slot : AttemptId → ℕ → Request → Bool
 same_slot a k (request.Save attempt slot certainty response) = history.same_attempt a attempt && (k == slot)
 same_slot a k (request.Submit attempt slot certainty response) = history.same_attempt a attempt && (k == slot)
 same_slot a k (request.Again attempt slot) = history.same_attempt a attempt && (k == slot)
 same_slot a k (request.Mark attempt slot mark) = history.same_attempt a attempt && (k == slot)
 same_slot a k x = false
 
-abbrev is_start_of : ℕ → Request → Bool
+abbrev pub is_start_of : ℕ → Request → Bool
 is_start_of q (request.Start quiz) = quiz == q
 is_start_of q x = false
 
-abbrev is_finish_of : AttemptId → Request → Bool
+abbrev pub is_finish_of : AttemptId → Request → Bool
 is_finish_of a (request.Finish attempt) = history.same_attempt a attempt
 is_finish_of a x = false
 
-abbrev spells_by : Event → Request → Bool
+abbrev pub spells_by : Event → Request → Bool
 spells_by (event.Started quiz nth behaviour bounds learned) x = is_start_of quiz x
 spells_by (event.Acted attempt slot s) x = same_slot attempt slot x && same_step s x
 spells_by (event.Noted attempt slot s) x = same_slot attempt slot x && same_step s x
@@ -301,7 +301,7 @@ spells x r = spells_by r.event x
 abbrev pub sees_marks : List Record → Settings → User → AttemptId → ℕ → Bool
 sees_marks h s user a moment = not (is_student user) || shows_marks s (history.is_ended h a) moment
 
-abbrev refusal_shown : Bool → Refusal → Refusal
+abbrev pub refusal_shown : Bool → Refusal → Refusal
 refusal_shown visible (refusal.SlotEnded s) = refusal.SlotEnded (shown_state visible s)
 refusal_shown visible r = r
 
@@ -320,7 +320,7 @@ answering_cause h moment user plan a k x = first_some (
     ∷ [])
 
 -- it hasn't ended and isn't expired
-abbrev goes_on : List Record → Settings → ℕ → AttemptId → Bool
+abbrev pub goes_on : List Record → Settings → ℕ → AttemptId → Bool
 goes_on h s moment a = not (history.is_ended h a) && not (unwrap_or (option_map (λ (b : Start). expired s b.moment moment) (history.start h a)) false)
 
 -- the first attempt at a quiz that goes on

@@ -55,7 +55,7 @@ pub record Start : Type 0 where
   pub behaviour : Behaviour
   pub bounds : List Bound
 
-abbrev start_by : Record → Event → Option Start
+abbrev pub start_by : Record → Event → Option Start
 start_by r (event.Started quiz nth behaviour bounds learned) = Some (record { attempt = record { user = r.owner; nth = nth }; moment = r.moment; quiz = quiz; behaviour = behaviour; bounds = bounds })
 start_by r e = None
 
@@ -83,7 +83,7 @@ attempts h q u = in_order attempt_before (filter_map (starts_at q u) h)
 abbrev pub next_attempt : List Record → ℕ → AttemptId
 next_attempt h u = record { user = u; nth = how_many (λ r. is_owned u r && is_some (started r)) h + 1 }
 
-abbrev ends_by : AttemptId → Event → Option How
+abbrev pub ends_by : AttemptId → Event → Option How
 ends_by a (event.Ended b how) = if same_attempt a b then Some how else None
 ends_by a e = None
 
@@ -111,7 +111,7 @@ is_finished h a = ended_finished (ended h a)
 
 -- ---- versions that the shard has learned
 
-abbrev learned_by : Event → List Learned
+abbrev pub learned_by : Event → List Learned
 learned_by (event.Started quiz nth behaviour bounds learned) = learned
 learned_by (event.Rebound job a slot bound learned) = learned
 learned_by e = []
@@ -127,7 +127,7 @@ version h entry number = first_of (filter_map (learns entry number) h)
 
 -- ---- slots
 
-abbrev binds_by : AttemptId → ℕ → Record → Event → Option Bound
+abbrev pub binds_by : AttemptId → ℕ → Record → Event → Option Bound
 binds_by a k r (event.Started quiz nth behaviour bounds learned) = if same_attempt a (record { user = r.owner; nth = nth }) then at_place bounds k else None
 binds_by a k r (event.Rebound job b slot bound learned) = if same_attempt a b && (k == slot) then Some bound else None
 binds_by a k r e = None
@@ -142,11 +142,11 @@ bound h a k = last_of (filter_map (binds a k) h)
 abbrev pub question : List Record → AttemptId → ℕ → Option Question
 question h a k = option_and_then (λ (b : Bound). version h b.entry b.version) (bound h a k)
 
-abbrev finish_of : How → Option Step
+abbrev pub finish_of : How → Option Step
 finish_of how.Finished = Some step.Finish
 finish_of how.Abandoned = None
 
-abbrev step_by : AttemptId → ℕ → Event → Option Step
+abbrev pub step_by : AttemptId → ℕ → Event → Option Step
 step_by a k (event.Acted b slot x) = if same_attempt a b && (k == slot) then Some x else None
 step_by a k (event.Ended b how) = if same_attempt a b then finish_of how else None
 step_by a k e = None
@@ -204,7 +204,7 @@ total h a = if is_finished h a then total_of (map scored (slots h a)) else None
 abbrev pub row : List Record → ℕ → Policy → ℕ → Option ℤ
 row h q policy u = row_of policy (map (total h) (filter (is_finished h) (attempts h q u)))
 
-abbrev taker_at : ℕ → Record → Option ℕ
+abbrev pub taker_at : ℕ → Record → Option ℕ
 taker_at q r = option_map (λ (s : Start). s.attempt.user) (option_and_then (only_if (λ (s : Start). s.quiz == q)) (started r))
 
 -- the users with an attempt of a quiz, in order of number
@@ -213,7 +213,7 @@ takers h q = in_order nat_lt (filter_map (taker_at q) h)
 
 -- ---- jobs
 
-abbrev done_by : ℕ → Event → Bool
+abbrev pub done_by : ℕ → Event → Bool
 done_by job (event.JobDone j quiz position) = j == job
 done_by job e = false
 
@@ -223,7 +223,7 @@ is_done_in job r = done_by job r.event
 abbrev pub is_done : List Record → ℕ → Bool
 is_done h job = list_any (is_done_in job) h
 
-abbrev skips_by : ℕ → AttemptId → ℕ → Event → Bool
+abbrev pub skips_by : ℕ → AttemptId → ℕ → Event → Bool
 skips_by job a k (event.Skipped j b slot bound newer) = (j == job) && (same_attempt a b && (k == slot))
 skips_by job a k e = false
 
@@ -237,7 +237,7 @@ is_skipped h job a k = list_any (skips job a k) h
 abbrev pub is_target : List Record → ℕ → ℕ → AttemptId → ℕ → Bool
 is_target h job position a k = unwrap_or (option_map (λ (b : Bound). nat_lt b.at position) (bound h a k)) false && not (is_skipped h job a k)
 
-abbrev attempt_at : ℕ → Record → Option AttemptId
+abbrev pub attempt_at : ℕ → Record → Option AttemptId
 attempt_at q r = option_map (λ (s : Start). s.attempt) (option_and_then (only_if (λ (s : Start). s.quiz == q)) (started r))
 
 abbrev pub targets_in : List Record → ℕ → ℕ → AttemptId → List (AttemptId × ℕ)
@@ -247,7 +247,7 @@ targets_in h job position a = map (λ k. (a, k)) (filter (is_target h job positi
 abbrev pub targets : List Record → ℕ → ℕ → ℕ → List (AttemptId × ℕ)
 targets h job q position = flat_map (targets_in h job position) (in_order attempt_before (filter_map (attempt_at q) h))
 
-abbrev floor_by : ℕ → Event → Option ℕ
+abbrev pub floor_by : ℕ → Event → Option ℕ
 floor_by q (event.JobDone job quiz position) = if quiz == q then Some position else None
 floor_by q e = None
 

@@ -28,13 +28,13 @@ use Rattle.qz_terms.specs.Lists.{first_of, once}
 
 -- ---- one more record of a shard
 
-abbrev is_here : ℕ → ℕ → ℕ → Bool
+abbrev pub is_here : ℕ → ℕ → ℕ → Bool
 is_here index count u = u % count == index
 
-abbrev owner_is : ℕ → ℕ → Record → AttemptId → Bool
+abbrev pub owner_is : ℕ → ℕ → Record → AttemptId → Bool
 owner_is index count r a = (r.owner == a.user) && is_here index count a.user
 
-abbrev owner_by : ℕ → ℕ → Record → Event → Bool
+abbrev pub owner_by : ℕ → ℕ → Record → Event → Bool
 owner_by index count r (event.Founded shards token) = false
 owner_by index count r (event.Asked x) = false
 owner_by index count r (event.Started quiz nth behaviour bounds learned) = is_here index count r.owner
@@ -49,7 +49,7 @@ owner_by index count r (event.JobDone job quiz position) = r.owner == 0
 abbrev pub has_its_owner : ℕ → ℕ → Record → Bool
 has_its_owner index count r = owner_by index count r r.event
 
-abbrev new_key_by : List Record → ℕ → Option (List ℕ) → Bool
+abbrev pub new_key_by : List Record → ℕ → Option (List ℕ) → Bool
 new_key_by l caller None = true
 new_key_by l caller (Some key) = not (list_any (has_key caller key) l)
 
@@ -61,13 +61,13 @@ has_new_key l r = new_key_by l r.caller r.key
 abbrev pub is_bare : Record → Bool
 is_bare r = is_none r.key && is_none r.terms
 
-abbrev version_of_bound : Bound → ℕ × ℕ
+abbrev pub version_of_bound : Bound → ℕ × ℕ
 version_of_bound b = (b.entry, b.version)
 
-abbrev version_of_learned : Learned → ℕ × ℕ
+abbrev pub version_of_learned : Learned → ℕ × ℕ
 version_of_learned l = (l.entry, l.version)
 
-abbrev same_pair : ℕ × ℕ → ℕ × ℕ → Bool
+abbrev pub same_pair : ℕ × ℕ → ℕ × ℕ → Bool
 same_pair a b = (a.0 == b.0) && (a.1 == b.1)
 
 -- it learns the versions that it binds and that were new to the shard, each once, in order of slot
@@ -92,11 +92,11 @@ pub record IsPut (l : List Record) (r : Record) : Type 0 where
   pub granted : verdict_here l r.moment user plan ask ≡ Granted
   pub put : put_here l r.moment user plan ask ≡ Some r
 
-abbrev at_least_floor : List Record → ℕ → Option Terms → Bool
+abbrev pub at_least_floor : List Record → ℕ → Option Terms → Bool
 at_least_floor l q None = false
 at_least_floor l q (Some t) = nat_le (history.floor l q) t.at
 
-abbrev bound_at : Option Terms → Bound → Bool
+abbrev pub bound_at : Option Terms → Bound → Bool
 bound_at None b = false
 bound_at (Some t) b = b.at == t.at
 
@@ -136,7 +136,7 @@ pub record DoneIsAllowed (l : List Record) (r : Record) (job q position : ℕ) :
   pub undone : history.is_done l job ≡ false
   pub none_left : history.targets l job q position ≡ []
 
-abbrev EventIsAllowed : List Record → Record → Event → Type 0
+abbrev pub EventIsAllowed : List Record → Record → Event → Type 0
 EventIsAllowed l r (event.Founded shards token) = ⊥
 EventIsAllowed l r (event.Asked x) = ⊥
 EventIsAllowed l r (event.Started quiz nth behaviour bounds learned) = StartIsAllowed l r quiz bounds learned
@@ -160,7 +160,7 @@ pub record IsLegal (index count : ℕ) (h : List Record) : Type 0 where
 
 -- ---- one more record of the catalogue
 
-abbrev ask_of : User → Record → Request → Ask
+abbrev pub ask_of : User → Record → Request → Ask
 ask_of user r x = record { caller = caller.Token user.token; key = r.key; request = x }
 
 -- A user asked it with a key, and it had no cause to be refused.
@@ -171,7 +171,7 @@ pub record AskIsAllowed (l : List Record) (r : Record) (x : Request) : Type 0 wh
   pub keyed : is_some r.key ≡ true
   pub granted : verdict_in l user r (ask_of user r x) ≡ Granted
 
-abbrev CatalogEventIsAllowed : List Record → Record → Event → Type 0
+abbrev pub CatalogEventIsAllowed : List Record → Record → Event → Type 0
 CatalogEventIsAllowed l r (event.Founded shards token) = l ≡ []
 CatalogEventIsAllowed l r (event.Asked x) = AskIsAllowed l r x
 CatalogEventIsAllowed l r e = ⊥
@@ -235,7 +235,7 @@ pub record SkipAgrees (c l : List Record) (number : ℕ) (a : AttemptId) (k : �
   pub bound_is : option_map shape (history.question l a k) ≡ Some bound
   pub newer_is : option_map shape (at_place its_job.job.plan.questions k) ≡ Some newer
 
-abbrev EventAgrees : List Record → List Record → Record → Event → Type 0
+abbrev pub EventAgrees : List Record → List Record → Record → Event → Type 0
 EventAgrees c l r (event.Founded shards token) = ⊥
 EventAgrees c l r (event.Asked x) = ⊥
 EventAgrees c l r (event.Started quiz nth behaviour bounds learned) = StartAgrees c r quiz behaviour bounds learned

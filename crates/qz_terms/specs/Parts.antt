@@ -21,18 +21,18 @@ use Rattle.qz_terms.specs.History.{Slot}
 use Rattle.qz_terms.specs.History as history
 use Rattle.qz_terms.specs.Visible.{shown_state, shown_value}
 
-abbrev nonempty : List ℕ → Bool
+abbrev pub nonempty : List ℕ → Bool
 nonempty text = not (length text == 0)
 
-abbrev right_or_wrong : Bool → Rich → Rich → List ℕ
+abbrev pub right_or_wrong : Bool → Rich → Rich → List ℕ
 right_or_wrong true on_wrong on_right = on_right.text
 right_or_wrong false on_wrong on_right = on_wrong.text
 
-abbrev choice_feedback : List Choice → ℕ → List ℕ
+abbrev pub choice_feedback : List Choice → ℕ → List ℕ
 choice_feedback choices n = unwrap_or (option_map (λ (c : Choice). c.feedback.text) (at_place choices n)) []
 
 -- of the choice picked, of each choice picked in order, or of the right or the wrong side
-abbrev feedbacks_by : Kind → Answer → List (List ℕ)
+abbrev pub feedbacks_by : Kind → Answer → List (List ℕ)
 feedbacks_by (kind.TrueFalse right on_wrong on_right) (answer.Pick n) = right_or_wrong (int_eq (grade_answer (kind.TrueFalse right on_wrong on_right) (answer.Pick n)) (pos one)) on_wrong on_right ∷ []
 feedbacks_by (kind.One choices) (answer.Pick n) = choice_feedback choices n ∷ []
 feedbacks_by (kind.Several choices) (answer.Picks ns) = map (choice_feedback choices) ns
@@ -53,11 +53,11 @@ shows_feedback state.MangrRight = true
 shows_feedback s = false
 
 -- "try again" is needed: the hint with the number of tries so far, also where marks are hidden
-abbrev hint_by : Outcome → Question → Option (List ℕ)
+abbrev pub hint_by : Outcome → Question → Option (List ℕ)
 hint_by o q = if o.needs_again then at_place q.hints o.tries else None
 
 -- a slot under its state as it is shown, with marks shown or not
-abbrev part_under : State → Bool → Slot → Part
+abbrev pub part_under : State → Bool → Slot → Part
 part_under s visible x = record {
     text = x.question.text.text;
     state = s;

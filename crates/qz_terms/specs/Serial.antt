@@ -36,16 +36,16 @@ pub record AllMended (old new : Lists) : Type 0 where
   pub records : Mended old.records new.records
   pub parts : AllZip Mended old.parts new.parts
 
-abbrev lists_of : List Held → List (List Record)
+abbrev pub lists_of : List Held → List (List Record)
 lists_of parts = map (λ (k : Held). k.list) parts
 
 abbrev pub holds_no_doubt : Held → Bool
 holds_no_doubt k = is_none k.doubt
 
-abbrev asked_parts : Lists → Ask → List Held
+abbrev pub asked_parts : Lists → Ask → List Held
 asked_parts a ask = unwrap_or (option_map (λ k. option_to_list (slice_get a.parts k)) (asked_part a.records.list ask)) []
 
-abbrev is_report : Request → Bool
+abbrev pub is_report : Request → Bool
 is_report (request.Report quiz) = true
 is_report x = false
 
@@ -56,13 +56,13 @@ is_settled a ask = holds_no_doubt a.records && list_all holds_no_doubt (if is_re
 abbrev pub reply_over : Lists → ℕ → Ask → Reply
 reply_over a now ask = school_answer a.records.list (lists_of a.parts) now ask
 
-abbrev with_list : List Record → Held
+abbrev pub with_list : List Record → Held
 with_list l = record { list = l; doubt = None }
 
-abbrev part_list : Lists → ℕ → List Record
+abbrev pub part_list : Lists → ℕ → List Record
 part_list a k = unwrap_or (option_map (λ (h : Held). h.list) (slice_get a.parts k)) []
 
-abbrev parts_over : Lists → ℕ → Ask → Option ℕ → List Held
+abbrev pub parts_over : Lists → ℕ → Ask → Option ℕ → List Held
 parts_over a now ask None = a.parts
 parts_over a now ask (Some k) = slice_set a.parts k (with_list (shard_list a.records.list (part_list a k) now ask))
 
@@ -74,10 +74,10 @@ lists_over a now ask = record { records = with_list (catalog_list a.records.list
 abbrev pub added : List Record → List Record → Option Record
 added old new = first_of (drop (length old) new)
 
-abbrev doubted : List Record → List Record → Held
+abbrev pub doubted : List Record → List Record → Held
 doubted old new = record { list = old; doubt = added old new }
 
-abbrev doubted_parts : Lists → ℕ → Ask → Option ℕ → List Held
+abbrev pub doubted_parts : Lists → ℕ → Ask → Option ℕ → List Held
 doubted_parts a now ask None = a.parts
 doubted_parts a now ask (Some k) = slice_set a.parts k (doubted (part_list a k) (shard_list a.records.list (part_list a k) now ask))
 
@@ -85,7 +85,7 @@ doubted_parts a now ask (Some k) = slice_set a.parts k (doubted (part_list a k) 
 abbrev pub doubt_over : Lists → ℕ → Ask → Lists
 doubt_over a now ask = record { records = doubted a.records.list (catalog_list a.records.list now ask); parts = doubted_parts a now ask (asked_part a.records.list ask) }
 
-abbrev added_to_part : Lists → ℕ → Ask → Option ℕ → Option Record
+abbrev pub added_to_part : Lists → ℕ → Ask → Option ℕ → Option Record
 added_to_part a now ask None = None
 added_to_part a now ask (Some k) = added (part_list a k) (shard_list a.records.list (part_list a k) now ask)
 
@@ -105,7 +105,7 @@ pub record Asks (a b : Lists) (now : ℕ) (ask : Ask) (r : Reply) : Type 0 where
   pub mends : AllMended a mended
   pub turn : Turn mended b now ask r
 
-abbrev Goes : Lists → Lists → Item → Reply → Type 0
+abbrev pub Goes : Lists → Lists → Item → Reply → Type 0
 Goes a b (Unread place rule) r = (r ≡ reply.Refused (refusal.Malformed place rule)) × (b ≡ a)
 Goes a b (Asking now ask) r = Asks a b now ask r
 

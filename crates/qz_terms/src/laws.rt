@@ -1,9 +1,30 @@
 //! What the definitions of records and answers mean.
 
-ghost use Rattle.qz_terms.specs.Laws.{NotedChangesNothing};
+ghost use Rattle.qz_terms.specs.Laws.{AddsNothing, AnsweredHere, NotedChangesNothing, SameBoundChangesNothing};
 
 /// A record of a step that was the same as before changes no step, bound, state, mark, total or grade.
 pub fn noted_changes_nothing()
     ensures { NotedChangesNothing }
+{
+}
+
+/// A request that is refused, one that repeats a kept one, and one that puts no record leave a shard's list as it
+/// was.
+pub fn adds_nothing()
+    ensures { AddsNothing }
+{
+}
+
+/// The answer over the catalogue and a shard is that over the shard's list alone, with the user and the plan that
+/// the catalogue gives.
+pub fn answered_here()
+    ensures { AnsweredHere }
+{
+}
+
+/// A job that binds the version and the max mark that are bound already changes neither the state nor the mark of
+/// the slot.
+pub fn same_bound_changes_nothing()
+    ensures { SameBoundChangesNothing }
 {
 }
