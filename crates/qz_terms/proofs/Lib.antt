@@ -3,3 +3,4 @@ pub mod Noted
 pub mod Adding
 pub mod Joined
 pub mod Rebinding
+pub mod Saving

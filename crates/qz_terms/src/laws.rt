@@ -1,6 +1,6 @@
 //! What the definitions of records and answers mean.
 
-ghost use Rattle.qz_terms.specs.Laws.{AddsNothing, AnsweredHere, NotedChangesNothing, SameBoundChangesNothing};
+ghost use Rattle.qz_terms.specs.Laws.{AddsNothing, AnsweredHere, NotedChangesNothing, SameBoundChangesNothing, SaveKeepsTheEnd};
 
 /// A record of a step that was the same as before changes no step, bound, state, mark, total or grade.
 pub fn noted_changes_nothing()
@@ -26,5 +26,11 @@ pub fn answered_here()
 /// the slot.
 pub fn same_bound_changes_nothing()
     ensures { SameBoundChangesNothing }
+{
+}
+
+/// A response that is saved behind the end of a slot changes neither its mark nor its state.
+pub fn save_keeps_the_end()
+    ensures { SaveKeepsTheEnd }
 {
 }
