@@ -4,3 +4,4 @@ pub mod Adding
 pub mod Joined
 pub mod Rebinding
 pub mod Saving
+pub mod Highest

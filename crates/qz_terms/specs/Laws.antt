@@ -1,5 +1,5 @@
 -- What the definitions have to mean: facts that hold of all lists.
-use Rattle.std.specs.Prelude.{◌≡◌, ℕ, max, true, List, [], ◌∷◌, ◌++◌, ℤ, Some, None, Option}
+use Rattle.std.specs.Prelude.{◌≡◌, ℕ, max, true, List, [], ◌∷◌, ◌++◌, ℤ, pos, ◌≤ℤ◌, Some, None, Option}
 use Rattle.qz_grading.specs.declared.outcome.Behaviour.{Behaviour}
 use Rattle.qz_grading.specs.declared.question.Question.{Question}
 use Rattle.qz_grading.specs.declared.refusal.AttemptId.{AttemptId}
@@ -10,6 +10,7 @@ use Rattle.qz_grading.specs.declared.response.Step.TheVariants as step
 use Rattle.qz_grading.specs.Behaviours.{has_ended}
 use Rattle.qz_grading.specs.Slots.{slot_mark, slot_state}
 use Rattle.qz_terms.specs.declared.ask.Ask.{Ask}
+use Rattle.qz_terms.specs.declared.grades.Method.TheVariants as method
 use Rattle.qz_terms.specs.declared.grades.Policy.{Policy}
 use Rattle.qz_terms.specs.declared.people.Caller.{Caller}
 use Rattle.qz_terms.specs.declared.people.User.{User}
@@ -24,6 +25,7 @@ use Rattle.qz_terms.specs.Answer.{answer, answer_here, first_refusal, list_after
 use Rattle.qz_terms.specs.Catalog as catalog
 use Rattle.qz_terms.specs.Cause.{Repeated, verdict_here}
 use Rattle.qz_terms.specs.History as history
+use Rattle.qz_terms.specs.Rows.{row_of}
 
 -- A record of a step that was the same as before changes no reading of an attempt and no grade.
 abbrev pub noted : Record → AttemptId → ℕ → Step → Record
@@ -67,3 +69,7 @@ pub record AnsweredHere : Type 0 where
       → answer c h now (record { caller = who; key = key; request = x }) ≡ answer_here h now user plan (record { caller = who; key = key; request = x })
   pub list : (c h : List Record) (now : ℕ) (who : Caller) (key : Option (List ℕ)) (x : Request) (user : User) (plan : Plan) → catalog.user_of c who ≡ Some user → first_refusal c user x ≡ None → plan_for c h user x ≡ Some plan
       → shard_list c h now (record { caller = who; key = key; request = x }) ≡ list_after h now user plan (record { caller = who; key = key; request = x })
+
+-- The grade by the highest total is at least that of each attempt's total alone.
+pub record HighestIsHighest : Type 0 where
+  pub row : (policy : Policy) (front rest : List (Option ℤ)) (t g alone : ℤ) → policy.method ≡ method.Highest → pos 0 ≤ℤ policy.grade → row_of policy (front ++ Some t ∷ rest) ≡ Some g → row_of policy (Some t ∷ []) ≡ Some alone → alone ≤ℤ g

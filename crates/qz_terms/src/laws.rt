@@ -1,6 +1,6 @@
 //! What the definitions of records and answers mean.
 
-ghost use Rattle.qz_terms.specs.Laws.{AddsNothing, AnsweredHere, NotedChangesNothing, SameBoundChangesNothing, SaveKeepsTheEnd};
+ghost use Rattle.qz_terms.specs.Laws.{AddsNothing, AnsweredHere, HighestIsHighest, NotedChangesNothing, SameBoundChangesNothing, SaveKeepsTheEnd};
 
 /// A record of a step that was the same as before changes no step, bound, state, mark, total or grade.
 pub fn noted_changes_nothing()
@@ -32,5 +32,11 @@ pub fn same_bound_changes_nothing()
 /// A response that is saved behind the end of a slot changes neither its mark nor its state.
 pub fn save_keeps_the_end()
     ensures { SaveKeepsTheEnd }
+{
+}
+
+/// The grade by the highest total is at least that of each attempt's total alone.
+pub fn highest_is_highest()
+    ensures { HighestIsHighest }
 {
 }
