@@ -23,3 +23,5 @@ pub mod ExampleReview
 pub mod Legal
 pub mod Serial
 pub mod Laws
+pub mod Worlds
+pub mod ExampleSchedule
