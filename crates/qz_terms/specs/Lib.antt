@@ -25,3 +25,5 @@ pub mod Serial
 pub mod Laws
 pub mod Worlds
 pub mod ExampleSchedule
+pub mod ExampleAccess
+pub mod ExampleBank
