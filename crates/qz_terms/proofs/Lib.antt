@@ -5,3 +5,4 @@ pub mod Joined
 pub mod Rebinding
 pub mod Saving
 pub mod Highest
+pub mod Isolated

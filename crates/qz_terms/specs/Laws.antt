@@ -1,5 +1,6 @@
 -- What the definitions have to mean: facts that hold of all lists.
-use Rattle.std.specs.Prelude.{◌≡◌, ℕ, max, true, List, [], ◌∷◌, ◌++◌, ℤ, pos, ◌≤ℤ◌, Some, None, Option}
+use Rattle.std.specs.List.{list_all}
+use Rattle.std.specs.Prelude.{◌≡◌, ℕ, max, true, List, [], ◌∷◌, ◌++◌, map, ℤ, pos, ◌≤ℤ◌, Some, None, filter, Option}
 use Rattle.qz_grading.specs.declared.outcome.Behaviour.{Behaviour}
 use Rattle.qz_grading.specs.declared.question.Question.{Question}
 use Rattle.qz_grading.specs.declared.refusal.AttemptId.{AttemptId}
@@ -16,6 +17,7 @@ use Rattle.qz_terms.specs.declared.people.Caller.{Caller}
 use Rattle.qz_terms.specs.declared.people.User.{User}
 use Rattle.qz_terms.specs.declared.plan.Bound.{Bound}
 use Rattle.qz_terms.specs.declared.plan.Plan.{Plan}
+use Rattle.qz_terms.specs.declared.record.Event.{Event}
 use Rattle.qz_terms.specs.declared.record.Event.TheVariants as event
 use Rattle.qz_terms.specs.declared.record.Learned.{Learned}
 use Rattle.qz_terms.specs.declared.record.Record.{Record}
@@ -25,6 +27,7 @@ use Rattle.qz_terms.specs.Answer.{answer, answer_here, first_refusal, list_after
 use Rattle.qz_terms.specs.Catalog as catalog
 use Rattle.qz_terms.specs.Cause.{Repeated, verdict_here}
 use Rattle.qz_terms.specs.History as history
+use Rattle.qz_terms.specs.Legal.{has_its_owner}
 use Rattle.qz_terms.specs.Rows.{row_of}
 
 -- A record of a step that was the same as before changes no reading of an attempt and no grade.
@@ -73,3 +76,38 @@ pub record AnsweredHere : Type 0 where
 -- The grade by the highest total is at least that of each attempt's total alone.
 pub record HighestIsHighest : Type 0 where
   pub row : (policy : Policy) (front rest : List (Option ℤ)) (t g alone : ℤ) → policy.method ≡ method.Highest → pos 0 ≤ℤ policy.grade → row_of policy (front ++ Some t ∷ rest) ≡ Some g → row_of policy (Some t ∷ []) ≡ Some alone → alone ≤ℤ g
+
+-- ---- what a student's readings depend on
+
+-- a record without the versions that its shard learned by it
+abbrev pub unlearned_event : Event → Event
+unlearned_event (event.Started quiz nth behaviour bounds learned) = event.Started quiz nth behaviour bounds []
+unlearned_event (event.Rebound job a k bound learned) = event.Rebound job a k bound []
+unlearned_event e = e
+
+abbrev pub unlearned : Record → Record
+unlearned r = record r { event = unlearned_event r.event }
+
+abbrev pub own_records : ℕ → List Record → List Record
+own_records u h = map unlearned (filter (history.is_owned u) h)
+
+-- Two lists, each record of which has its owner, have the same records of a user but for what was learned, and give the
+-- same question for each version that is bound in an attempt of this user.
+pub record AgreeFor (index count u : ℕ) (h g : List Record) : Type 0 where
+  pub owners : list_all (has_its_owner index count) h ≡ true
+  pub others : list_all (has_its_owner index count) g ≡ true
+  pub own : own_records u h ≡ own_records u g
+  pub versions : (a : AttemptId) (k : ℕ) (b : Bound) → a.user ≡ u → history.bound h a k ≡ Some b → history.version h b.entry b.version ≡ history.version g b.entry b.version
+
+-- Then all that is read of this user's attempts is the same, whatever the records of others are.
+pub record OwnReadingsAgree : Type 0 where
+  pub place : (index count u : ℕ) (h g : List Record) → AgreeFor index count u h g → history.place h u ≡ history.place g u
+  pub time : (index count u now : ℕ) (h g : List Record) → AgreeFor index count u h g → history.time h u now ≡ history.time g u now
+  pub start : (index count : ℕ) (a : AttemptId) (h g : List Record) → AgreeFor index count a.user h g → history.start h a ≡ history.start g a
+  pub ended : (index count : ℕ) (a : AttemptId) (h g : List Record) → AgreeFor index count a.user h g → history.ended h a ≡ history.ended g a
+  pub bound : (index count : ℕ) (a : AttemptId) (k : ℕ) (h g : List Record) → AgreeFor index count a.user h g → history.bound h a k ≡ history.bound g a k
+  pub steps : (index count : ℕ) (a : AttemptId) (k : ℕ) (h g : List Record) → AgreeFor index count a.user h g → history.steps h a k ≡ history.steps g a k
+  pub state : (index count : ℕ) (a : AttemptId) (k : ℕ) (h g : List Record) → AgreeFor index count a.user h g → history.state h a k ≡ history.state g a k
+  pub mark : (index count : ℕ) (a : AttemptId) (k : ℕ) (h g : List Record) → AgreeFor index count a.user h g → history.mark h a k ≡ history.mark g a k
+  pub total : (index count : ℕ) (a : AttemptId) (h g : List Record) → AgreeFor index count a.user h g → history.total h a ≡ history.total g a
+  pub attempts : (index count q u : ℕ) (h g : List Record) → AgreeFor index count u h g → history.attempts h q u ≡ history.attempts g q u

@@ -1,6 +1,6 @@
 //! What the definitions of records and answers mean.
 
-ghost use Rattle.qz_terms.specs.Laws.{AddsNothing, AnsweredHere, HighestIsHighest, NotedChangesNothing, SameBoundChangesNothing, SaveKeepsTheEnd};
+ghost use Rattle.qz_terms.specs.Laws.{AddsNothing, AnsweredHere, HighestIsHighest, NotedChangesNothing, OwnReadingsAgree, SameBoundChangesNothing, SaveKeepsTheEnd};
 
 /// A record of a step that was the same as before changes no step, bound, state, mark, total or grade.
 pub fn noted_changes_nothing()
@@ -38,5 +38,12 @@ pub fn save_keeps_the_end()
 /// The grade by the highest total is at least that of each attempt's total alone.
 pub fn highest_is_highest()
     ensures { HighestIsHighest }
+{
+}
+
+/// What is read of a user's attempts depends on this user's own records and on the versions bound in them, whatever
+/// the records of others are.
+pub fn own_readings_agree()
+    ensures { OwnReadingsAgree }
 {
 }
