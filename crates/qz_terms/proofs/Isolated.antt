@@ -1,20 +1,22 @@
 -- What is read of a user's attempts depends on this user's own records, and on the versions bound in them.
-use Rattle.std.proofs.Common.{◌≡◌, ℕ, suc, Bool, true, false, ◌&&◌, List, [], ◌∷◌, ◌++◌, length, Option, Some, None, refl, ap, ◌∙◌, sym, arith, map, if◌then◌else◌}
+use Rattle.std.proofs.Common.{◌≡◌, ℕ, suc, Bool, true, false, ◌&&◌, List, [], ◌∷◌, ◌++◌, length, Option, Some, None, refl, ap, ◌∙◌, sym, subst, arith, map, if◌then◌else◌}
 use Rattle.std.specs.Prelude.{filter, filter_map, option_and_then, option_map, unwrap_or, max, ◌==◌}
 use Rattle.std.specs.List.{list_all, cons_option}
 use Rattle.std.proofs.lemmas.Bool.Decides.{nat_tests}
+use Rattle.qz_grading.specs.declared.outcome.Behaviour.{Behaviour}
 use Rattle.qz_grading.specs.declared.outcome.State.TheVariants.{Todo}
 use Rattle.qz_grading.specs.declared.question.Question.{Question}
 use Rattle.qz_grading.specs.declared.refusal.AttemptId.{AttemptId}
 use Rattle.qz_grading.specs.declared.response.Step.{Step}
 use Rattle.qz_grading.specs.Steps.{last_of}
+use Rattle.qz_terms.specs.declared.grades.Policy.{Policy}
 use Rattle.qz_terms.specs.declared.plan.Bound.{Bound}
 use Rattle.qz_terms.specs.declared.record.Event.{Event}
 use Rattle.qz_terms.specs.declared.record.Event.TheVariants as event
 use Rattle.qz_terms.specs.declared.record.How.{How}
 use Rattle.qz_terms.specs.declared.record.Record.{Record}
-use Rattle.qz_terms.specs.Lists.{first_of, in_order, only_if, places_to}
-use Rattle.qz_terms.specs.Rows.{total_of}
+use Rattle.qz_terms.specs.Lists.{first_of, in_order, only_if, placed, places_to}
+use Rattle.qz_terms.specs.Rows.{row_of, total_of}
 use Rattle.qz_terms.specs.History as history
 use Rattle.qz_terms.specs.Legal.{has_its_owner, owner_by, owner_is}
 use Rattle.qz_terms.specs.Laws.{unlearned, unlearned_event, own_records, AgreeFor, OwnReadingsAgree}
@@ -163,6 +165,90 @@ total-own : (index count : ℕ) (a : AttemptId) (h g : List Record) → AgreeFor
 total-own index count a h g agree =
     λ i. if history.ended_finished (ended-own index count a h g agree i) then total_of (map history.scored (filter_map (λ k. slot-own index count a k h g agree i) (places_to (unwrap_or (option_map (λ (s : history.Start). length s.bounds) (start-own index count a h g agree i)) 0)))) else None
 
+-- ---- the grade
+
+both : (x y : Bool) → x ≡ true → y ≡ true → (x && y) ≡ true
+both true y e f = f
+both false y e f = e
+
+all-of-placed-cons : (p : AttemptId → Bool) (before : AttemptId → AttemptId → Bool) (x y : AttemptId) (ys : List AttemptId) (b c : Bool) → before x y ≡ b → before y x ≡ c → p x ≡ true → p y ≡ true → list_all p ys ≡ true → list_all p (placed before x ys) ≡ true → list_all p (placed before x (y ∷ ys)) ≡ true
+all-of-placed-cons p before x y ys true c is other px py all rest = rw is (both (p x) (p y && list_all p ys) px (both (p y) (list_all p ys) py all))
+all-of-placed-cons p before x y ys false true is other px py all rest = rw (is, other) (both (p y) (list_all p (placed before x ys)) py rest)
+all-of-placed-cons p before x y ys false false is other px py all rest = rw (is, other) (both (p y) (list_all p ys) py all)
+
+all-of-placed : (p : AttemptId → Bool) (before : AttemptId → AttemptId → Bool) (x : AttemptId) (xs : List AttemptId) → p x ≡ true → list_all p xs ≡ true → list_all p (placed before x xs) ≡ true
+all-of-placed p before x [] px all = both (p x) true px refl
+all-of-placed p before x (y ∷ ys) px all =
+    let py = and-left (p y) (list_all p ys) all in
+    let rest = and-right (p y) (list_all p ys) all in
+    all-of-placed-cons p before x y ys (before x y) (before y x) refl refl px py rest (all-of-placed p before x ys px rest)
+
+all-of-order : (p : AttemptId → Bool) (before : AttemptId → AttemptId → Bool) (xs : List AttemptId) → list_all p xs ≡ true → list_all p (in_order before xs) ≡ true
+all-of-order p before [] all = refl
+all-of-order p before (x ∷ xs) all = all-of-placed p before x (in_order before xs) (and-left (p x) (list_all p xs) all) (all-of-order p before xs (and-right (p x) (list_all p xs) all))
+
+abbrev is_of : ℕ → AttemptId → Bool
+is_of u a = a.user == u
+
+abbrev passes : {A : Type 0} → (A → Bool) → Option A → Bool
+passes p o = unwrap_or (option_map p o) true
+
+-- an attempt that a record of a user starts is this user's
+only_if-passes : (q u quiz nth moment owner : ℕ) (b : Behaviour) (bounds : List Bound) (x y : Bool) → (owner == u) ≡ y → passes (is_of u) (option_map (λ (s : history.Start). s.attempt) (if x && y then Some (record { attempt = record { user = owner; nth = nth }; moment = moment; quiz = quiz; behaviour = b; bounds = bounds }) else None)) ≡ true
+only_if-passes q u quiz nth moment owner b bounds true true is = is
+only_if-passes q u quiz nth moment owner b bounds true false is = refl
+only_if-passes q u quiz nth moment owner b bounds false y is = refl
+
+attempt-passes : (q u : ℕ) (r : Record) (e : Event) → passes (is_of u) (attempt_of q u r e) ≡ true
+attempt-passes q u r (event.Started quiz nth behaviour bounds learned) = only_if-passes q u quiz nth r.moment r.owner behaviour bounds (quiz == q) (r.owner == u) refl
+attempt-passes q u r e = refl
+
+all-of-option : {A : Type 0} (p : A → Bool) (o : Option A) (xs : List A) → passes p o ≡ true → list_all p xs ≡ true → list_all p (cons_option o xs) ≡ true
+all-of-option p None xs one all = all
+all-of-option p (Some x) xs one all = both (p x) (list_all p xs) one all
+
+all-started : (q u : ℕ) (h : List Record) → list_all (is_of u) (filter_map (history.starts_at q u) h) ≡ true
+all-started q u [] = refl
+all-started q u (r ∷ h) = all-of-option (is_of u) (history.starts_at q u r) (filter_map (history.starts_at q u) h) (attempt-passes q u r r.event) (all-started q u h)
+
+all-attempts : (q u : ℕ) (h : List Record) → list_all (is_of u) (history.attempts h q u) ≡ true
+all-attempts q u h = all-of-order (is_of u) history.attempt_before (filter_map (history.starts_at q u) h) (all-started q u h)
+
+map-same : {A B : Type 0} (p : A → Bool) (f g : A → B) (xs : List A) → ((a : A) → p a ≡ true → f a ≡ g a) → list_all p xs ≡ true → map f xs ≡ map g xs
+map-same p f g [] same all = refl
+map-same p f g (x ∷ xs) same all = λ i. same x (and-left (p x) (list_all p xs) all) i ∷ map-same p f g xs same (and-right (p x) (list_all p xs) all) i
+
+filter-same : {A : Type 0} (p f g : A → Bool) (xs : List A) → ((a : A) → p a ≡ true → f a ≡ g a) → list_all p xs ≡ true → filter f xs ≡ filter g xs
+filter-same p f g [] same all = refl
+filter-same p f g (x ∷ xs) same all = λ i. if same x (and-left (p x) (list_all p xs) all) i then x ∷ filter-same p f g xs same (and-right (p x) (list_all p xs) all) i else filter-same p f g xs same (and-right (p x) (list_all p xs) all) i
+
+all-of-filter-cons : {A : Type 0} (p f : A → Bool) (x : A) (xs : List A) (b : Bool) → f x ≡ b → p x ≡ true → list_all p (filter f xs) ≡ true → list_all p (filter f (x ∷ xs)) ≡ true
+all-of-filter-cons p f x xs true is px all = rw is (both (p x) (list_all p (filter f xs)) px all)
+all-of-filter-cons p f x xs false is px all = rw is all
+
+all-of-filter : {A : Type 0} (p f : A → Bool) (xs : List A) → list_all p xs ≡ true → list_all p (filter f xs) ≡ true
+all-of-filter p f [] all = refl
+all-of-filter p f (x ∷ xs) all = all-of-filter-cons p f x xs (f x) refl (and-left (p x) (list_all p xs) all) (all-of-filter p f xs (and-right (p x) (list_all p xs) all))
+
+same-user : (a u : ℕ) → (a == u) ≡ true → u ≡ a
+same-user a u is = grind (arith, nat_tests)
+
+-- what agrees for a user agrees for this user's attempts
+agree-at : (index count u : ℕ) (a : AttemptId) (h g : List Record) → AgreeFor index count u h g → is_of u a ≡ true → AgreeFor index count a.user h g
+agree-at index count u a h g agree is = let P : ℕ → Type 0 = λ n. AgreeFor index count n h g in subst P (same-user a.user u is) agree
+
+finished-own : (index count : ℕ) (a : AttemptId) (h g : List Record) → AgreeFor index count a.user h g → history.is_finished h a ≡ history.is_finished g a
+finished-own index count a h g agree = ap history.ended_finished (ended-own index count a h g agree)
+
+row-own : (index count q : ℕ) (policy : Policy) (u : ℕ) (h g : List Record) → AgreeFor index count u h g → history.row h q policy u ≡ history.row g q policy u
+row-own index count q policy u h g agree =
+    let own = all-attempts q u h in
+    ap (row_of policy) (
+        map-same (is_of u) (history.total h) (history.total g) (filter (history.is_finished h) (history.attempts h q u)) (λ a is. total-own index count a h g (agree-at index count u a h g agree is)) (all-of-filter (is_of u) (history.is_finished h) (history.attempts h q u) own)
+        ∙ ap (map (history.total g)) (
+            filter-same (is_of u) (history.is_finished h) (history.is_finished g) (history.attempts h q u) (λ a is. finished-own index count a h g (agree-at index count u a h g agree is)) own
+            ∙ ap (filter (history.is_finished g)) (attempts-own index count q u h g agree)))
+
 pub isolated_law : OwnReadingsAgree
 isolated_law = record {
     place = place-own;
@@ -175,4 +261,5 @@ isolated_law = record {
     mark = λ index count a k h g agree. ap (λ (s : Option history.Slot). option_and_then history.mark_in s) (slot-own index count a k h g agree);
     total = total-own;
     attempts = attempts-own;
+    row = row-own;
 }

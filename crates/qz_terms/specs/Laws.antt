@@ -111,3 +111,4 @@ pub record OwnReadingsAgree : Type 0 where
   pub mark : (index count : ℕ) (a : AttemptId) (k : ℕ) (h g : List Record) → AgreeFor index count a.user h g → history.mark h a k ≡ history.mark g a k
   pub total : (index count : ℕ) (a : AttemptId) (h g : List Record) → AgreeFor index count a.user h g → history.total h a ≡ history.total g a
   pub attempts : (index count q u : ℕ) (h g : List Record) → AgreeFor index count u h g → history.attempts h q u ≡ history.attempts g q u
+  pub row : (index count q : ℕ) (policy : Policy) (u : ℕ) (h g : List Record) → AgreeFor index count u h g → history.row h q policy u ≡ history.row g q policy u
