@@ -1,16 +1,11 @@
 -- What leaves a list as it was, and the answer over both lists as that over one.
-use Rattle.std.proofs.Common.{◌≡◌, ℕ, Bool, true, false, List, [], ◌∷◌, ◌++◌, Option, Some, None, refl, ap, ◌∙◌, append-nil}
-use Rattle.std.specs.Prelude.{option_map, option_to_list}
+use Rattle.std.proofs.Common.{◌≡◌, ℕ, List, Option, Some, None, refl, append-nil}
 use Rattle.qz_grading.specs.declared.refusal.Refusal.{Refusal}
-use Rattle.qz_terms.specs.declared.ask.Ask.{Ask}
-use Rattle.qz_terms.specs.declared.people.User.{User}
-use Rattle.qz_terms.specs.declared.plan.Plan.{Plan}
 use Rattle.qz_terms.specs.declared.record.Record.{Record}
-use Rattle.qz_terms.specs.declared.reply.Reply.{Reply}
 use Rattle.qz_terms.specs.declared.reply.Reply.TheVariants as reply
 use Rattle.qz_terms.specs.declared.reply.Done.{Done}
 use Rattle.qz_terms.specs.Cause.{Verdict, Denied, Repeated, Granted, verdict_here}
-use Rattle.qz_terms.specs.Answer.{answer_here, list_after, put_here, looked, moment_of, reply_to, list_with, said_of_put}
+use Rattle.qz_terms.specs.Answer.{put_here, moment_of, reply_to, list_with, said_of_put}
 use Rattle.qz_terms.specs.Laws.{AddsNothing}
 
 -- an accepted reply is no refusal
@@ -33,7 +28,7 @@ nothing-list Granted h (Some s) e = absurd cc
 
 pub adding_law : AddsNothing
 adding_law = record {
-    refused = λ h now user plan ask r e. refused-list (verdict_here h (moment_of h now user ask.request) user plan ask) h (put_here h (moment_of h now user ask.request) user plan ask) _ _ r e;
-    repeated = λ h now user plan ask l r e. repeated-list (verdict_here h (moment_of h now user ask.request) user plan ask) h (put_here h (moment_of h now user ask.request) user plan ask) l r e;
-    looked = λ h now user plan ask e. nothing-list (verdict_here h (moment_of h now user ask.request) user plan ask) h (put_here h (moment_of h now user ask.request) user plan ask) e;
+  refused = λ h now user plan ask r e. refused-list (verdict_here h (moment_of h now user ask.request) user plan ask) h (put_here h (moment_of h now user ask.request) user plan ask) _ _ r e;
+  repeated = λ h now user plan ask l r e. repeated-list (verdict_here h (moment_of h now user ask.request) user plan ask) h (put_here h (moment_of h now user ask.request) user plan ask) l r e;
+  looked = λ h now user plan ask e. nothing-list (verdict_here h (moment_of h now user ask.request) user plan ask) h (put_here h (moment_of h now user ask.request) user plan ask) e;
 }

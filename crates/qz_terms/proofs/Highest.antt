@@ -1,5 +1,5 @@
 -- The grade by the highest total is at least that of each total alone: a greater total has no lesser grade.
-use Rattle.std.proofs.Common.{◌≡◌, ℕ, zero, suc, ◌+◌, ◌*◌, ◌/◌, ◌<◌, ◌≤◌, List, [], ◌∷◌, ◌++◌, Option, Some, None, ℤ, pos, negsuc, neg_ℤ, ◌+ℤ◌, ◌*ℤ◌, refl, ap, ◌∙◌, sym, arith, length}
+use Rattle.std.proofs.Common.{◌≡◌, ℕ, zero, suc, ◌+◌, ◌*◌, ◌/◌, ◌<◌, ◌≤◌, List, [], ◌∷◌, ◌++◌, Option, Some, ℤ, pos, negsuc, ◌+ℤ◌, ◌*ℤ◌, ap, ◌∙◌, sym, arith}
 use Rattle.std.specs.Prelude.{◌≤ℤ◌, filter_map, fold, option_to_list}
 use Rattle.std.specs.Int.{int_max}
 use Rattle.std.proofs.lemmas.Int.{ints, int_max_is}
@@ -10,7 +10,7 @@ use Rattle.qz_decimal.specs.Numbers.{nearest_natural, nearest, grade_of}
 use Rattle.qz_terms.specs.declared.grades.Method.{Method}
 use Rattle.qz_terms.specs.declared.grades.Method.TheVariants as method
 use Rattle.qz_terms.specs.declared.grades.Policy.{Policy}
-use Rattle.qz_terms.specs.Rows.{row_of, greatest_total, graded_by, totals_taken, sum_of}
+use Rattle.qz_terms.specs.Rows.{row_of, greatest_total, graded_by}
 use Rattle.qz_terms.specs.Laws.{HighestIsHighest}
 
 -- ---- the nearest quotient doesn't fall

@@ -1,5 +1,5 @@
 -- What is read of a user's attempts depends on this user's own records, and on the versions bound in them.
-use Rattle.std.proofs.Common.{◌≡◌, ℕ, suc, Bool, true, false, ◌&&◌, List, [], ◌∷◌, ◌++◌, length, Option, Some, None, refl, ap, ◌∙◌, sym, subst, arith, map, if◌then◌else◌}
+use Rattle.std.proofs.Common.{◌≡◌, ℕ, suc, Bool, true, false, ◌&&◌, List, [], ◌∷◌, length, Option, Some, None, refl, ap, ◌∙◌, sym, subst, arith, map, if◌then◌else◌}
 use Rattle.std.specs.Prelude.{filter, filter_map, option_and_then, option_map, unwrap_or, max, ◌==◌}
 use Rattle.std.specs.List.{list_all, cons_option}
 use Rattle.std.proofs.lemmas.Bool.Decides.{nat_tests}
@@ -13,13 +13,12 @@ use Rattle.qz_terms.specs.declared.grades.Policy.{Policy}
 use Rattle.qz_terms.specs.declared.plan.Bound.{Bound}
 use Rattle.qz_terms.specs.declared.record.Event.{Event}
 use Rattle.qz_terms.specs.declared.record.Event.TheVariants as event
-use Rattle.qz_terms.specs.declared.record.How.{How}
 use Rattle.qz_terms.specs.declared.record.Record.{Record}
 use Rattle.qz_terms.specs.Lists.{first_of, in_order, only_if, placed, places_to}
 use Rattle.qz_terms.specs.Rows.{row_of, total_of}
 use Rattle.qz_terms.specs.History as history
 use Rattle.qz_terms.specs.Legal.{has_its_owner, owner_by, owner_is}
-use Rattle.qz_terms.specs.Laws.{unlearned, unlearned_event, own_records, AgreeFor, OwnReadingsAgree}
+use Rattle.qz_terms.specs.Laws.{unlearned, unlearned_event, AgreeFor, OwnReadingsAgree}
 
 and-left : (x y : Bool) → (x && y) ≡ true → x ≡ true
 and-left true y e = refl
@@ -244,22 +243,22 @@ row-own : (index count q : ℕ) (policy : Policy) (u : ℕ) (h g : List Record) 
 row-own index count q policy u h g agree =
     let own = all-attempts q u h in
     ap (row_of policy) (
-        map-same (is_of u) (history.total h) (history.total g) (filter (history.is_finished h) (history.attempts h q u)) (λ a is. total-own index count a h g (agree-at index count u a h g agree is)) (all-of-filter (is_of u) (history.is_finished h) (history.attempts h q u) own)
-        ∙ ap (map (history.total g)) (
-            filter-same (is_of u) (history.is_finished h) (history.is_finished g) (history.attempts h q u) (λ a is. finished-own index count a h g (agree-at index count u a h g agree is)) own
-            ∙ ap (filter (history.is_finished g)) (attempts-own index count q u h g agree)))
+    map-same (is_of u) (history.total h) (history.total g) (filter (history.is_finished h) (history.attempts h q u)) (λ a is. total-own index count a h g (agree-at index count u a h g agree is)) (all-of-filter (is_of u) (history.is_finished h) (history.attempts h q u) own)
+    ∙ ap (map (history.total g)) (
+    filter-same (is_of u) (history.is_finished h) (history.is_finished g) (history.attempts h q u) (λ a is. finished-own index count a h g (agree-at index count u a h g agree is)) own
+    ∙ ap (filter (history.is_finished g)) (attempts-own index count q u h g agree)))
 
 pub isolated_law : OwnReadingsAgree
 isolated_law = record {
-    place = place-own;
-    time = time-own;
-    start = start-own;
-    ended = ended-own;
-    bound = bound-own;
-    steps = steps-own;
-    state = λ index count a k h g agree. ap (λ (s : Option history.Slot). unwrap_or (option_map history.state_of s) Todo) (slot-own index count a k h g agree);
-    mark = λ index count a k h g agree. ap (λ (s : Option history.Slot). option_and_then history.mark_in s) (slot-own index count a k h g agree);
-    total = total-own;
-    attempts = attempts-own;
-    row = row-own;
+  place = place-own;
+  time = time-own;
+  start = start-own;
+  ended = ended-own;
+  bound = bound-own;
+  steps = steps-own;
+  state = λ index count a k h g agree. ap (λ (s : Option history.Slot). unwrap_or (option_map history.state_of s) Todo) (slot-own index count a k h g agree);
+  mark = λ index count a k h g agree. ap (λ (s : Option history.Slot). option_and_then history.mark_in s) (slot-own index count a k h g agree);
+  total = total-own;
+  attempts = attempts-own;
+  row = row-own;
 }

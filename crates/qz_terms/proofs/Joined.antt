@@ -1,5 +1,5 @@
 -- The answer over both lists is that over the shard's list, where the catalogue gives the user and the plan.
-use Rattle.std.proofs.Common.{◌≡◌, ℕ, List, [], ◌∷◌, Option, Some, None, refl, ap, ◌∙◌}
+use Rattle.std.proofs.Common.{◌≡◌, ℕ, List, Option, Some, refl}
 use Rattle.qz_terms.specs.declared.ask.Ask.{Ask}
 use Rattle.qz_terms.specs.declared.people.Caller.{Caller}
 use Rattle.qz_terms.specs.declared.people.User.{User}
@@ -7,8 +7,7 @@ use Rattle.qz_terms.specs.declared.plan.Plan.{Plan}
 use Rattle.qz_terms.specs.declared.record.Record.{Record}
 use Rattle.qz_terms.specs.declared.request.Request.{Request}
 use Rattle.qz_terms.specs.declared.request.Request.TheVariants as request
-use Rattle.qz_terms.specs.Answer.{answer, answer_here, list_after, shard_list, first_refusal, plan_for, answer_by, after_by}
-use Rattle.qz_terms.specs.Catalog as catalog
+use Rattle.qz_terms.specs.Answer.{answer_here, list_after, plan_for, answer_by, after_by}
 use Rattle.qz_terms.specs.Laws.{AnsweredHere}
 
 abbrev asking : Caller → Option (List ℕ) → Request → Ask
@@ -80,6 +79,6 @@ after-plan l h now who key (request.Bank a b) user plan e = absurd cc
 
 pub joined_law : AnsweredHere
 joined_law = record {
-    reply = λ c h now who key x user plan found free planned. rw (found, free) (by-plan c h now who key x user plan planned);
-    list = λ c h now who key x user plan found free planned. rw (found, free) (after-plan c h now who key x user plan planned);
+  reply = λ c h now who key x user plan found free planned. rw (found, free) (by-plan c h now who key x user plan planned);
+  list = λ c h now who key x user plan found free planned. rw (found, free) (after-plan c h now who key x user plan planned);
 }

@@ -1,15 +1,12 @@
 -- A noted record changes no reading.
-use Rattle.std.proofs.Common.{◌≡◌, ℕ, Bool, List, [], ◌∷◌, ◌++◌, Option, Some, None, refl, ap, ◌∙◌, if◌then◌else◌}
-use Rattle.std.specs.Prelude.{filter_map, filter, map, option_and_then, option_map, unwrap_or, is_some, ℤ, length}
-use Rattle.qz_grading.specs.declared.outcome.State.{State}
+use Rattle.std.proofs.Common.{◌≡◌, ℕ, List, [], ◌∷◌, ◌++◌, Option, None, refl, ap, if◌then◌else◌}
+use Rattle.std.specs.Prelude.{filter_map, filter, map, option_and_then, option_map, unwrap_or, length}
 use Rattle.qz_grading.specs.declared.outcome.State.TheVariants.{Todo}
-use Rattle.qz_grading.specs.declared.question.Question.{Question}
 use Rattle.qz_grading.specs.declared.refusal.AttemptId.{AttemptId}
 use Rattle.qz_grading.specs.declared.response.Step.{Step}
 use Rattle.qz_grading.specs.Steps.{last_of}
 use Rattle.qz_terms.specs.declared.grades.Policy.{Policy}
 use Rattle.qz_terms.specs.declared.plan.Bound.{Bound}
-use Rattle.qz_terms.specs.declared.record.How.{How}
 use Rattle.qz_terms.specs.declared.record.Record.{Record}
 use Rattle.qz_terms.specs.Lists.{first_of, in_order, places_to}
 use Rattle.qz_terms.specs.Rows.{row_of, total_of}
@@ -55,10 +52,10 @@ row-noted h r b j x q u policy = λ i. row_of policy (map (λ a. total-noted h r
 
 pub noted_law : NotedChangesNothing
 noted_law = record {
-    steps = steps-noted;
-    bound = bound-noted;
-    state = λ h r b j x a k. ap (λ (s : Option history.Slot). unwrap_or (option_map history.state_of s) Todo) (slot-noted h r b j x a k);
-    mark = λ h r b j x a k. ap (λ (s : Option history.Slot). option_and_then history.mark_in s) (slot-noted h r b j x a k);
-    total = total-noted;
-    row = row-noted;
+  steps = steps-noted;
+  bound = bound-noted;
+  state = λ h r b j x a k. ap (λ (s : Option history.Slot). unwrap_or (option_map history.state_of s) Todo) (slot-noted h r b j x a k);
+  mark = λ h r b j x a k. ap (λ (s : Option history.Slot). option_and_then history.mark_in s) (slot-noted h r b j x a k);
+  total = total-noted;
+  row = row-noted;
 }

@@ -1,5 +1,5 @@
 -- A job that binds again what is bound changes nothing of the slot.
-use Rattle.std.proofs.Common.{◌≡◌, ℕ, Bool, true, List, [], ◌∷◌, ◌++◌, Option, Some, None, refl, ap, ◌∙◌, sym, if◌then◌else◌, arith}
+use Rattle.std.proofs.Common.{◌≡◌, ℕ, true, List, [], ◌∷◌, ◌++◌, Option, Some, None, refl, ap, ◌∙◌, sym, arith}
 use Rattle.std.specs.Prelude.{filter_map, option_and_then, option_map, unwrap_or, ◌==◌}
 use Rattle.qz_grading.specs.declared.outcome.State.TheVariants.{Todo}
 use Rattle.qz_grading.specs.declared.question.Question.{Question}
@@ -44,8 +44,9 @@ version-rebound h r job a k b learned e v q known = ap first_of (filter_map-appe
 -- a slot by its start, what is bound to it, its steps and its question
 slot-known : (h : List Record) (a : AttemptId) (k : ℕ) (b : Bound) (q : Question) → history.bound h a k ≡ Some b → history.version h b.entry b.version ≡ Some q → history.slot h a k ≡ option_map (λ s. history.slot_with s b (history.steps h a k) q) (history.start h a)
 slot-known h a k b q bound_is version_is = elim (history.start h a) as (λ s. option_and_then (λ t. option_and_then (λ (d : Bound). option_map (history.slot_with t d (history.steps h a k)) (history.version h d.entry d.version)) (history.bound h a k)) s ≡ option_map (λ t. history.slot_with t b (history.steps h a k) q) s) [
-    None ↦ refl
-  | Some s ↦ rw (bound_is, version_is) refl ]
+  | None ↦ refl
+  | Some s ↦ rw (bound_is, version_is) refl
+]
 
 -- what the bound's place in the catalogue doesn't tell
 state-of-some : (o : Option history.Start) (b : Bound) (position : ℕ) (taken : List Step) (q : Question) → unwrap_or (option_map history.state_of (option_map (λ s. history.slot_with s (later_bound b position) taken q) o)) Todo ≡ unwrap_or (option_map history.state_of (option_map (λ s. history.slot_with s b taken q) o)) Todo
@@ -65,12 +66,12 @@ slot-rebound h r job position a k b learned q version_is =
 
 pub rebinding_law : SameBoundChangesNothing
 rebinding_law = record {
-    state = λ h r job position a k b learned q bound_is version_is.
-        ap (λ (s : Option history.Slot). unwrap_or (option_map history.state_of s) Todo) (slot-rebound h r job position a k b learned q version_is)
-        ∙ state-of-some (history.start h a) b position (history.steps h a k) q
-        ∙ ap (λ (s : Option history.Slot). unwrap_or (option_map history.state_of s) Todo) (sym (slot-known h a k b q bound_is version_is));
-    mark = λ h r job position a k b learned q bound_is version_is.
-        ap (λ (s : Option history.Slot). option_and_then history.mark_in s) (slot-rebound h r job position a k b learned q version_is)
-        ∙ mark-of-some (history.start h a) b position (history.steps h a k) q
-        ∙ ap (λ (s : Option history.Slot). option_and_then history.mark_in s) (sym (slot-known h a k b q bound_is version_is));
+  state = λ h r job position a k b learned q bound_is version_is.
+      ap (λ (s : Option history.Slot). unwrap_or (option_map history.state_of s) Todo) (slot-rebound h r job position a k b learned q version_is)
+      ∙ state-of-some (history.start h a) b position (history.steps h a k) q
+      ∙ ap (λ (s : Option history.Slot). unwrap_or (option_map history.state_of s) Todo) (sym (slot-known h a k b q bound_is version_is));
+  mark = λ h r job position a k b learned q bound_is version_is.
+      ap (λ (s : Option history.Slot). option_and_then history.mark_in s) (slot-rebound h r job position a k b learned q version_is)
+      ∙ mark-of-some (history.start h a) b position (history.steps h a k) q
+      ∙ ap (λ (s : Option history.Slot). option_and_then history.mark_in s) (sym (slot-known h a k b q bound_is version_is));
 }

@@ -1,19 +1,16 @@
 -- A response that is saved behind the end of a slot changes nothing that is shown.
-use Rattle.std.proofs.Common.{◌≡◌, ℕ, Bool, true, false, ◌||◌, ◌⊎◌, inl, inr, List, [], ◌∷◌, ◌++◌, Option, Some, None, refl, ap, ◌∙◌}
-use Rattle.std.specs.Prelude.{ℤ, filter, filter_map, find, option_map, unwrap_or, is_some}
-use Rattle.std.specs.List.{list_any, enumerate_from}
+use Rattle.std.proofs.Common.{◌≡◌, Bool, true, false, ◌||◌, ◌⊎◌, inl, inr, List, [], ◌∷◌, ◌++◌, Option, Some, None, refl, ap, ◌∙◌}
+use Rattle.std.specs.Prelude.{ℤ, filter, filter_map, option_map, unwrap_or, is_some}
 use Rattle.std.proofs.lemmas.List.Folds.{list_any-append}
 use Rattle.qz_decimal.specs.Numbers.{mark_of, rescale, fraction_of}
 use Rattle.qz_grading.specs.declared.outcome.Behaviour.{Behaviour}
 use Rattle.qz_grading.specs.declared.outcome.Behaviour.TheVariants as behaviour
-use Rattle.qz_grading.specs.declared.outcome.State.{State}
 use Rattle.qz_grading.specs.declared.question.Question.{Question}
 use Rattle.qz_grading.specs.declared.response.Response.{Response}
 use Rattle.qz_grading.specs.declared.response.Step.{Step}
 use Rattle.qz_grading.specs.declared.response.Step.TheVariants as step
-use Rattle.qz_grading.specs.Behaviours.{Standing, standing, has_ended, ends_by_try, first_handed_in, handed_in, complete_under, immediate, interactive, by_grade, tried, is_right, tries_allowed, marked, ending_try, at_finish, unfinished, interactive_finish}
-use Rattle.qz_grading.specs.Grading.{grade}
-use Rattle.qz_grading.specs.Slots.{last_given, slot_mark, slot_state}
+use Rattle.qz_grading.specs.Behaviours.{standing, has_ended, first_handed_in, handed_in, complete_under, immediate, interactive, by_grade, tried, marked, ending_try}
+use Rattle.qz_grading.specs.Slots.{last_given}
 use Rattle.qz_grading.specs.Steps.{is_finish, has_finish, before, last_of, given, submitted}
 use Rattle.qz_terms.specs.Laws.{SaveKeepsTheEnd}
 use Rattle.qz_terms.proofs.Readings.{filter_map-other}
@@ -92,6 +89,6 @@ given-saved s r = ap last_of (filter_map-other given s (step.Save r) refl)
 
 pub saving_law : SaveKeepsTheEnd
 saving_law = record {
-    mark = λ b q max s r e. λ i. unwrap_or (option_map (λ (m : ℤ × ℤ). Some (rescale m.0 m.1 max)) (given-saved s r i)) (option_map (λ f. mark_of f max) (standing-saved b q s r e i).1);
-    state = λ b q s r e. λ i. unwrap_or (option_map (λ (m : ℤ × ℤ). marked (fraction_of m.0 m.1)) (given-saved s r i)) (standing-saved b q s r e i).0;
+  mark = λ b q max s r e. λ i. unwrap_or (option_map (λ (m : ℤ × ℤ). Some (rescale m.0 m.1 max)) (given-saved s r i)) (option_map (λ f. mark_of f max) (standing-saved b q s r e i).1);
+  state = λ b q s r e. λ i. unwrap_or (option_map (λ (m : ℤ × ℤ). marked (fraction_of m.0 m.1)) (given-saved s r i)) (standing-saved b q s r e i).0;
 }

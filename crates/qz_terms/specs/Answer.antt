@@ -48,7 +48,7 @@ use Rattle.qz_terms.specs.History.{Start}
 use Rattle.qz_terms.specs.History as history
 use Rattle.qz_terms.specs.Lists.{first_of, how_many, in_order, once, up_to_first}
 use Rattle.qz_terms.specs.Parts.{part}
-use Rattle.qz_terms.specs.Visible.{shown_state, shown_value, shows_grade, shows_marks}
+use Rattle.qz_terms.specs.Review.{shown_state, shown_value, shows_grade, shows_marks}
 
 -- ---- what a start binds and learns
 

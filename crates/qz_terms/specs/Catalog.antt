@@ -247,15 +247,15 @@ questions c planned = filter_map (λ (s : Planned). version c s.entry s.version)
 -- a quiz as these records give it, under these settings
 abbrev pub plan_under : Settings → List Record → ℕ → Option Plan
 plan_under s c q = option_map (λ (named : List ℕ × Behaviour). record {
-    at = length c;
-    quiz = q;
-    name = named.0;
-    ready = is_ready c q;
-    behaviour = named.1;
-    settings = s;
-    policy = policy c q;
-    slots = slots c q;
-    questions = questions c (slots c q);
+  at = length c;
+  quiz = q;
+  name = named.0;
+  ready = is_ready c q;
+  behaviour = named.1;
+  settings = s;
+  policy = policy c q;
+  slots = slots c q;
+  questions = questions c (slots c q);
 }) (at_place (quizzes c) q)
 
 abbrev pub plan : List Record → ℕ → ℕ → Option Plan

@@ -36,7 +36,7 @@ use Rattle.qz_terms.specs.History.{Slot, Start}
 use Rattle.qz_terms.specs.History as history
 use Rattle.qz_terms.specs.Lists.{first_of, in_order, up_to_first}
 use Rattle.qz_terms.specs.Spelling.{request_bytes, spelling}
-use Rattle.qz_terms.specs.Visible.{shown_state, shows_marks}
+use Rattle.qz_terms.specs.Review.{shown_state, shows_marks}
 
 -- ---- the rules of callers
 

@@ -32,12 +32,12 @@ a_founding = refl
 -- a student saves true, under settings of a quiz that closes at 200
 abbrev saved_true : Record
 saved_true = record {
-    moment = 1;
-    caller = 2;
-    owner = 2;
-    key = Some (codes "k");
-    terms = Some (record { at = 7; settings = record { opens = 0; closes = 200; limit = 0; allowed = 1; handling = handling.GracePeriod; grace = 30; review = review.Close } });
-    event = event.Acted (record { user = 2; nth = 1 }) 1 (step.Save (record { answer = answer.Pick 1; certainty = 0 }));
+  moment = 1;
+  caller = 2;
+  owner = 2;
+  key = Some (codes "k");
+  terms = Some (record { at = 7; settings = record { opens = 0; closes = 200; limit = 0; allowed = 1; handling = handling.GracePeriod; grace = 30; review = review.Close } });
+  event = event.Acted (record { user = 2; nth = 1 }) 1 (step.Save (record { answer = answer.Pick 1; certainty = 0 }));
 }
 
 pub a_save : spelling saved_true ≡

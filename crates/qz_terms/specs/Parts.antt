@@ -19,7 +19,7 @@ use Rattle.qz_grading.specs.Steps.{last}
 use Rattle.qz_terms.specs.declared.reply.Part.{Part}
 use Rattle.qz_terms.specs.History.{Slot}
 use Rattle.qz_terms.specs.History as history
-use Rattle.qz_terms.specs.Visible.{shown_state, shown_value}
+use Rattle.qz_terms.specs.Review.{shown_state, shown_value}
 
 abbrev pub nonempty : List ℕ → Bool
 nonempty text = not (length text == 0)
@@ -59,12 +59,12 @@ hint_by o q = if o.needs_again then at_place q.hints o.tries else None
 -- a slot under its state as it is shown, with marks shown or not
 abbrev pub part_under : State → Bool → Slot → Part
 part_under s visible x = record {
-    text = x.question.text.text;
-    state = s;
-    mark = shown_value visible (history.mark_in x);
-    hint = hint_by (outcome x.behaviour x.question x.steps) x.question;
-    feedback = if shows_feedback s then feedbacks x.question (last x.steps) else [];
-    general = if shows_feedback s then x.question.general.text else [];
+  text = x.question.text.text;
+  state = s;
+  mark = shown_value visible (history.mark_in x);
+  hint = hint_by (outcome x.behaviour x.question x.steps) x.question;
+  feedback = if shows_feedback s then feedbacks x.question (last x.steps) else [];
+  general = if shows_feedback s then x.question.general.text else [];
 }
 
 abbrev pub part : Bool → Slot → Part

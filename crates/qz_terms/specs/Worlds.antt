@@ -145,8 +145,8 @@ with_visit w k v = record w { visits = slice_set w.visits k v }
 -- the ask ends with a reply; what was seen without the own record is told with it
 abbrev pub replied : World → ℕ → ℕ → Ask → Visit → Visit → Reply → World
 replied w k moment ask before after r = record w {
-    visits = slice_set w.visits k (ended_visit after);
-    told = w.told ++ record { caller = k; ask = ask; moment = moment; reply = r; records = before.records; parts = before.parts } ∷ [];
+  visits = slice_set w.visits k (ended_visit after);
+  told = w.told ++ record { caller = k; ask = ask; moment = moment; reply = r; records = before.records; parts = before.parts } ∷ [];
 }
 
 -- the ask goes on
@@ -311,9 +311,9 @@ kept_parts (h ∷ hs) (o ∷ os) = kept_with h o ∷ kept_parts hs os
 -- after a stop nobody is in an ask, holds anything or has seen anything
 abbrev pub stopped : World → Option Record → List (Option Record) → World
 stopped w kept parts = record w {
-    records = kept_with w.records kept;
-    parts = kept_parts w.parts parts;
-    visits = map (λ v. fresh_visit (length w.parts)) w.visits;
+  records = kept_with w.records kept;
+  parts = kept_parts w.parts parts;
+  visits = map (λ v. fresh_visit (length w.parts)) w.visits;
 }
 
 abbrev pub after : World → Happening → World
@@ -328,10 +328,10 @@ world w events = fold after w events
 -- a school that was loaded, with so many callers
 abbrev pub loaded : List Record → List (List Record) → ℕ → World
 loaded c parts callers = record {
-    records = record { list = c; doubt = None };
-    parts = map (λ l. record { list = l; doubt = None }) parts;
-    visits = replicate callers (fresh_visit (length parts));
-    told = [];
+  records = record { list = c; doubt = None };
+  parts = map (λ l. record { list = l; doubt = None }) parts;
+  visits = replicate callers (fresh_visit (length parts));
+  told = [];
 }
 
 -- ---- which events are possible

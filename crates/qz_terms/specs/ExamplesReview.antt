@@ -9,7 +9,7 @@ use Rattle.qz_terms.specs.declared.reply.Done.TheVariants as done
 use Rattle.qz_terms.specs.declared.reply.Reply.TheVariants as reply
 use Rattle.qz_terms.specs.declared.reply.Shown.TheVariants as shown
 use Rattle.qz_terms.specs.declared.request.Request.TheVariants as request
-use Rattle.qz_terms.specs.ExampleSchool.{School, asked_with, first_attempt, look, school, then_has, told}
+use Rattle.qz_terms.specs.ExamplesSchool.{School, asked_with, first_attempt, look, school, then_has, told}
 
 abbrev ann : List ℕ
 ann = codes "ann"

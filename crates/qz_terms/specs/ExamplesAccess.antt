@@ -9,7 +9,7 @@ use Rattle.qz_terms.specs.declared.access.Review.{Review}
 use Rattle.qz_terms.specs.declared.access.Review.TheVariants as review
 use Rattle.qz_terms.specs.declared.access.Settings.{Settings}
 use Rattle.qz_terms.specs.Access.{answer_cause, due, effective, expired, finish_cause, start_cause}
-use Rattle.qz_terms.specs.Visible.{shown_state, shows_grade, shows_marks}
+use Rattle.qz_terms.specs.Review.{shown_state, shows_grade, shows_marks}
 
 abbrev limited : ℕ → ℕ → Handling → ℕ → Settings
 limited closes limit h grace = record { opens = 50; closes = closes; limit = limit; allowed = 2; handling = h; grace = grace; review = review.Always }

@@ -16,8 +16,8 @@ use Rattle.qz_terms.specs.declared.reply.Shown.TheVariants as shown
 use Rattle.qz_terms.specs.declared.request.Request.{Request}
 use Rattle.qz_terms.specs.declared.request.Request.TheVariants as request
 use Rattle.qz_terms.specs.Catalog as catalog
-use Rattle.qz_terms.specs.ExampleFirstAttempt.{finished, saved, started}
-use Rattle.qz_terms.specs.ExampleSchool.{School, asked_with, first_attempt, look, one_of, school, then_has, told, true_false}
+use Rattle.qz_terms.specs.ExamplesFirstAttempt.{finished, saved, started}
+use Rattle.qz_terms.specs.ExamplesSchool.{School, asked_with, first_attempt, look, one_of, school, then_has, told, true_false}
 
 abbrev root : List ℕ
 root = codes "root"

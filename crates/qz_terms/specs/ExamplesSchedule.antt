@@ -6,7 +6,7 @@ use Rattle.qz_terms.specs.declared.reply.Done.TheVariants as done
 use Rattle.qz_terms.specs.declared.reply.Reply.{Reply}
 use Rattle.qz_terms.specs.declared.reply.Reply.TheVariants as reply
 use Rattle.qz_terms.specs.declared.request.Request.TheVariants as request
-use Rattle.qz_terms.specs.ExampleSchool.{asked_with, first_attempt, school}
+use Rattle.qz_terms.specs.ExamplesSchool.{asked_with, first_attempt, school}
 use Rattle.qz_terms.specs.Serial.{Held}
 use Rattle.qz_terms.specs.Worlds.{Answers, Drops, Happening, LeavesInDoubt, Mends, Stops, Told, Turns, Visit, World, loaded, world}
 
