@@ -9,6 +9,8 @@ mod saying;
 mod slot;
 mod stop;
 mod taken;
+#[cfg(test)]
+mod tests;
 mod true_false;
 
 use qz_outside::{StdSink, StdSource};

@@ -1,6 +1,6 @@
 //! The steps taken of one slot under deferred feedback.
 
-ghost use Rattle.std.specs.Prelude.{◌≡◌, ◌⊎◌, ◌<◌, ◌++◌, ◌∷◌, [], length, filter, true, false, pos, None, unwrap_or, option_copied, IfSome, IfNone, IfOk, OnOk, OnErr};
+ghost use Rattle.std.specs.Prelude.{◌≡◌, ◌⊎◌, ◌<◌, ◌++◌, ◌∷◌, [], length, filter, true, false, pos, None, unwrap_or, option_copied, if◌then◌else◌, IfSome, IfNone, IfOk, OnOk, OnErr};
 ghost use Rattle.qz_decimal.specs.Numbers.{one};
 ghost use Rattle.qz_grading.specs.Grading.{blank, same};
 ghost use Rattle.qz_grading.specs.Steps.{has_finish, is_answering, last};
@@ -43,6 +43,13 @@ impl Model for Taken {
     ghost view = { λ t. t.steps.items };
 
     ghost invariant = { IsTracked };
+}
+
+/// The state of a slot without a complete response.
+fn unanswered(finished: bool) -> State
+    ensures { result ≡ (if finished then State.GaveUp else State.Todo) }
+{
+    if finished { State::GaveUp } else { State::Todo }
 }
 
 impl Taken {
@@ -99,20 +106,10 @@ impl Taken {
         ensures unmarked { last_given self.now ≡ None }
     {
         let Some(last) = self.last() else {
-            let state = if self.finished {
-                State::GaveUp
-            } else {
-                State::Todo
-            };
-            return (state, None);
+            return (unanswered(self.finished), None);
         };
         if !complete(&slot.question, last) {
-            let state = if self.finished {
-                State::GaveUp
-            } else {
-                State::Todo
-            };
-            return (state, None);
+            return (unanswered(self.finished), None);
         }
         if !self.finished {
             return (State::Complete, None);

@@ -1,6 +1,11 @@
 pub mod Nearest
+pub mod Fronts
 pub mod DigitRuns
 pub mod Scan
 pub mod Places
 pub mod Spelled
 pub mod Complete
+pub mod Exact
+pub mod Scales
+pub mod DecimalTexts
+pub mod Weights

@@ -1,19 +1,27 @@
 //! One question and the steps taken on it: types, spellings, and what grading and behaviours mean.
 #![tactic(auto)]
 
+mod counting;
+mod fitting;
 mod grading;
+mod matching;
 mod outcome;
 mod question;
 mod refusal;
 mod response;
+mod shape;
 mod spelled;
+mod weights;
 mod words;
 
-pub use grading::same;
+pub use counting::Steps;
+pub use fitting::{complete, fits, gradable};
+pub use grading::{grade, same};
 pub use outcome::{Behaviour, Moved, Outcome, State};
 pub use question::{
     Bank, Choice, Extent, Format, Item, Kind, Num, Pair, Question, Rich, Shape, Short,
 };
 pub use refusal::{AttemptId, Refusal, Thing};
 pub use response::{Answer, Response, Step};
+pub use shape::shape_of;
 pub use spelled::Spelled;

@@ -1,0 +1,4 @@
+pub mod Computing
+pub mod Examples
+pub mod Gaps
+pub mod Patterns

@@ -1,10 +1,13 @@
-//! Texts, bytes and lists that contracts see as plain lists, copies that may want memory, and the error of
-//! that want.
+//! Texts, bytes and lists that contracts see as plain lists, typed texts and the patterns that they fit, copies
+//! that may want memory, and the error of that want.
 #![tactic(auto)]
 
 mod bytes;
 mod copy;
+mod folding;
+mod gaps;
 mod listed;
+mod matching;
 mod memory;
 mod pattern;
 mod text;

@@ -1,0 +1,201 @@
+ghost use Rattle.std.specs.Prelude.{◌<◌};
+
+use super::*;
+use qz_outside::{MemorySink, MemorySource};
+use qz_text::{Bytes, Listed};
+use std::test::Fail;
+
+const HEAD: &str = "behaviour deferredfeedback\nmax 2\npenalty 0.3333333\nhints 0\nquestion {T}\n";
+
+/// How a source or a sink works: the numbers of the calls that fail, and the most bytes that one call takes.
+#[derive(Clone, Copy)]
+struct Working {
+    failing: u64,
+    most: usize,
+    ghost some: { 0 < most },
+}
+
+const WELL: Working = Working {
+    failing: 0,
+    most: 65_536,
+};
+
+/// What came of a run: its status and what was written.
+fn run_over(
+    alloc: Global,
+    word: &str,
+    text: &[u8],
+    reading: Working,
+    writing: Working,
+) -> Result<(u8, String), NoMemory> {
+    let mut words = Vec::new(alloc);
+    words.push(Text::of(alloc, word)?)?;
+    let failing = Listed {
+        items: vec![in alloc; reading.failing; 1]?,
+    };
+    let mut source = MemorySource::new(Bytes::of(alloc, text)?, failing, reading.most);
+    let failing = Listed {
+        items: vec![in alloc; writing.failing; 1]?,
+    };
+    let mut sink = MemorySink::new(alloc, 1 << 20, failing, writing.most)?;
+    let status = run(alloc, &words, &mut source, &mut sink);
+    Ok((status, String::from_utf8_lossy(alloc, sink.bytes())?))
+}
+
+/// What a replay with these steps writes behind its first line.
+fn steps(alloc: Global, lines: &str) -> Result<(u8, String), NoMemory> {
+    let text = format!(in alloc; "{HEAD}{lines}")?;
+    run_over(alloc, "replay", text.as_bytes(), WELL, WELL)
+}
+
+#[test]
+fn steps_are_replayed(rt: HostRuntime) -> Result<(), Fail> {
+    let alloc = rt.alloc();
+    for (lines, said) in [
+        ("", ""),
+        ("finish\n", "1 gaveup -\n"),
+        (
+            "save 0 pick:1\nfinish",
+            "1 complete -\n2 gradedright 2.0000000\n",
+        ),
+        ("save 0 blank\n", "1 same todo -\n"),
+        (
+            "save 0 pick:1\nsave 0 pick:1\n",
+            "1 complete -\n2 same complete -\n",
+        ),
+        (
+            "save 0 pick:3\nfinish\nfinish\n",
+            "1 refused 14\n2 gaveup -\n3 refused 12 gaveup\n",
+        ),
+        (
+            "save 0 pick:2\nfinish\nsave 0 pick:3\n",
+            "1 complete -\n2 gradedwrong 0.0000000\n3 refused 12 gradedwrong\n",
+        ),
+    ] {
+        let (status, written) = steps(alloc, lines)?;
+        assert_eq!(rt; status, 0, "{lines}");
+        let want = format!(in alloc; "0 todo -\n{said}")?;
+        assert_eq!(rt; written.as_str(), want.as_str(), "{lines}");
+    }
+    Ok(())
+}
+
+#[test]
+fn the_first_line_without_a_reading_is_told(rt: HostRuntime) -> Result<(), Fail> {
+    let alloc = rt.alloc();
+    for (text, line) in [
+        ("", 1),
+        ("\n", 1),
+        ("behaviour deferredfeedback\r\nmax 2\n", 1),
+        ("behaviour  deferredfeedback\nmax 2\n", 1),
+        ("behaviour deferredfeedback", 2),
+        ("behaviour deferredfeedback\nmax 10000.0000001\n", 2),
+        ("behaviour deferredfeedback\nmax -1\n", 2),
+        ("behaviour deferredfeedback\nmax -0\npenalty 1.1\n", 3),
+        ("behaviour deferredfeedback\nmax 1.\n", 2),
+        (
+            "behaviour deferredfeedback\nmax 10000\npenalty 1\nhints 21\n",
+            4,
+        ),
+        (
+            "behaviour deferredfeedback\nmax 10000\npenalty 1\nhints 020\n",
+            4,
+        ),
+        (
+            "behaviour deferredfeedback\nmax 0\npenalty 1\nhints 20\nquestion {}\n",
+            5,
+        ),
+        (
+            "behaviour deferredfeedback\nmax 0\nhints 20\nquestion {T}\n",
+            3,
+        ),
+    ] {
+        let (status, written) = run_over(alloc, "replay", text.as_bytes(), WELL, WELL)?;
+        assert_eq!(rt; status, 3, "{text}");
+        let want = format!(in alloc; "malformed {line}\n")?;
+        assert_eq!(rt; written.as_str(), want.as_str(), "{text}");
+    }
+    for (lines, line) in [
+        ("save 0 pick:0\n", 6),
+        ("save 0 pick:65\n", 6),
+        ("finish\nsave 1 pick:1\n", 7),
+        ("finish\n\nfinish\n", 7),
+        ("finish \n", 6),
+        ("submit 0 pick:1\n", 6),
+    ] {
+        let (status, written) = steps(alloc, lines)?;
+        assert_eq!(rt; status, 3, "{lines}");
+        let want = format!(in alloc; "malformed {line}\n")?;
+        assert_eq!(rt; written.as_str(), want.as_str(), "{lines}");
+    }
+    let mut text = Vec::from_slice(alloc, HEAD.as_bytes())?;
+    text.extend_from_slice(&[255, 10])?;
+    let (status, written) = run_over(alloc, "replay", &text, WELL, WELL)?;
+    assert_eq!(rt; (status, written.as_str()), (3, "malformed 6\n"));
+    Ok(())
+}
+
+#[test]
+fn faults_and_cuts(rt: HostRuntime) -> Result<(), Fail> {
+    let alloc = rt.alloc();
+    let text = format!(in alloc; "{HEAD}save 0 pick:1\nfinish\n")?;
+    let whole = "0 todo -\n1 complete -\n2 gradedright 2.0000000\n";
+    for most in [1usize, 7, 100] {
+        let cut = Working { failing: 0, most };
+        let (status, written) = run_over(alloc, "replay", text.as_bytes(), cut, cut)?;
+        assert_eq!(rt; (status, written.as_str()), (0, whole));
+    }
+    for failing in 1..4u64 {
+        let bad = Working { failing, most: 40 };
+        let (status, written) = run_over(alloc, "replay", text.as_bytes(), bad, WELL)?;
+        assert_eq!(rt; (status, written.as_str()), (4, ""), "read {failing}");
+        let bad = Working { failing, most: 11 };
+        let (status, written) = run_over(alloc, "replay", text.as_bytes(), WELL, bad)?;
+        assert_eq!(rt; status, 5, "write {failing}");
+        assert!(rt; whole.starts_with(written.as_str()), "write {failing}");
+        assert_eq!(rt; written.len() as u64, 11 * (failing - 1), "write {failing}");
+    }
+    Ok(())
+}
+
+#[test]
+fn limits(rt: HostRuntime) -> Result<(), Fail> {
+    let alloc = rt.alloc();
+    let mut lines = String::new(alloc);
+    for _ in 0..5000 {
+        lines.push_str("save 0 pick:1\nsave 0 pick:2\n")?;
+    }
+    lines.push_str("save 0 pick:1\nsave 0 pick:2\nfinish\n")?;
+    let (status, written) = steps(alloc, lines.as_str())?;
+    assert_eq!(rt; status, 0);
+    let last =
+        "10000 complete -\n10001 refused 18 10000\n10002 refused 18 10000\n10003 gradedwrong 0.0000000\n";
+    assert!(rt; written.as_str().ends_with(last));
+
+    let mut text = Vec::from_slice(alloc, HEAD.as_bytes())?;
+    text.resize(8_388_609, b'\n')?;
+    let (status, written) = run_over(alloc, "replay", &text, WELL, WELL)?;
+    assert_eq!(rt; (status, written.as_str()), (9, ""));
+    let _ = text.pop();
+    let (status, written) = run_over(alloc, "replay", &text, WELL, WELL)?;
+    assert_eq!(rt; (status, written.as_str()), (3, "malformed 6\n"));
+    Ok(())
+}
+
+#[test]
+fn other_words_show_the_usage_line(rt: HostRuntime) -> Result<(), Fail> {
+    let alloc = rt.alloc();
+    let usage =
+        "usage: quizd replay | gift check | gift fmt | script FOLDER | found FOLDER SHARDS TOKEN | serve FOLDER PORT WORKERS REGRADERS LINKS | bulk N\n";
+    for word in ["", "Replay", "replay ", "--help", "gift"] {
+        let (status, written) = run_over(alloc, word, b"", WELL, WELL)?;
+        assert_eq!(rt; (status, written.as_str()), (2, usage));
+    }
+    let bad = Working {
+        failing: 2,
+        most: 9,
+    };
+    let (status, written) = run_over(alloc, "help", b"", WELL, bad)?;
+    assert_eq!(rt; (status, written.as_str()), (5, "usage: qu"));
+    Ok(())
+}

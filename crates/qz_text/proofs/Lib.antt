@@ -1,0 +1,5 @@
+mod EncodedLemmas
+mod FitsLemmas
+mod FoldedLemmas
+mod GapsLemmas
+mod PartsLemmas
