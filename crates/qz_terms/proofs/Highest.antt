@@ -1,11 +1,12 @@
 -- The grade by the highest total is at least that of each total alone: a greater total has no lesser grade.
-use Rattle.std.proofs.Common.{◌≡◌, ℕ, zero, suc, ◌+◌, ◌*◌, ◌/◌, ◌<◌, ◌≤◌, List, [], ◌∷◌, ◌++◌, Option, Some, ℤ, pos, negsuc, ◌+ℤ◌, ◌*ℤ◌, ap, ◌∙◌, sym, arith}
-use Rattle.std.specs.Prelude.{◌≤ℤ◌, filter_map, fold, option_to_list}
+use Rattle.std.specs.Ordering.{int_eq}
+use Rattle.std.proofs.Common.{Bool, true, false, if◌then◌else◌, ◌≡◌, ℕ, zero, suc, ◌+◌, ◌*◌, ◌/◌, ◌<◌, ◌≤◌, List, [], ◌∷◌, ◌++◌, Option, Some, ℤ, pos, negsuc, ◌+ℤ◌, ◌*ℤ◌, ap, ◌∙◌, sym, arith}
+use Rattle.std.specs.Prelude.{◌≤ℤ◌, neg_ℤ, unsigned_abs, filter_map, fold, option_to_list}
 use Rattle.std.specs.Int.{int_max}
 use Rattle.std.proofs.lemmas.Int.{ints, int_max_is}
 use Rattle.std.proofs.lemmas.List.Elements.{filter_map-append}
 use Rattle.std.proofs.lemmas.Nat.{le-div}
-use Rattle.std.proofs.Math.Nat.{mul-le-mul_right, div-mul-le_self}
+use Rattle.std.proofs.Math.Nat.{mul-le-mul_right, div-mul-le_self, div-zero}
 use Rattle.qz_decimal.specs.Numbers.{nearest_natural, nearest, grade_of}
 use Rattle.qz_terms.specs.declared.grades.Method.{Method}
 use Rattle.qz_terms.specs.declared.grades.Method.TheVariants as method
@@ -33,11 +34,22 @@ times-more (negsuc a) (pos b) g le = omega (arith, ints)
 times-more (pos a) (negsuc b) g le = absurd (omega (arith, ints))
 times-more (negsuc a) (negsuc b) g le = let le' : suc b ≤ suc a = omega (arith, ints) in let h = mul-le-mul_right g le' in omega (arith, ints)
 
+-- a quotient by 0 is 0
+nearest-none : (a : ℤ) → nearest a 0 ≡ pos 0
+nearest-none (pos n) = ap pos (div-zero (2 * n + 0))
+nearest-none (negsuc n) = ap (λ (k : ℕ). neg_ℤ (pos k)) (div-zero (2 * suc n + 0))
+
+divided-more : (a b : ℤ) (d : ℕ) → a ≤ℤ b → nearest a d ≤ℤ nearest b d
+divided-more a b zero le = rw (nearest-none a, nearest-none b) (omega (arith, ints))
+divided-more a b (suc d) le = nearest-more a b (suc d) (omega arith) le
+
+chosen-more : (zero_sum : Bool) (a b : ℤ) → a ≤ℤ b → (if zero_sum then pos 0 else a) ≤ℤ (if zero_sum then pos 0 else b)
+chosen-more true a b le = omega (arith, ints)
+chosen-more false a b le = le
+
 grade_of-more : (a b grade sum : ℤ) → pos 0 ≤ℤ grade → a ≤ℤ b → grade_of a 1 grade sum ≤ℤ grade_of b 1 grade sum
-grade_of-more a b grade (pos zero) least le = omega (arith, ints)
-grade_of-more a b grade (negsuc sum) least le = omega (arith, ints)
-grade_of-more a b (pos grade) (pos (suc sum)) least le = nearest-more (a *ℤ pos grade) (b *ℤ pos grade) (1 * suc sum) (omega arith) (times-more a b grade le)
-grade_of-more a b (negsuc grade) (pos (suc sum)) least le = absurd (omega (arith, ints))
+grade_of-more a b (pos grade) sum least le = chosen-more (int_eq sum (pos 0)) _ _ (divided-more (a *ℤ pos grade) (b *ℤ pos grade) (1 * unsigned_abs sum) (times-more a b grade le))
+grade_of-more a b (negsuc grade) sum least le = absurd (omega (arith, ints))
 
 -- ---- the greatest of several
 

@@ -1,5 +1,7 @@
 -- Worked lines: an essay that a teacher marks, and a grade by the first attempt.
 use Rattle.std.specs.Prelude.{◌≡◌, ℕ, List, [], ℤ, pos, codes, refl}
+use Rattle.std.specs.Str.{chars}
+use Rattle.qz_text.specs.Patterns.{is_blank}
 use Rattle.qz_grading.specs.declared.outcome.Behaviour.TheVariants.{Deferred}
 use Rattle.qz_grading.specs.declared.outcome.State.TheVariants as state
 use Rattle.qz_grading.specs.declared.question.Kind.TheVariants as kind
@@ -70,28 +72,37 @@ abbrev is_marked : School
 is_marked = then_has first_counts 180 (mark (codes "m1") (pos 40000000))
 
 pub it_is_written : told ann_started 120 save ≡ reply.Ok 2 (done.Stepped state.Complete shown.None)
+unfolding is_blank chars
 it_is_written = refl
 
 pub not_finished_yet : told written 130 (mark (codes "m0") (pos 40000000)) ≡ reply.Refused refusal.NotFinished
+unfolding is_blank chars
 not_finished_yet = refl
 
 pub no_total_yet : told written 140 finish ≡ reply.Ok 3 (done.Finished shown.None)
+unfolding is_blank chars
 no_total_yet = refl
 
 pub highest_skips_it : told handed_in 150 grade ≡ reply.Ok 3 (done.Grade shown.None)
+unfolding is_blank chars
 highest_skips_it = refl
 
 pub first_is_chosen : told handed_in 160 by_first ≡ reply.Ok 7 done.Done
+unfolding is_blank chars
 first_is_chosen = refl
 
 pub first_has_no_total : told first_counts 170 grade ≡ reply.Ok 3 (done.Grade shown.None)
+unfolding is_blank chars
 first_has_no_total = refl
 
 pub four_of_five : told first_counts 180 (mark (codes "m1") (pos 40000000)) ≡ reply.Ok 4 (done.Marked state.MangrPartial (shown.Value (pos 40000000)))
+unfolding is_blank chars
 four_of_five = refl
 
 pub six_of_five : told is_marked 190 (mark (codes "m2") (pos 60000000)) ≡ reply.Refused (refusal.OutOfRange (pos 50000000))
+unfolding is_blank chars
 six_of_five = refl
 
 pub it_is_graded : told is_marked 200 grade ≡ reply.Ok 4 (done.Grade (shown.Value (pos 800000)))
+unfolding is_blank chars
 it_is_graded = refl
