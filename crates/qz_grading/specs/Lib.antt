@@ -7,4 +7,4 @@ pub mod Words
 pub mod Examples
 pub mod Shapes
 pub mod Canonical
-pub mod CanonicalExamples
+pub mod ExamplesCanonical

@@ -31,10 +31,10 @@ chosen user groups quiz = unwrap_or user (unwrap_or groups quiz)
 -- each setting by itself; the most lenient opening is the earliest
 abbrev pub effective : Settings → Option Override → List Override → Settings
 effective quiz user groups = record quiz {
-    opens = chosen (option_and_then (λ (o : Override). o.opens) user) (least (filter_map (λ (o : Override). o.opens) groups)) quiz.opens;
-    closes = chosen (option_and_then (λ (o : Override). o.closes) user) (longest (filter_map (λ (o : Override). o.closes) groups)) quiz.closes;
-    limit = chosen (option_and_then (λ (o : Override). o.limit) user) (longest (filter_map (λ (o : Override). o.limit) groups)) quiz.limit;
-    allowed = chosen (option_and_then (λ (o : Override). o.allowed) user) (longest (filter_map (λ (o : Override). o.allowed) groups)) quiz.allowed;
+  opens = chosen (option_and_then (λ (o : Override). o.opens) user) (least (filter_map (λ (o : Override). o.opens) groups)) quiz.opens;
+  closes = chosen (option_and_then (λ (o : Override). o.closes) user) (longest (filter_map (λ (o : Override). o.closes) groups)) quiz.closes;
+  limit = chosen (option_and_then (λ (o : Override). o.limit) user) (longest (filter_map (λ (o : Override). o.limit) groups)) quiz.limit;
+  allowed = chosen (option_and_then (λ (o : Override). o.allowed) user) (longest (filter_map (λ (o : Override). o.allowed) groups)) quiz.allowed;
 }
 
 -- ---- due
@@ -56,7 +56,7 @@ abbrev pub is_past : Option ℕ → ℕ → Bool
 is_past None moment = false
 is_past (Some end) moment = nat_lt end moment
 
-abbrev grace_under : Handling → ℕ → ℕ
+abbrev pub grace_under : Handling → ℕ → ℕ
 grace_under handling.GracePeriod grace = grace
 grace_under h grace = 0
 

@@ -32,7 +32,7 @@ use Rattle.qz_terms.specs.Access.{default_settings, effective}
 use Rattle.qz_terms.specs.Lists.{first_of, places_to, up_to_first}
 use Rattle.qz_terms.specs.Rows.{sum_of}
 
-abbrev asked_by : Event → Option Request
+abbrev pub asked_by : Event → Option Request
 asked_by (event.Asked request) = Some request
 asked_by e = None
 
@@ -48,11 +48,11 @@ pub record Person : Type 0 where
   pub role : Role
   pub token : List ℕ
 
-abbrev person_by : Request → Option Person
+abbrev pub person_by : Request → Option Person
 person_by (request.User name role token) = Some (record { name = name; role = role; token = token })
 person_by x = None
 
-abbrev person_in : Event → Option Person
+abbrev pub person_in : Event → Option Person
 person_in (event.Founded shards token) = Some (record { name = codes "admin"; role = role.Manager; token = token })
 person_in (event.Asked x) = person_by x
 person_in e = None
@@ -81,7 +81,7 @@ abbrev pub user_of : List Record → Caller → Option User
 user_of c (caller.Token token) = user_of_token c token
 user_of c caller.Worker = Some worker
 
-abbrev is_made_with : List ℕ → Option Person → Bool
+abbrev pub is_made_with : List ℕ → Option Person → Bool
 is_made_with token None = false
 is_made_with token (Some p) = bytes_eq p.token token
 
@@ -89,21 +89,21 @@ is_made_with token (Some p) = bytes_eq p.token token
 abbrev pub token_place : List Record → List ℕ → Option ℕ
 token_place c token = option_map (λ u. length (up_to_first (λ r. is_made_with token (made_user r)) c)) (user_of_token c token)
 
-abbrev group_by : Option Request → Option (List ℕ)
+abbrev pub group_by : Option Request → Option (List ℕ)
 group_by (Some (request.Group name)) = Some name
 group_by x = None
 
 abbrev pub groups : List Record → List (List ℕ)
 groups c = filter_map (λ r. group_by (asked r)) c
 
-abbrev joins_by : ℕ → ℕ → Option Request → Bool
+abbrev pub joins_by : ℕ → ℕ → Option Request → Bool
 joins_by group user (Some (request.Member g u)) = (g == group) && (u == user)
 joins_by group user x = false
 
 abbrev pub is_member : List Record → ℕ → ℕ → Bool
 is_member c group user = list_any (λ r. joins_by group user (asked r)) c
 
-abbrev founded_by : Event → Option ℕ
+abbrev pub founded_by : Event → Option ℕ
 founded_by (event.Founded shards token) = Some shards
 founded_by e = None
 
@@ -113,7 +113,7 @@ shards c = unwrap_or (first_of (filter_map (λ (r : Record). founded_by r.event)
 
 -- ---- the bank
 
-abbrev imports_by : Option Request → List Item
+abbrev pub imports_by : Option Request → List Item
 imports_by (Some (request.Import gift)) = gift.items
 imports_by x = []
 
@@ -121,7 +121,7 @@ imports_by x = []
 abbrev pub entries : List Record → List Item
 entries c = flat_map (λ r. imports_by (asked r)) c
 
-abbrev changes_by : ℕ → Option Request → Option Request
+abbrev pub changes_by : ℕ → Option Request → Option Request
 changes_by entry (Some (request.Edit e gift)) = if e == entry then Some (request.Edit e gift) else None
 changes_by entry (Some (request.Tune e penalty hints)) = if e == entry then Some (request.Tune e penalty hints) else None
 changes_by entry x = None
@@ -154,7 +154,7 @@ version c entry number =
 
 -- ---- quizzes
 
-abbrev quiz_by : Option Request → Option (List ℕ × Behaviour)
+abbrev pub quiz_by : Option Request → Option (List ℕ × Behaviour)
 quiz_by (Some (request.Quiz name behaviour)) = Some (name, behaviour)
 quiz_by x = None
 
@@ -162,7 +162,7 @@ quiz_by x = None
 abbrev pub quizzes : List Record → List (List ℕ × Behaviour)
 quizzes c = filter_map (λ r. quiz_by (asked r)) c
 
-abbrev slot_by : ℕ → Option Request → Option (ℕ × ℤ)
+abbrev pub slot_by : ℕ → Option Request → Option (ℕ × ℤ)
 slot_by q (Some (request.Slot quiz entry max)) = if quiz == q then Some (entry, max) else None
 slot_by q x = None
 
@@ -170,7 +170,7 @@ slot_by q x = None
 abbrev pub slots_made : List Record → ℕ → List (ℕ × ℤ)
 slots_made c q = filter_map (λ r. slot_by q (asked r)) c
 
-abbrev remax_by : ℕ → ℕ → Option Request → Option ℤ
+abbrev pub remax_by : ℕ → ℕ → Option Request → Option ℤ
 remax_by q k (Some (request.Remax quiz slot max)) = if (quiz == q) && (slot == k) then Some max else None
 remax_by q k x = None
 
@@ -184,7 +184,7 @@ planned c q k entry max = record { entry = entry; version = latest c entry; max 
 abbrev pub slots : List Record → ℕ → List Planned
 slots c q = map (λ (s : ℕ × (ℕ × ℤ)). planned c q s.0 s.1.0 s.1.1) (enumerate_from 1 (slots_made c q))
 
-abbrev readies_by : ℕ → Option Request → Bool
+abbrev pub readies_by : ℕ → Option Request → Bool
 readies_by q (Some (request.Ready quiz)) = quiz == q
 readies_by q x = false
 
@@ -198,7 +198,7 @@ is_ready c q = list_any (readies q) c
 abbrev pub ready_at : List Record → ℕ → Option ℕ
 ready_at c q = if is_ready c q then Some (length (up_to_first (readies q) c)) else None
 
-abbrev times_by : ℕ → Option Request → Option Settings
+abbrev pub times_by : ℕ → Option Request → Option Settings
 times_by q (Some (request.Times quiz opens closes limit allowed handling grace review)) =
     if quiz == q then Some (record { opens = opens; closes = closes; limit = limit; allowed = allowed; handling = handling; grace = grace; review = review }) else None
 times_by q x = None
@@ -207,12 +207,12 @@ times_by q x = None
 abbrev pub own_settings : List Record → ℕ → Settings
 own_settings c q = unwrap_or (last_of (filter_map (λ r. times_by q (asked r)) c)) default_settings
 
-abbrev same_whom : Whom → Whom → Bool
+abbrev pub same_whom : Whom → Whom → Bool
 same_whom whom.User whom.User = true
 same_whom whom.Group whom.Group = true
 same_whom a b = false
 
-abbrev override_by : ℕ → Whom → ℕ → Option Request → Option Override
+abbrev pub override_by : ℕ → Whom → ℕ → Option Request → Option Override
 override_by q w n (Some (request.Override quiz whom number opens closes limit allowed)) =
     if (quiz == q) && (same_whom whom w && (number == n)) then Some (record { opens = opens; closes = closes; limit = limit; allowed = allowed }) else None
 override_by q w n x = None
@@ -227,7 +227,7 @@ groups_of c u = filter (λ g. is_member c g u) (places_to (length (groups c)))
 abbrev pub settings : List Record → ℕ → ℕ → Settings
 settings c q u = effective (own_settings c q) (override c q whom.User u) (filter_map (override c q whom.Group) (groups_of c u))
 
-abbrev policy_by : ℕ → Option Request → Option (Method × ℤ)
+abbrev pub policy_by : ℕ → Option Request → Option (Method × ℤ)
 policy_by q (Some (request.Policy quiz method grade)) = if quiz == q then Some (method, grade) else None
 policy_by q x = None
 
@@ -235,7 +235,7 @@ policy_by q x = None
 abbrev pub default_policy : Method × ℤ
 default_policy = (method.Highest, pos (10 * grade_one))
 
-abbrev policy_with : List Planned → Method × ℤ → Policy
+abbrev pub policy_with : List Planned → Method × ℤ → Policy
 policy_with planned p = record { method = p.0; grade = p.1; sum = sum_of (map (λ (s : Planned). s.max) planned) }
 
 abbrev pub policy : List Record → ℕ → Policy
@@ -247,15 +247,15 @@ questions c planned = filter_map (λ (s : Planned). version c s.entry s.version)
 -- a quiz as these records give it, under these settings
 abbrev pub plan_under : Settings → List Record → ℕ → Option Plan
 plan_under s c q = option_map (λ (named : List ℕ × Behaviour). record {
-    at = length c;
-    quiz = q;
-    name = named.0;
-    ready = is_ready c q;
-    behaviour = named.1;
-    settings = s;
-    policy = policy c q;
-    slots = slots c q;
-    questions = questions c (slots c q);
+  at = length c;
+  quiz = q;
+  name = named.0;
+  ready = is_ready c q;
+  behaviour = named.1;
+  settings = s;
+  policy = policy c q;
+  slots = slots c q;
+  questions = questions c (slots c q);
 }) (at_place (quizzes c) q)
 
 abbrev pub plan : List Record → ℕ → ℕ → Option Plan
@@ -263,7 +263,7 @@ plan c q u = plan_under (settings c q u) c q
 
 -- ---- jobs
 
-abbrev regrade_by : ℕ → Option Request → Option (ℕ × ℕ)
+abbrev pub regrade_by : ℕ → Option Request → Option (ℕ × ℕ)
 regrade_by place (Some (request.Regrade quiz)) = Some (place, quiz)
 regrade_by place x = None
 
@@ -271,7 +271,7 @@ regrade_by place x = None
 abbrev pub jobs : List Record → List (ℕ × ℕ)
 jobs c = filter_map (λ (r : ℕ × Record). regrade_by r.0 (asked r.1)) (enumerate_from 1 c)
 
-abbrev job_with : List Record → ℕ → ℕ × ℕ → Option Job
+abbrev pub job_with : List Record → ℕ → ℕ × ℕ → Option Job
 job_with c number j = option_map (λ plan. record { number = number; position = j.0; plan = plan }) (plan_under (own_settings (take j.0 c) j.1) (take j.0 c) j.1)
 
 -- a job has the plan of its quiz at its position, with the quiz's own settings

@@ -3,6 +3,7 @@ use Rattle.std.specs.List.{list_any}
 use Rattle.std.specs.Prelude.{ℕ, ◌+◌, max, Bool, true, false, not, ◌&&◌, ◌||◌, List, [], map, length, ℤ, is_some, if◌then◌else◌, nat_lt, ◌==◌, Some, None, fold, filter, flat_map, filter_map, Option, unwrap_or, option_map, option_and_then}
 use Rattle.qz_grading.specs.declared.outcome.Behaviour.{Behaviour}
 use Rattle.qz_grading.specs.declared.outcome.State.{State}
+use Rattle.qz_grading.specs.declared.outcome.State.TheVariants.{Todo}
 use Rattle.qz_grading.specs.declared.question.Question.{Question}
 use Rattle.qz_grading.specs.declared.refusal.AttemptId.{AttemptId}
 use Rattle.qz_grading.specs.declared.response.Step.{Step}
@@ -54,7 +55,7 @@ pub record Start : Type 0 where
   pub behaviour : Behaviour
   pub bounds : List Bound
 
-abbrev start_by : Record → Event → Option Start
+abbrev pub start_by : Record → Event → Option Start
 start_by r (event.Started quiz nth behaviour bounds learned) = Some (record { attempt = record { user = r.owner; nth = nth }; moment = r.moment; quiz = quiz; behaviour = behaviour; bounds = bounds })
 start_by r e = None
 
@@ -82,7 +83,7 @@ attempts h q u = in_order attempt_before (filter_map (starts_at q u) h)
 abbrev pub next_attempt : List Record → ℕ → AttemptId
 next_attempt h u = record { user = u; nth = how_many (λ r. is_owned u r && is_some (started r)) h + 1 }
 
-abbrev ends_by : AttemptId → Event → Option How
+abbrev pub ends_by : AttemptId → Event → Option How
 ends_by a (event.Ended b how) = if same_attempt a b then Some how else None
 ends_by a e = None
 
@@ -100,16 +101,17 @@ is_ended h a = is_some (ended h a)
 abbrev pub ended_at : List Record → AttemptId → Option ℕ
 ended_at h a = option_map (λ how. place (up_to_first (λ r. is_some (ends a r)) h) a.user) (ended h a)
 
-abbrev is_finished_by : Option How → Bool
-is_finished_by (Some how.Finished) = true
-is_finished_by o = false
+-- whether it ended by a finish
+abbrev pub ended_finished : Option How → Bool
+ended_finished (Some how.Finished) = true
+ended_finished o = false
 
 abbrev pub is_finished : List Record → AttemptId → Bool
-is_finished h a = is_finished_by (ended h a)
+is_finished h a = ended_finished (ended h a)
 
 -- ---- versions that the shard has learned
 
-abbrev learned_by : Event → List Learned
+abbrev pub learned_by : Event → List Learned
 learned_by (event.Started quiz nth behaviour bounds learned) = learned
 learned_by (event.Rebound job a slot bound learned) = learned
 learned_by e = []
@@ -125,7 +127,7 @@ version h entry number = first_of (filter_map (learns entry number) h)
 
 -- ---- slots
 
-abbrev binds_by : AttemptId → ℕ → Record → Event → Option Bound
+abbrev pub binds_by : AttemptId → ℕ → Record → Event → Option Bound
 binds_by a k r (event.Started quiz nth behaviour bounds learned) = if same_attempt a (record { user = r.owner; nth = nth }) then at_place bounds k else None
 binds_by a k r (event.Rebound job b slot bound learned) = if same_attempt a b && (k == slot) then Some bound else None
 binds_by a k r e = None
@@ -140,11 +142,11 @@ bound h a k = last_of (filter_map (binds a k) h)
 abbrev pub question : List Record → AttemptId → ℕ → Option Question
 question h a k = option_and_then (λ (b : Bound). version h b.entry b.version) (bound h a k)
 
-abbrev finish_of : How → Option Step
+abbrev pub finish_of : How → Option Step
 finish_of how.Finished = Some step.Finish
 finish_of how.Abandoned = None
 
-abbrev step_by : AttemptId → ℕ → Event → Option Step
+abbrev pub step_by : AttemptId → ℕ → Event → Option Step
 step_by a k (event.Acted b slot x) = if same_attempt a b && (k == slot) then Some x else None
 step_by a k (event.Ended b how) = if same_attempt a b then finish_of how else None
 step_by a k e = None
@@ -175,6 +177,13 @@ state_of s = slot_state s.behaviour s.question s.steps
 abbrev pub mark_in : Slot → Option ℤ
 mark_in s = slot_mark s.behaviour s.question s.bound.max s.steps
 
+-- the state of a slot, which is todo where there is no such slot
+abbrev pub state : List Record → AttemptId → ℕ → State
+state h a k = unwrap_or (option_map state_of (slot h a k)) Todo
+
+abbrev pub mark : List Record → AttemptId → ℕ → Option ℤ
+mark h a k = option_and_then mark_in (slot h a k)
+
 -- how many slots an attempt has
 abbrev pub slot_count : List Record → AttemptId → ℕ
 slot_count h a = unwrap_or (option_map (λ (s : Start). length s.bounds) (start h a)) 0
@@ -195,7 +204,7 @@ total h a = if is_finished h a then total_of (map scored (slots h a)) else None
 abbrev pub row : List Record → ℕ → Policy → ℕ → Option ℤ
 row h q policy u = row_of policy (map (total h) (filter (is_finished h) (attempts h q u)))
 
-abbrev taker_at : ℕ → Record → Option ℕ
+abbrev pub taker_at : ℕ → Record → Option ℕ
 taker_at q r = option_map (λ (s : Start). s.attempt.user) (option_and_then (only_if (λ (s : Start). s.quiz == q)) (started r))
 
 -- the users with an attempt of a quiz, in order of number
@@ -204,7 +213,7 @@ takers h q = in_order nat_lt (filter_map (taker_at q) h)
 
 -- ---- jobs
 
-abbrev done_by : ℕ → Event → Bool
+abbrev pub done_by : ℕ → Event → Bool
 done_by job (event.JobDone j quiz position) = j == job
 done_by job e = false
 
@@ -214,7 +223,7 @@ is_done_in job r = done_by job r.event
 abbrev pub is_done : List Record → ℕ → Bool
 is_done h job = list_any (is_done_in job) h
 
-abbrev skips_by : ℕ → AttemptId → ℕ → Event → Bool
+abbrev pub skips_by : ℕ → AttemptId → ℕ → Event → Bool
 skips_by job a k (event.Skipped j b slot bound newer) = (j == job) && (same_attempt a b && (k == slot))
 skips_by job a k e = false
 
@@ -228,7 +237,7 @@ is_skipped h job a k = list_any (skips job a k) h
 abbrev pub is_target : List Record → ℕ → ℕ → AttemptId → ℕ → Bool
 is_target h job position a k = unwrap_or (option_map (λ (b : Bound). nat_lt b.at position) (bound h a k)) false && not (is_skipped h job a k)
 
-abbrev attempt_at : ℕ → Record → Option AttemptId
+abbrev pub attempt_at : ℕ → Record → Option AttemptId
 attempt_at q r = option_map (λ (s : Start). s.attempt) (option_and_then (only_if (λ (s : Start). s.quiz == q)) (started r))
 
 abbrev pub targets_in : List Record → ℕ → ℕ → AttemptId → List (AttemptId × ℕ)
@@ -238,7 +247,7 @@ targets_in h job position a = map (λ k. (a, k)) (filter (is_target h job positi
 abbrev pub targets : List Record → ℕ → ℕ → ℕ → List (AttemptId × ℕ)
 targets h job q position = flat_map (targets_in h job position) (in_order attempt_before (filter_map (attempt_at q) h))
 
-abbrev floor_by : ℕ → Event → Option ℕ
+abbrev pub floor_by : ℕ → Event → Option ℕ
 floor_by q (event.JobDone job quiz position) = if quiz == q then Some position else None
 floor_by q e = None
 

@@ -1,8 +1,27 @@
-use Rattle.qz_terms.specs.declared.access.Review.{Review}
-
 pub mod Lists
 pub mod Access
 pub mod Rows
-pub mod Visible
+pub mod Review
 pub mod History
 pub mod Catalog
+pub mod Spelling
+pub mod Cause
+pub mod Parts
+pub mod Answer
+pub mod Legal
+pub mod Serial
+pub mod Worlds
+pub mod Laws
+pub mod ExamplesBytes
+pub mod ExamplesRows
+pub mod ExamplesAccess
+pub mod ExamplesSchool
+pub mod ExamplesFirstAttempt
+pub mod ExamplesTimes
+pub mod ExamplesOverrides
+pub mod ExamplesRegrade
+pub mod ExamplesSkipped
+pub mod ExamplesMarked
+pub mod ExamplesReview
+pub mod ExamplesBank
+pub mod ExamplesSchedule

@@ -1,6 +1,6 @@
 -- Readings of a list, each by a function or a test of one item. The last item is `last_of` of the steps.
 use Rattle.std.specs.List.{range_with_len}
-use Rattle.std.specs.Prelude.{ℕ, min, max, Bool, List, [], ◌∷◌, length, if◌then◌else◌, Some, None, fold, filter, Option}
+use Rattle.std.specs.Prelude.{ℕ, min, max, Bool, not, List, [], ◌∷◌, length, if◌then◌else◌, Some, None, fold, filter, Option}
 use Rattle.qz_grading.specs.Steps.{before}
 
 -- the first item
@@ -24,6 +24,11 @@ up_to_first p (x ∷ xs) = if p x then x ∷ [] else x ∷ up_to_first p xs
 -- the places of a list with so many items, from 1
 abbrev pub places_to : ℕ → List ℕ
 places_to count = range_with_len 1 count
+
+-- each item once, where it first stands
+abbrev pub once : {A : Type 0} → (A → A → Bool) → List A → List A
+once is_same [] = []
+once is_same (x ∷ xs) = x ∷ filter (λ y. not (is_same x y)) (once is_same xs)
 
 -- ---- lists in order
 

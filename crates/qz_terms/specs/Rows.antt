@@ -19,7 +19,7 @@ pub record Scored : Type 0 where
   pub max : ℤ
   pub mark : Option ℤ
 
-abbrev needs_grading : State → Bool
+abbrev pub needs_grading : State → Bool
 needs_grading state.NeedsGrading = true
 needs_grading s = false
 

@@ -4,6 +4,7 @@
 mod access;
 mod ask;
 mod grades;
+pub mod laws;
 mod people;
 mod plan;
 mod record;

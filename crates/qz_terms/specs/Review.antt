@@ -12,7 +12,7 @@ use Rattle.qz_terms.specs.declared.reply.Shown.TheVariants as shown
 abbrev pub past_closing : Settings → ℕ → Bool
 past_closing s moment = (s.closes == 0) || nat_lt s.closes moment
 
-abbrev marks_under : Review → Settings → Bool → ℕ → Bool
+abbrev pub marks_under : Review → Settings → Bool → ℕ → Bool
 marks_under review.Always s ended moment = true
 marks_under review.Finish s ended moment = ended
 marks_under review.Close s ended moment = ended && past_closing s moment
@@ -21,7 +21,7 @@ marks_under review.Close s ended moment = ended && past_closing s moment
 abbrev pub shows_marks : Settings → Bool → ℕ → Bool
 shows_marks s ended moment = marks_under s.review s ended moment
 
-abbrev grades_under : Review → Settings → ℕ → Bool
+abbrev pub grades_under : Review → Settings → ℕ → Bool
 grades_under review.Close s moment = past_closing s moment
 grades_under r s moment = true
 
