@@ -68,12 +68,11 @@ going_on state = record { state = state; fraction = None; ended = false; needs_a
 abbrev pub ended_with : Standing → Outcome
 ended_with standing = record { state = standing.0; fraction = standing.1; ended = true; needs_again = false; tries = 0 }
 
--- a Save and a Submit are shown alike until the Finish
-abbrev pub keeps_saves : Behaviour → Bool
-keeps_saves behaviour.Deferred = true
-keeps_saves behaviour.DeferredCbm = true
-keeps_saves behaviour.Manual = true
-keeps_saves b = false
+-- the last response is graded at the Finish alone
+abbrev pub is_deferred : Behaviour → Bool
+is_deferred behaviour.Deferred = true
+is_deferred behaviour.DeferredCbm = true
+is_deferred b = false
 
 -- the first complete Submit ends the slot
 abbrev pub grades_first : Behaviour → Bool
