@@ -18,6 +18,13 @@ use Rattle.qz_grading.proofs.StepLemmas.{last_of-push, has_finish-push, before-o
 pub has_finish-closed : (s : List Step) (x : Step) → has_finish s ≡ true → has_finish (s ++ x ∷ []) ≡ true
 has_finish-closed s x closed = list_any-append is_finish s (x ∷ []) ∙ rw closed refl
 
+or-false : (b : Bool) → (b || false) ≡ b
+or-false true = refl
+or-false false = refl
+
+pub has_finish-more : (s : List Step) (x : Step) → has_finish (s ++ x ∷ []) ≡ (has_finish s || is_finish x)
+has_finish-more s x = list_any-append is_finish s (x ∷ []) ∙ ap (λ (b : Bool). has_finish s || b) (or-false (is_finish x))
+
 before-closed-cons : (y : Step) (s : List Step) (x : Step) (b : Bool) → is_finish y ≡ b → has_finish (y ∷ s) ≡ true
     → (has_finish s ≡ true → before (s ++ x ∷ []) ≡ before s) → before ((y ∷ s) ++ x ∷ []) ≡ before (y ∷ s)
 before-closed-cons y s x true finish closed rest = rw finish refl

@@ -16,15 +16,15 @@ use Rattle.qz_grading.proofs.StepLemmas.{has_finish-push, has_finish-finished, l
 use Rattle.qz_behave.specs.Machines.{is_played, is_deferred, grades_first, going_on, ended_with}
 use Rattle.qz_behave.proofs.MoreSteps.{has_finish-closed, last-closed, last-answered, last-passed, handed_in-closed, handed_in-finished, handed_in-passed, handed_in-complete, handed_in-incomplete, ends_in_submit-push}
 
-or-left : (a b : Bool) → (a || b) ≡ false → a ≡ false
+pub or-left : (a b : Bool) → (a || b) ≡ false → a ≡ false
 or-left false b none = refl
 or-left true b none = absurd cc
 
-or-right : (a b : Bool) → (a || b) ≡ false → b ≡ false
+pub or-right : (a b : Bool) → (a || b) ≡ false → b ≡ false
 or-right false b none = none
 or-right true b none = absurd cc
 
-or-true : (a : Bool) → (a || true) ≡ true
+pub or-true : (a : Bool) → (a || true) ≡ true
 or-true false = refl
 or-true true = refl
 
@@ -136,14 +136,6 @@ module _ (q : Question) (s : List Step) (none : has_finish s ≡ false) where
 pub manual-finished : (q : Question) (s : List Step)
     → outcome behaviour.Manual q (s ++ step.Finish ∷ []) ≡ ended_with (if complete_under behaviour.Manual q (last s) then state.NeedsGrading else state.GaveUp, None)
 manual-finished q s = rw (has_finish-finished s, last-finished s) refl
-
--- ---- information
-
-pub information-passed : (q : Question) (s : List Step) (x : Step) → has_finish s ≡ false → is_finish x ≡ false → outcome behaviour.Information q (s ++ x ∷ []) ≡ outcome behaviour.Information q s
-information-passed q s x none other = rw (has_finish-push s x other, none) refl
-
-pub information-finished : (q : Question) (s : List Step) → outcome behaviour.Information q (s ++ step.Finish ∷ []) ≡ ended_with (state.Finished, None)
-information-finished q s = rw (has_finish-finished s) refl
 
 -- ---- immediate feedback, before a Finish and a complete Submit
 

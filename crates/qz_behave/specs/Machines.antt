@@ -10,6 +10,7 @@ use Rattle.qz_grading.specs.declared.response.Response.{Response}
 use Rattle.qz_grading.specs.declared.response.Step.{Step}
 use Rattle.qz_grading.specs.declared.response.Step.TheVariants as step
 use Rattle.qz_grading.specs.Grading as grading
+use Rattle.qz_grading.specs.Questions.{IsQuestion}
 use Rattle.qz_grading.specs.Steps as steps
 use Rattle.qz_grading.specs.Behaviours as behaviours
 use Rattle.qz_grading.specs.Behaviours.{Standing}
@@ -79,3 +80,21 @@ abbrev pub grades_first : Behaviour → Bool
 grades_first behaviour.Immediate = true
 grades_first behaviour.ImmediateCbm = true
 grades_first b = false
+
+-- ---- one more step
+
+-- the place of the last response among these steps
+pub record IsLastPlace (place : Option ℕ) (s : List Step) : Type 0 where
+  pub at : response_at s place ≡ steps.last s
+  pub inside : IfSome place (λ i. i < length s)
+
+-- a step that follows these
+pub record IsNext (m : Progress) (q : Question) (s : List Step) (x : Step) : Type 0 where
+  pub question : IsQuestion q
+  pub after : IsAfter m q s
+  pub fits : StepFits m.behaviour q x
+
+-- what comes of these steps
+pub record IsOutcome (b : Behaviour) (q : Question) (s : List Step) (o : Outcome) : Type 0 where
+  pub value : o ≡ behaviours.outcome b q s
+  pub earned : IfSome o.fraction IsEarnedFraction

@@ -2,6 +2,7 @@
 //! also with certainty, a teacher's marking, and information.
 #![tactic(auto)]
 
+mod grades;
 mod machine;
 
 pub use machine::Machine;
