@@ -1,5 +1,5 @@
 -- What a machine knows after one more step.
-use Rattle.std.proofs.Common.{◌≡◌, ℕ, zero, suc, ◌+◌, ◌-◌, ◌<◌, ◌≤◌, Bool, true, false, ◌||◌, ◌&&◌, List, [], ◌∷◌, ◌++◌, length, Option, Some, None, IfSome, refl, ap, sym, ◌∙◌, ◌⊎◌, inl, inr, ℤ, arith}
+use Rattle.std.proofs.Common.{◌≡◌, ℕ, zero, suc, ◌-◌, ◌<◌, ◌≤◌, Bool, true, false, ◌||◌, ◌&&◌, List, [], ◌∷◌, ◌++◌, length, Option, Some, None, IfSome, refl, ap, sym, ◌∙◌, ◌⊎◌, inl, inr, ℤ, arith}
 use Rattle.std.proofs.lemmas.List.{length-append}
 use Rattle.std.proofs.lemmas.Bool.Decides.{nat_tests}
 use Rattle.std.specs.Prelude.{if◌then◌else◌, nat_le, ◌==◌, is_some, is_none, slice_get}
@@ -18,7 +18,8 @@ use Rattle.qz_grading.specs.Grading.{asks_certainty, certainty_fits, answer_fits
 use Rattle.qz_grading.specs.Steps.{is_finish, has_finish, last, last_of, response_of, submitted}
 use Rattle.qz_grading.specs.Behaviours.{Standing, complete_under, first_handed_in, ends_by_try, has_ended, by_grade, at_finish, outcome}
 use Rattle.qz_grading.proofs.StepLemmas.{last-finished}
-use Rattle.qz_behave.specs.Machines.{Progress, is_played, is_deferred, grades_first, response_at, going_on, ended_with, IsAfter, StepFits, IsLastPlace, IsNext, IsOutcome}
+use Rattle.qz_behave.specs.Machines.{Progress, response_at, IsAfter, StepFits}
+use Rattle.qz_behave.specs.Following.{is_deferred, grades_first, going_on, ended_with, IsLastPlace, IsOutcome}
 use Rattle.qz_behave.proofs.MoreSteps.{has_finish-more, last-closed, last-answered, last-passed}
 use Rattle.qz_behave.proofs.OneMore.{or-left, or-right, or-true, outcome-ended, deferred-answered, deferred-passed, deferred-finished, manual-answered, manual-passed, manual-finished, immediate-complete, immediate-incomplete, immediate-passed, immediate-finished}
 
@@ -153,13 +154,13 @@ module _ (m : Progress) (q : Question) (s : List Step) (x : Step) (after : IsAft
       → o ≡ ended_with (by_grade b q r) → IfSome o.fraction IsEarnedFraction → IsOutcome m.behaviour q (s ++ x ∷ []) o
   immediate-ends first b r same is complete value earned =
       rw is (shown-ended m.behaviour q (s ++ step.Submit r ∷ []) o (by_grade m.behaviour q r) (rw same at value) earned
-        (immediate-complete m.behaviour q s first unfinished (unanswered first) r (rw same at complete)))
+      (immediate-complete m.behaviour q s first unfinished (unanswered first) r (rw same at complete)))
 
   pub immediate-invalid : grades_first m.behaviour ≡ true → (b : Behaviour) (r : Response) → b ≡ m.behaviour → x ≡ step.Submit r → complete_under b q r ≡ false
       → o ≡ going_on state.Invalid → IsOutcome m.behaviour q (s ++ x ∷ []) o
   immediate-invalid first b r same is incomplete value =
       rw is (shown-open m.behaviour q (s ++ step.Submit r ∷ []) o state.Invalid value
-        (immediate-incomplete m.behaviour q s first unfinished (unanswered first) r (rw same at incomplete)))
+      (immediate-incomplete m.behaviour q s first unfinished (unanswered first) r (rw same at incomplete)))
 
   pub immediate-stays : grades_first m.behaviour ≡ true → (submitted x ≡ None) × (is_finish x ≡ false) → o ≡ going_on state.Todo → IsOutcome m.behaviour q (s ++ x ∷ []) o
   immediate-stays first other value =
@@ -169,7 +170,7 @@ module _ (m : Progress) (q : Question) (s : List Step) (x : Step) (after : IsAft
       → IsOutcome m.behaviour q (s ++ x ∷ []) o
   immediate-closes first is value earned =
       rw is (shown-ended m.behaviour q (s ++ step.Finish ∷ []) o (at_finish m.behaviour q s) value earned
-        (immediate-finished m.behaviour q s first unfinished (unanswered first)))
+      (immediate-finished m.behaviour q s first unfinished (unanswered first)))
 
   pub deferred-keeps : is_deferred m.behaviour ≡ true → (r : Response) → (response_of x ≡ Some r) × (is_finish x ≡ false)
       → o ≡ going_on (if complete_under m.behaviour q r then state.Complete else state.Todo) → IsOutcome m.behaviour q (s ++ x ∷ []) o

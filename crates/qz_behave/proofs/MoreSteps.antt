@@ -1,5 +1,5 @@
 -- Readings of a list of steps with one more at its end.
-use Rattle.std.proofs.Common.{◌≡◌, Bool, true, false, not, ◌||◌, List, [], ◌∷◌, ◌++◌, Option, Some, None, refl, ap, ◌∙◌, append-nil}
+use Rattle.std.proofs.Common.{◌≡◌, Bool, true, false, ◌||◌, List, [], ◌∷◌, ◌++◌, Option, Some, None, refl, ap, ◌∙◌, append-nil}
 use Rattle.std.specs.Prelude.{filter, filter_map, unwrap_or, option_map}
 use Rattle.std.proofs.lemmas.List.Folds.{list_any-append}
 use Rattle.std.proofs.lemmas.List.Elements.{filter-append, filter_map-append}
@@ -56,7 +56,7 @@ module _ (s : List Step) (x : Step) (none : has_finish s ≡ false) (other : is_
   last-passed is =
       let no_more : filter_map response_of (x ∷ []) ≡ [] = rw is refl in
       ap (λ (t : List Response). unwrap_or (last_of t) blank)
-        (read-push response_of ∙ ap (λ (t : List Response). filter_map response_of (before s) ++ t) no_more ∙ append-nil (filter_map response_of (before s)))
+      (read-push response_of ∙ ap (λ (t : List Response). filter_map response_of (before s) ++ t) no_more ∙ append-nil (filter_map response_of (before s)))
 
 -- ---- the complete Submits
 
@@ -71,7 +71,7 @@ module _ (b : Behaviour) (q : Question) (s : List Step) where
   handed_in-passed x none other is =
       let no_more : filter_map submitted (x ∷ []) ≡ [] = rw is refl in
       ap (filter (complete_under b q))
-        (read-push s x none other submitted ∙ ap (λ (t : List Response). filter_map submitted (before s) ++ t) no_more ∙ append-nil (filter_map submitted (before s)))
+      (read-push s x none other submitted ∙ ap (λ (t : List Response). filter_map submitted (before s) ++ t) no_more ∙ append-nil (filter_map submitted (before s)))
 
   submitted-push : (r : Response) → has_finish s ≡ false → handed_in b q (s ++ step.Submit r ∷ []) ≡ handed_in b q s ++ filter (complete_under b q) (r ∷ [])
   submitted-push r none =

@@ -4,16 +4,16 @@ use Rattle.std.specs.Prelude.{if◌then◌else◌, find, is_some, unwrap_or, opt
 use Rattle.qz_grading.specs.declared.outcome.Behaviour.{Behaviour}
 use Rattle.qz_grading.specs.declared.outcome.Behaviour.TheVariants as behaviour
 use Rattle.qz_grading.specs.declared.outcome.Outcome.{Outcome}
-use Rattle.qz_grading.specs.declared.outcome.State.{State}
 use Rattle.qz_grading.specs.declared.outcome.State.TheVariants as state
 use Rattle.qz_grading.specs.declared.question.Question.{Question}
 use Rattle.qz_grading.specs.declared.response.Response.{Response}
 use Rattle.qz_grading.specs.declared.response.Step.{Step}
 use Rattle.qz_grading.specs.declared.response.Step.TheVariants as step
 use Rattle.qz_grading.specs.Steps.{is_finish, has_finish, last, response_of, submitted}
-use Rattle.qz_grading.specs.Behaviours.{Standing, complete_under, handed_in, first_handed_in, ends_incomplete, by_grade, at_finish, deferred, immediate, manual, information, standing, has_ended, outcome}
+use Rattle.qz_grading.specs.Behaviours.{Standing, complete_under, handed_in, first_handed_in, ends_incomplete, by_grade, at_finish, immediate, standing, has_ended, outcome}
 use Rattle.qz_grading.proofs.StepLemmas.{has_finish-push, has_finish-finished, last-finished}
-use Rattle.qz_behave.specs.Machines.{is_played, is_deferred, grades_first, going_on, ended_with}
+use Rattle.qz_behave.specs.Machines.{is_played}
+use Rattle.qz_behave.specs.Following.{is_deferred, grades_first, going_on, ended_with}
 use Rattle.qz_behave.proofs.MoreSteps.{has_finish-closed, last-closed, last-answered, last-passed, handed_in-closed, handed_in-finished, handed_in-passed, handed_in-complete, handed_in-incomplete, ends_in_submit-push}
 
 pub or-left : (a b : Bool) → (a || b) ≡ false → a ≡ false

@@ -1,19 +1,16 @@
 -- What a machine knows of the steps that it followed.
-use Rattle.std.specs.Prelude.{◌≡◌, ℕ, ◌<◌, Bool, true, false, List, [], ◌∷◌, length, Option, None, IfSome, unwrap_or, option_and_then, slice_get}
+use Rattle.std.specs.Prelude.{◌≡◌, ℕ, ◌<◌, Bool, true, false, List, [], length, Option, IfSome, unwrap_or, option_and_then, slice_get}
 use Rattle.qz_decimal.specs.Numbers.{IsEarnedFraction}
 use Rattle.qz_grading.specs.declared.outcome.Behaviour.{Behaviour}
 use Rattle.qz_grading.specs.declared.outcome.Behaviour.TheVariants as behaviour
 use Rattle.qz_grading.specs.declared.outcome.Outcome.{Outcome}
-use Rattle.qz_grading.specs.declared.outcome.State.{State}
 use Rattle.qz_grading.specs.declared.question.Question.{Question}
 use Rattle.qz_grading.specs.declared.response.Response.{Response}
 use Rattle.qz_grading.specs.declared.response.Step.{Step}
 use Rattle.qz_grading.specs.declared.response.Step.TheVariants as step
 use Rattle.qz_grading.specs.Grading as grading
-use Rattle.qz_grading.specs.Questions.{IsQuestion}
 use Rattle.qz_grading.specs.Steps as steps
 use Rattle.qz_grading.specs.Behaviours as behaviours
-use Rattle.qz_grading.specs.Behaviours.{Standing}
 
 -- what a machine is seen as: the place is that of the last response, if any
 pub record Progress : Type 0 where
@@ -36,7 +33,8 @@ is_played b = false
 abbrev pub response_at : List Step → Option ℕ → Response
 response_at s place = unwrap_or (option_and_then steps.response_of (option_and_then (slice_get s) place)) grading.blank
 
--- a machine that followed these steps of the question, each from the first, knows what comes of all of them
+-- a machine that has followed these steps of this question knows what comes of them. It keeps the place of the last response and
+-- not the response, which has to fit where it can be graded.
 pub record IsAfter (m : Progress) (q : Question) (s : List Step) : Type 0 where
   pub plays : is_played m.behaviour ≡ true
   pub outcome : m.outcome ≡ behaviours.outcome m.behaviour q s
@@ -58,43 +56,3 @@ StepFits b q x = IfSome (steps.response_of x) (λ r. grading.fits q r b ≡ true
 abbrev pub is_save : Step → Bool
 is_save (step.Save r) = true
 is_save x = false
-
--- ---- outcomes without numbered tries
-
--- of a slot that goes on
-abbrev pub going_on : State → Outcome
-going_on state = record { state = state; fraction = None; ended = false; needs_again = false; tries = 0 }
-
--- of a slot that ended
-abbrev pub ended_with : Standing → Outcome
-ended_with standing = record { state = standing.0; fraction = standing.1; ended = true; needs_again = false; tries = 0 }
-
--- the last response is graded at the Finish alone
-abbrev pub is_deferred : Behaviour → Bool
-is_deferred behaviour.Deferred = true
-is_deferred behaviour.DeferredCbm = true
-is_deferred b = false
-
--- the first complete Submit ends the slot
-abbrev pub grades_first : Behaviour → Bool
-grades_first behaviour.Immediate = true
-grades_first behaviour.ImmediateCbm = true
-grades_first b = false
-
--- ---- one more step
-
--- the place of the last response among these steps
-pub record IsLastPlace (place : Option ℕ) (s : List Step) : Type 0 where
-  pub at : response_at s place ≡ steps.last s
-  pub inside : IfSome place (λ i. i < length s)
-
--- a step that follows these
-pub record IsNext (m : Progress) (q : Question) (s : List Step) (x : Step) : Type 0 where
-  pub question : IsQuestion q
-  pub after : IsAfter m q s
-  pub fits : StepFits m.behaviour q x
-
--- what comes of these steps
-pub record IsOutcome (b : Behaviour) (q : Question) (s : List Step) (o : Outcome) : Type 0 where
-  pub value : o ≡ behaviours.outcome b q s
-  pub earned : IfSome o.fraction IsEarnedFraction

@@ -5,7 +5,7 @@ ghost use Rattle.qz_decimal.specs.Numbers.{one, IsWithin, IsEarnedFraction};
 ghost use Rattle.qz_grading.specs.Grading.{fits, asks_certainty};
 ghost use Rattle.qz_grading.specs.Questions.{IsQuestion};
 ghost use Rattle.qz_grading.specs.Behaviours.{complete_under, graded, lost, times, by_certainty, by_grade};
-ghost use Rattle.qz_behave.specs.Machines.{going_on, ended_with};
+ghost use Rattle.qz_behave.specs.Following.{going_on, ended_with};
 
 use qz_decimal::{Fraction, Tone, tone_of};
 use qz_grading::{Behaviour, Outcome, Question, Response, State, Steps, complete, grade};

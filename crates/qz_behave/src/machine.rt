@@ -6,7 +6,8 @@ ghost use Rattle.qz_grading.specs.Grading.{blank, same};
 ghost use Rattle.qz_grading.specs.Questions.{IsQuestion};
 ghost use Rattle.qz_grading.specs.Steps.{is_finish, has_finish, last, last_of, response_of, submitted};
 ghost use Rattle.qz_grading.specs.Behaviours.{complete_under, takes, comes_late, barred, moved, at_finish};
-ghost use Rattle.qz_behave.specs.Machines.{is_played, is_deferred, grades_first, is_save, response_at, IsAfter, Starts, StepFits, IsLastPlace, IsNext, IsOutcome, going_on, ended_with};
+ghost use Rattle.qz_behave.specs.Machines.{is_played, is_save, response_at, IsAfter, Starts, StepFits};
+ghost use Rattle.qz_behave.specs.Following.{is_deferred, grades_first, IsLastPlace, IsNext, IsOutcome, going_on, ended_with};
 
 use crate::grades::{ended, going_on, graded_outcome, is_complete};
 use qz_grading::{

@@ -1,4 +1,4 @@
-use Rattle.std.proofs.Common.{◌≡◌, true, false, Some, None, ap, sym, ◌∙◌, refl}
+use Rattle.std.proofs.Common.{◌≡◌, true, false, None, ap, sym, ◌∙◌, refl}
 use Rattle.qz_grading.specs.Steps.{has_finish, response_of}
 use Rattle.qz_behave.specs.Machines.{Progress}
 use Rattle.qz_behave.proofs.OneMore.{or-true}
@@ -19,4 +19,4 @@ pub returns-in-None : goal.returns-in-None
 returns-in-None c =
     let is : response_of c.args.step.now ≡ None = sym c.in-None.ensures in
     rw (ap (λ (m : Progress). m.last) c.self.view_is)
-      (place-kept c.args.self.now.last c.args.before.now c.args.step.now c.requires.place (rw is (or-true (has_finish c.args.before.now))))
+    (place-kept c.args.self.now.last c.args.before.now c.args.step.now c.requires.place (rw is (or-true (has_finish c.args.before.now))))
