@@ -6,3 +6,6 @@ mod grades;
 mod machine;
 
 pub use machine::Machine;
+
+#[cfg(test)]
+mod tests;
