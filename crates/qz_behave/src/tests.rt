@@ -213,19 +213,23 @@ fn said(
     Ok(said)
 }
 
+/// Each line has steps, a colon, and what is said then.
 fn hold(
     rt: &impl Abort,
     alloc: Global,
     question: &Question,
     behaviour: Behaviour,
-    rows: &[(&str, &str)],
+    lines: &str,
 ) -> Result<(), NoMemory>
     requires played { is_played behaviour ≡ true }
     requires question { IsQuestion question.now }
 {
-    for (words, want) in rows {
+    for line in lines.lines() {
+        let Some((words, want)) = line.trim().split_once(": ") else {
+            panic!(rt; "no colon in {line}");
+        };
         let said = said(alloc, question, behaviour, words)?;
-        assert_eq!(rt; said.as_str(), *want, "{words}");
+        assert_eq!(rt; said.as_str(), want, "{words}");
     }
     Ok(())
 }
@@ -233,47 +237,41 @@ fn hold(
 #[test]
 fn deferred_feedback(rt: HostRuntime) -> Result<(), Fail> {
     let alloc = rt.alloc();
-    let rows = [
-        ("s01", "kept complete -"),
-        ("f", "kept gaveup -"),
-        ("s01 f", "kept gradedright 10000000"),
-        ("s01 s02 f", "kept gradedwrong 0"),
-        ("u01 f", "kept gradedright 10000000"),
-        ("s01 f m", "kept gradedright 10000000"),
-        ("s00", "same todo -"),
-        ("s01 s01", "same complete -"),
-        ("u01", "wrong todo -"),
-        ("s01 a", "wrong complete -"),
-        ("s02 f u01", "wrong gradedwrong 0"),
-        ("s02 f s01", "gradedwrong gradedwrong 0"),
-        ("s02 f f", "gradedwrong gradedwrong 0"),
-    ];
-    hold(&rt, alloc, &sky(alloc), Behaviour::Deferred, &rows)?;
-    let weights = [
-        ("s02 f", "kept gradedpartial 5000000"),
-        ("s03 f", "kept gradedwrong -2500000"),
-    ];
-    hold(&rt, alloc, &weighed(alloc)?, Behaviour::Deferred, &weights)?;
+    let lines = "s01: kept complete -
+        f: kept gaveup -
+        s01 f: kept gradedright 10000000
+        s01 s02 f: kept gradedwrong 0
+        u01 f: kept gradedright 10000000
+        s01 f m: kept gradedright 10000000
+        s00: same todo -
+        s01 s01: same complete -
+        u01: wrong todo -
+        s01 a: wrong complete -
+        s02 f u01: wrong gradedwrong 0
+        s02 f s01: gradedwrong gradedwrong 0
+        s02 f f: gradedwrong gradedwrong 0";
+    hold(&rt, alloc, &sky(alloc), Behaviour::Deferred, lines)?;
+    let weights = "s02 f: kept gradedpartial 5000000
+        s03 f: kept gradedwrong -2500000";
+    hold(&rt, alloc, &weighed(alloc)?, Behaviour::Deferred, weights)?;
     Ok(())
 }
 
 #[test]
 fn immediate_feedback(rt: HostRuntime) -> Result<(), Fail> {
     let alloc = rt.alloc();
-    let rows = [
-        ("s01", "kept todo -"),
-        ("u00", "kept invalid -"),
-        ("u00 s01", "kept todo -"),
-        ("u00 u00", "same invalid -"),
-        ("u01", "kept gradedright 10000000"),
-        ("u01 f", "kept gradedright 10000000"),
-        ("u02 u01 f", "kept gradedwrong 0"),
-        ("s01 f", "kept gradedright 10000000"),
-        ("f", "kept gaveup -"),
-        ("u01 s02", "gradedright gradedright 10000000"),
-        ("u02 u01", "gradedwrong gradedwrong 0"),
-    ];
-    hold(&rt, alloc, &sky(alloc), Behaviour::Immediate, &rows)?;
+    let lines = "s01: kept todo -
+        u00: kept invalid -
+        u00 s01: kept todo -
+        u00 u00: same invalid -
+        u01: kept gradedright 10000000
+        u01 f: kept gradedright 10000000
+        u02 u01 f: kept gradedwrong 0
+        s01 f: kept gradedright 10000000
+        f: kept gaveup -
+        u01 s02: gradedright gradedright 10000000
+        u02 u01: gradedwrong gradedwrong 0";
+    hold(&rt, alloc, &sky(alloc), Behaviour::Immediate, lines)?;
     Ok(())
 }
 
@@ -281,61 +279,57 @@ fn immediate_feedback(rt: HostRuntime) -> Result<(), Fail> {
 #[test]
 fn certainty_after_the_finish(rt: HostRuntime) -> Result<(), Fail> {
     let alloc = rt.alloc();
-    let rows = [
-        ("s11 f", "kept gradedright 10000000"),
-        ("s21 f", "kept gradedright 20000000"),
-        ("s31 f", "kept gradedright 30000000"),
-        ("s12 f", "kept gradedwrong 0"),
-        ("s22 f", "kept gradedwrong -20000000"),
-        ("s32 f", "kept gradedwrong -60000000"),
-        ("s01", "kept todo -"),
-        ("s01 f", "kept gradedright 10000000"),
-    ];
-    hold(&rt, alloc, &sky(alloc), Behaviour::DeferredCbm, &rows)?;
-    let weights = [
-        ("s32 f", "kept gradedpartial 15000000"),
-        ("s13 f", "kept gradedwrong 0"),
-    ];
-    hold(&rt, alloc, &weighed(alloc)?, Behaviour::DeferredCbm, &weights)?;
+    let lines = "s11 f: kept gradedright 10000000
+        s21 f: kept gradedright 20000000
+        s31 f: kept gradedright 30000000
+        s12 f: kept gradedwrong 0
+        s22 f: kept gradedwrong -20000000
+        s32 f: kept gradedwrong -60000000
+        s01: kept todo -
+        s01 f: kept gradedright 10000000";
+    hold(&rt, alloc, &sky(alloc), Behaviour::DeferredCbm, lines)?;
+    let weights = "s32 f: kept gradedpartial 15000000
+        s13 f: kept gradedwrong 0";
+    hold(
+        &rt,
+        alloc,
+        &weighed(alloc)?,
+        Behaviour::DeferredCbm,
+        weights,
+    )?;
     Ok(())
 }
 
 #[test]
 fn certainty_at_once(rt: HostRuntime) -> Result<(), Fail> {
     let alloc = rt.alloc();
-    let rows = [
-        ("u01", "kept invalid -"),
-        ("u31", "kept gradedright 30000000"),
-        ("u22", "kept gradedwrong -20000000"),
-        ("u01 f", "kept gradedright 10000000"),
-    ];
-    hold(&rt, alloc, &sky(alloc), Behaviour::ImmediateCbm, &rows)?;
+    let lines = "u01: kept invalid -
+        u31: kept gradedright 30000000
+        u22: kept gradedwrong -20000000
+        u01 f: kept gradedright 10000000";
+    hold(&rt, alloc, &sky(alloc), Behaviour::ImmediateCbm, lines)?;
     Ok(())
 }
 
 #[test]
 fn marked_by_a_teacher(rt: HostRuntime) -> Result<(), Fail> {
     let alloc = rt.alloc();
-    let rows = [
-        ("s01", "kept complete -"),
-        ("s01 f", "kept needsgrading -"),
-        ("s01 f m", "kept needsgrading -"),
-        ("f", "kept gaveup -"),
-        ("u01", "wrong todo -"),
-    ];
-    hold(&rt, alloc, &sky(alloc), Behaviour::Manual, &rows)?;
+    let lines = "s01: kept complete -
+        s01 f: kept needsgrading -
+        s01 f m: kept needsgrading -
+        f: kept gaveup -
+        u01: wrong todo -";
+    hold(&rt, alloc, &sky(alloc), Behaviour::Manual, lines)?;
     Ok(())
 }
 
 #[test]
 fn information(rt: HostRuntime) -> Result<(), Fail> {
     let alloc = rt.alloc();
-    let rows = [
-        ("f", "kept finished -"),
-        ("s01", "wrong todo -"),
-        ("f m", "wrong finished -"),
-        ("f f", "finished finished -"),
-    ];
-    hold(&rt, alloc, &sky(alloc), Behaviour::Information, &rows)?;
+    let lines = "f: kept finished -
+        s01: wrong todo -
+        f m: wrong finished -
+        f f: finished finished -";
+    hold(&rt, alloc, &sky(alloc), Behaviour::Information, lines)?;
     Ok(())
 }
