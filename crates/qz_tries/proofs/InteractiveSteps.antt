@@ -1,0 +1,131 @@
+-- The outcome of an interactive slot after one more step.
+use Rattle.std.proofs.Common.{◌≡◌, ℕ, ◌+◌, ◌-◌, Bool, true, false, cond, not, ◌&&◌, ◌||◌, List, [], ◌∷◌, ◌++◌, length, Option, Some, None, pos, refl, ap, sym, ◌∙◌, arith, length-append}
+use Rattle.std.specs.Prelude.{find, unwrap_or, option_map, is_some, if◌then◌else◌, ◌==◌}
+use Rattle.std.specs.List.{enumerate_from}
+use Rattle.std.specs.Option.{option_or}
+use Rattle.std.proofs.lemmas.List.Folds.{find-append}
+use Rattle.qz_grading.specs.declared.outcome.Behaviour.TheVariants.{Interactive}
+use Rattle.qz_grading.specs.declared.outcome.Outcome.{Outcome}
+use Rattle.qz_grading.specs.declared.outcome.State.TheVariants as state
+use Rattle.qz_grading.specs.declared.question.Question.{Question}
+use Rattle.qz_grading.specs.declared.response.Response.{Response}
+use Rattle.qz_grading.specs.declared.response.Step.{Step}
+use Rattle.qz_grading.specs.declared.response.Step.TheVariants as step
+use Rattle.qz_grading.specs.Grading.{gradable, grade}
+use Rattle.qz_grading.specs.Steps.{is_finish, has_finish, before, last, submitted}
+use Rattle.qz_grading.specs.Behaviours.{complete_under, handed_in, ends_complete, ends_incomplete, ending_try, tries_allowed, is_right, graded, penalised, tried, unfinished, outcome}
+use Rattle.qz_grading.proofs.StepLemmas.{has_finish-push, has_finish-finished, before-open, before-finished, last-finished}
+use Rattle.qz_tries.proofs.MoreSteps.{has_finish-closed, before-closed, last-closed, handed_in-closed, handed_in-finished, handed_in-complete, ends_in_submit-push, enumerate_from-append, and-false, and-true}
+
+-- a try, with its number, that ends the slot
+abbrev pub ends : Question → ℕ × Response → Bool
+ends q t = is_right (grade q t.1) || (t.0 == tries_allowed q)
+
+abbrev ending_of : Question → List Response → Option (ℕ × Response)
+ending_of q tries = find (ends q) (enumerate_from 1 tries)
+
+-- after a Finish nothing changes
+pub outcome-closed : (q : Question) (s : List Step) (x : Step) → has_finish s ≡ true → outcome Interactive q (s ++ x ∷ []) ≡ outcome Interactive q s
+outcome-closed q s x closed = rw (before-closed s x closed, has_finish-closed s x closed, closed) refl
+
+-- a step that is no complete Submit: an ended slot stays as it is, and another goes on
+waits-by : (q : Question) (s : List Step) (x : Step) (incomplete : Bool) (e : Option (ℕ × Response)) → ending_try Interactive q s ≡ e → has_finish s ≡ false → is_finish x ≡ false
+    → handed_in Interactive q (s ++ x ∷ []) ≡ handed_in Interactive q s → ends_complete Interactive q (s ++ x ∷ []) ≡ false → ends_incomplete Interactive q (s ++ x ∷ []) ≡ incomplete
+    → outcome Interactive q (s ++ x ∷ []) ≡ (if (outcome Interactive q s).ended then outcome Interactive q s else record (outcome Interactive q s) { state = if incomplete then state.Invalid else state.Todo; needs_again = false })
+waits-by q s x incomplete None none still other same partial is =
+    let open_still : has_finish (s ++ x ∷ []) ≡ false = has_finish-push s x other ∙ still in
+    let all : before (s ++ x ∷ []) ≡ s ++ x ∷ [] = before-open (s ++ x ∷ []) open_still in
+    rw (open_still, still, same, none, all, partial, is) refl
+waits-by q s x incomplete (Some t) ending still other same partial is =
+    let open_still : has_finish (s ++ x ∷ []) ≡ false = has_finish-push s x other ∙ still in
+    rw (open_still, still, same, ending, and-false, and-false) refl
+
+pub waits : (q : Question) (s : List Step) (x : Step) (incomplete : Bool) → has_finish s ≡ false → is_finish x ≡ false
+    → handed_in Interactive q (s ++ x ∷ []) ≡ handed_in Interactive q s → ends_complete Interactive q (s ++ x ∷ []) ≡ false → ends_incomplete Interactive q (s ++ x ∷ []) ≡ incomplete
+    → outcome Interactive q (s ++ x ∷ []) ≡ (if (outcome Interactive q s).ended then outcome Interactive q s else record (outcome Interactive q s) { state = if incomplete then state.Invalid else state.Todo; needs_again = false })
+waits q s x incomplete still other same partial is = waits-by q s x incomplete (ending_try Interactive q s) refl still other same partial is
+
+-- ---- a complete Submit
+
+ending_of-push : (q : Question) (tries : List Response) (r : Response) → ending_of q (tries ++ r ∷ []) ≡ option_or (ending_of q tries) (if ends q (length tries + 1, r) then Some (length tries + 1, r) else None)
+ending_of-push q tries r =
+    let count : 1 + length tries ≡ length tries + 1 = omega arith in
+    ap (find (ends q)) (enumerate_from-append 1 tries (r ∷ []))
+    ∙ find-append (ends q) (enumerate_from 1 tries) (enumerate_from (1 + length tries) (r ∷ []))
+    ∙ ap (λ (n : ℕ). option_or (ending_of q tries) (if ends q (n, r) then Some (n, r) else None)) count
+
+-- the try that ended the slot stays the one
+tries_more-by : (q : Question) (s : List Step) (r : Response) (e : Option (ℕ × Response)) → ending_try Interactive q s ≡ e → has_finish s ≡ false → complete_under Interactive q r ≡ true → (outcome Interactive q s).ended ≡ true
+    → outcome Interactive q (s ++ step.Submit r ∷ []) ≡ record (outcome Interactive q s) { tries = (outcome Interactive q s).tries + 1 }
+tries_more-by q s r None none still whole ended = let h = rw (still, none) at ended in absurd cc
+tries_more-by q s r (Some t) ending still whole ended =
+    let open_still : has_finish (s ++ step.Submit r ∷ []) ≡ false = has_finish-push s (step.Submit r) refl ∙ still in
+    let same : ending_of q (handed_in Interactive q s ++ r ∷ []) ≡ Some t = ending_of-push q (handed_in Interactive q s) r ∙ rw ending refl in
+    rw (open_still, still, handed_in-complete Interactive q s r still whole, same, ending, and-false, and-false, length-append (handed_in Interactive q s) (r ∷ [])) refl
+
+pub tries_more : (q : Question) (s : List Step) (r : Response) → has_finish s ≡ false → complete_under Interactive q r ≡ true → (outcome Interactive q s).ended ≡ true
+    → outcome Interactive q (s ++ step.Submit r ∷ []) ≡ record (outcome Interactive q s) { tries = (outcome Interactive q s).tries + 1 }
+tries_more q s r still whole ended = tries_more-by q s r (ending_try Interactive q s) refl still whole ended
+
+-- a try that ends the slot
+ends_now-by : (q : Question) (s : List Step) (r : Response) (e : Option (ℕ × Response)) → ending_try Interactive q s ≡ e → has_finish s ≡ false → complete_under Interactive q r ≡ true → (outcome Interactive q s).ended ≡ false
+    → ends q ((outcome Interactive q s).tries + 1, r) ≡ true
+    → outcome Interactive q (s ++ step.Submit r ∷ []) ≡ record { state = graded (grade q r); fraction = Some (penalised q (outcome Interactive q s).tries r); ended = true; needs_again = false; tries = (outcome Interactive q s).tries + 1 }
+ends_now-by q s r (Some t) ending still whole open_yet now = let h = rw (still, ending) at open_yet in absurd cc
+ends_now-by q s r None none still whole open_yet now =
+    let open_still : has_finish (s ++ step.Submit r ∷ []) ≡ false = has_finish-push s (step.Submit r) refl ∙ still in
+    let here : ending_of q (handed_in Interactive q s ++ r ∷ []) ≡ Some (length (handed_in Interactive q s) + 1, r) = ending_of-push q (handed_in Interactive q s) r ∙ rw (none, now) refl in
+    let before_it : length (handed_in Interactive q s) + 1 - 1 ≡ length (handed_in Interactive q s) = omega arith in
+    rw (open_still, handed_in-complete Interactive q s r still whole, here, and-false, length-append (handed_in Interactive q s) (r ∷ []), before_it) refl
+
+pub ends_now : (q : Question) (s : List Step) (r : Response) → has_finish s ≡ false → complete_under Interactive q r ≡ true → (outcome Interactive q s).ended ≡ false
+    → ends q ((outcome Interactive q s).tries + 1, r) ≡ true
+    → outcome Interactive q (s ++ step.Submit r ∷ []) ≡ record { state = graded (grade q r); fraction = Some (penalised q (outcome Interactive q s).tries r); ended = true; needs_again = false; tries = (outcome Interactive q s).tries + 1 }
+ends_now q s r still whole open_yet now = ends_now-by q s r (ending_try Interactive q s) refl still whole open_yet now
+
+-- a try that doesn't: "try again" is needed
+goes_on-by : (q : Question) (s : List Step) (r : Response) (e : Option (ℕ × Response)) → ending_try Interactive q s ≡ e → has_finish s ≡ false → complete_under Interactive q r ≡ true → (outcome Interactive q s).ended ≡ false
+    → ends q ((outcome Interactive q s).tries + 1, r) ≡ false
+    → outcome Interactive q (s ++ step.Submit r ∷ []) ≡ record { state = state.Todo; fraction = None; ended = false; needs_again = true; tries = (outcome Interactive q s).tries + 1 }
+goes_on-by q s r (Some t) ending still whole open_yet goes = let h = rw (still, ending) at open_yet in absurd cc
+goes_on-by q s r None none still whole open_yet goes =
+    let open_still : has_finish (s ++ step.Submit r ∷ []) ≡ false = has_finish-push s (step.Submit r) refl ∙ still in
+    let all : before (s ++ step.Submit r ∷ []) ≡ s ++ step.Submit r ∷ [] = before-open (s ++ step.Submit r ∷ []) open_still in
+    let nowhere : ending_of q (handed_in Interactive q s ++ r ∷ []) ≡ None = ending_of-push q (handed_in Interactive q s) r ∙ rw (none, goes) refl in
+    let whole_end : ends_complete Interactive q (s ++ step.Submit r ∷ []) ≡ true = ends_in_submit-push (complete_under Interactive q) s (step.Submit r) ∙ whole in
+    let no_part : ends_incomplete Interactive q (s ++ step.Submit r ∷ []) ≡ false = ends_in_submit-push (λ (t : Response). not (complete_under Interactive q t)) s (step.Submit r) ∙ ap not whole in
+    rw (open_still, handed_in-complete Interactive q s r still whole, nowhere, all, whole_end, no_part, length-append (handed_in Interactive q s) (r ∷ [])) refl
+
+pub goes_on : (q : Question) (s : List Step) (r : Response) → has_finish s ≡ false → complete_under Interactive q r ≡ true → (outcome Interactive q s).ended ≡ false
+    → ends q ((outcome Interactive q s).tries + 1, r) ≡ false
+    → outcome Interactive q (s ++ step.Submit r ∷ []) ≡ record { state = state.Todo; fraction = None; ended = false; needs_again = true; tries = (outcome Interactive q s).tries + 1 }
+goes_on q s r still whole open_yet goes = goes_on-by q s r (ending_try Interactive q s) refl still whole open_yet goes
+
+-- ---- the Finish
+
+finishes_ended-by : (q : Question) (s : List Step) (e : Option (ℕ × Response)) → ending_try Interactive q s ≡ e → has_finish s ≡ false → (outcome Interactive q s).ended ≡ true
+    → outcome Interactive q (s ++ step.Finish ∷ []) ≡ outcome Interactive q s
+finishes_ended-by q s None none still ended = let h = rw (still, none) at ended in absurd cc
+finishes_ended-by q s (Some t) ending still ended = rw (has_finish-finished s, still, before-finished s, ending, and-false) refl
+
+pub finishes_ended : (q : Question) (s : List Step) → has_finish s ≡ false → (outcome Interactive q s).ended ≡ true → outcome Interactive q (s ++ step.Finish ∷ []) ≡ outcome Interactive q s
+finishes_ended q s still ended = finishes_ended-by q s (ending_try Interactive q s) refl still ended
+
+-- no try ended the slot: the last response is graded, where it can be
+graded_finish-by : (q : Question) (s : List Step) (e : Option (ℕ × Response)) → ending_try Interactive q s ≡ e → has_finish s ≡ false → (outcome Interactive q s).ended ≡ false → gradable q (last s) ≡ true
+    → outcome Interactive q (s ++ step.Finish ∷ []) ≡ record { state = graded (grade q (last s)); fraction = Some (penalised q (outcome Interactive q s).tries (last s)); ended = true; needs_again = false; tries = (outcome Interactive q s).tries }
+graded_finish-by q s (Some t) ending still open_yet can = let h = rw (still, ending) at open_yet in absurd cc
+graded_finish-by q s None none still open_yet can = rw (has_finish-finished s, before-finished s, none, can, and-false) refl
+
+pub graded_finish : (q : Question) (s : List Step) → has_finish s ≡ false → (outcome Interactive q s).ended ≡ false → gradable q (last s) ≡ true
+    → outcome Interactive q (s ++ step.Finish ∷ []) ≡ record { state = graded (grade q (last s)); fraction = Some (penalised q (outcome Interactive q s).tries (last s)); ended = true; needs_again = false; tries = (outcome Interactive q s).tries }
+graded_finish q s still open_yet can = graded_finish-by q s (ending_try Interactive q s) refl still open_yet can
+
+gives_up-by : (q : Question) (s : List Step) (e : Option (ℕ × Response)) → ending_try Interactive q s ≡ e → has_finish s ≡ false → (outcome Interactive q s).ended ≡ false → gradable q (last s) ≡ false
+    → outcome Interactive q (s ++ step.Finish ∷ []) ≡ record { state = state.GaveUp; fraction = None; ended = true; needs_again = false; tries = (outcome Interactive q s).tries }
+gives_up-by q s (Some t) ending still open_yet cannot = let h = rw (still, ending) at open_yet in absurd cc
+gives_up-by q s None none still open_yet cannot = rw (has_finish-finished s, before-finished s, none, cannot, and-false) refl
+
+pub gives_up : (q : Question) (s : List Step) → has_finish s ≡ false → (outcome Interactive q s).ended ≡ false → gradable q (last s) ≡ false
+    → outcome Interactive q (s ++ step.Finish ∷ []) ≡ record { state = state.GaveUp; fraction = None; ended = true; needs_again = false; tries = (outcome Interactive q s).tries }
+gives_up q s still open_yet cannot = gives_up-by q s (ending_try Interactive q s) refl still open_yet cannot

@@ -1,0 +1,3 @@
+pub mod MoreSteps
+pub mod InteractiveSteps
+pub mod AdaptiveSteps
