@@ -4,7 +4,7 @@ use Rattle.std.specs.Char.{is_ascii_digit, digit_value}
 use Rattle.std.specs.Int.{IsInRange}
 use Rattle.std.specs.List.{prefix_len}
 use Rattle.std.specs.Str.{all_ascii_digits}
-use Rattle.std.specs.Str.Parse.{digits_value}
+use Rattle.std.specs.Str.Parse.{digits_value, digits_value_after}
 use Rattle.std.proofs.lemmas.Bool.{and_parts, and_from, cases_lt, eq-eqb}
 use Rattle.std.proofs.lemmas.Bool.Decides.{nat_tests}
 use Rattle.std.proofs.lemmas.Int.Digits.{digits_value-lt, digits_value_more}
@@ -12,7 +12,7 @@ use Rattle.std.proofs.lemmas.Str.Parse.{IsNumeralModel, numerals_by_value, tells
 use Rattle.std.proofs.lemmas.List.{take-append-drop, length-take-le, length-drop, get_or-drop, take_at, drop_at}
 use Rattle.std.proofs.lemmas.List.Sums.{prefix_len-le-length, prefix_len_stops}
 use Rattle.std.proofs.lemmas.List.Folds.{prefix_len-append}
-use Rattle.std.proofs.Math.Nat.{pow-le-pow_right}
+use Rattle.std.proofs.Math.Nat.{pow-le-pow_right, pow-suc}
 use Rattle.qz_decimal.specs.Reading.{digit_count, first_digits, after_digits}
 
 numerals : IsNumeralModel (λ ds. all_ascii_digits ds ≡ true) (digits_value 10)
@@ -33,6 +33,34 @@ digits_value-below digits each = digits_value-lt 10 digits (numerals.to digits e
 -- one digit more
 pub digits_value-next : (digits : List ℕ) (i : ℕ) → all_ascii_digits digits ≡ true → i < length digits → digits_value 10 (take (i + 1) digits) ≡ digits_value 10 (take i digits) * 10 + (get_or digits i 0 - 48)
 digits_value-next digits i each lt = digits_value_more 10 digits i lt ∙ ap (λ d. digits_value 10 (take i digits) * 10 + d) (digit_value-is _ (digit_in_range digits i each lt))
+
+digits_value_after-append : (n : ℕ) (xs ys : List ℕ) → digits_value_after 10 n (xs ++ ys) ≡ digits_value_after 10 (digits_value_after 10 n xs) ys
+digits_value_after-append n [] ys = refl
+digits_value_after-append n (x ∷ xs) ys = digits_value_after-append (n * 10 + digit_value x) xs ys
+
+digits_value_after-is : (n : ℕ) (ys : List ℕ) → digits_value_after 10 n ys ≡ n * 10 ^ length ys + digits_value 10 ys
+digits_value_after-is n [] = omega arith
+digits_value_after-is n (y ∷ ys) =
+    let d = digit_value y in
+    let parts : (n * 10 + d) * 10 ^ length ys + digits_value 10 ys ≡ n * 10 ^ suc (length ys) + ((0 * 10 + d) * 10 ^ length ys + digits_value 10 ys) = rw pow-suc (omega arith) in
+    digits_value_after-is (n * 10 + d) ys ∙ parts ∙ ap (λ k. n * 10 ^ suc (length ys) + k) (sym (digits_value_after-is (0 * 10 + d) ys))
+
+-- digits behind digits
+pub digits_value-append : (xs ys : List ℕ) → digits_value 10 (xs ++ ys) ≡ digits_value 10 xs * 10 ^ length ys + digits_value 10 ys
+digits_value-append xs ys = digits_value_after-append 0 xs ys ∙ digits_value_after-is (digits_value 10 xs) ys
+
+pub all_ascii_digits-append : (xs ys : List ℕ) → all_ascii_digits xs ≡ true → all_ascii_digits ys ≡ true → all_ascii_digits (xs ++ ys) ≡ true
+all_ascii_digits-append [] ys first second = second
+all_ascii_digits-append (x ∷ xs) ys first second =
+    let parts = and_parts (is_ascii_digit x) (all_ascii_digits xs) first in
+    and_from (is_ascii_digit x) (all_ascii_digits (xs ++ ys)) parts.0 (all_ascii_digits-append xs ys parts.1 second)
+
+pub all_ascii_digits-parts : (xs ys : List ℕ) → all_ascii_digits (xs ++ ys) ≡ true → (all_ascii_digits xs ≡ true) × (all_ascii_digits ys ≡ true)
+all_ascii_digits-parts [] ys each = (refl, each)
+all_ascii_digits-parts (x ∷ xs) ys each =
+    let first = and_parts (is_ascii_digit x) (all_ascii_digits (xs ++ ys)) each in
+    let others = all_ascii_digits-parts xs ys first.1 in
+    (and_from (is_ascii_digit x) (all_ascii_digits xs) first.0 others.0, others.1)
 
 -- ---- a text's first digits
 

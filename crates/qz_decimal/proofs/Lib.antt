@@ -4,3 +4,7 @@ pub mod Scan
 pub mod Places
 pub mod Spelled
 pub mod Complete
+pub mod Exact
+pub mod Scales
+pub mod DecimalTexts
+pub mod Weights

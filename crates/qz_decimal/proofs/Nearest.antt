@@ -1,13 +1,15 @@
 -- The nearest whole quotient is the nearest, and no other number is.
-use Rattle.std.proofs.Common.{◌≡◌, ℕ, zero, suc, ◌+◌, ◌*◌, ◌/◌, ◌%◌, ◌<◌, ◌≤◌, zero-le, ℤ, pos, negsuc, neg_ℤ, ◌-ℤ◌, ◌*ℤ◌, refl, sym, ap, ◌∙◌, arith, inl, inr}
+use Rattle.std.proofs.Common.{◌≡◌, ℕ, zero, suc, ◌+◌, ◌*◌, ◌/◌, ◌%◌, ◌<◌, ◌≤◌, zero-le, ℤ, pos, negsuc, neg_ℤ, ◌-ℤ◌, ◌*ℤ◌, refl, sym, ap, ◌∙◌, arith, inl, inr, cond, of_z, ◌^◌, ◌-◌, to_z, FitsSigned}
 use Rattle.std.specs.Prelude.{unsigned_abs, int_lt}
-use Rattle.std.specs.Int.{abs_diff}
-use Rattle.std.proofs.lemmas.Int.{ints}
-use Rattle.std.proofs.lemmas.Bool.{cases_order, cases_lt, le-ltb}
-use Rattle.std.proofs.lemmas.Bool.Decides.{nat_tests}
+use Rattle.std.specs.Int.{Width, abs_diff, w64}
+use Rattle.std.specs.Ordering.{int_eq}
+use Rattle.std.proofs.lemmas.Int.{ints, to_z-of_z, unsigned_abs-mul}
+use Rattle.std.proofs.lemmas.Nat.{mul-le}
+use Rattle.std.proofs.lemmas.Bool.{cases_order, cases_lt, le-ltb, false_from_ne_true}
+use Rattle.std.proofs.lemmas.Bool.Decides.{nat_tests, Decides-int_eq}
 use Rattle.std.proofs.Math.Nat.{mul-le-mul_right}
 use Rattle.std.proofs.Math.IntN.{neg_ℤ-neg_ℤ, neg_ℤ-+ℤ}
-use Rattle.qz_decimal.specs.Numbers.{nearest_natural, nearest, distance, signed, IsNearest}
+use Rattle.qz_decimal.specs.Numbers.{nearest_natural, nearest, distance, signed, one, grade_one, IsNearest, IsWithin, IsMaxMark, IsQuizGrade}
 
 -- ---- naturals
 
@@ -125,3 +127,25 @@ nearest-within (negsuc n) d k positive h = rw (unsigned_abs-neg (pos (nearest_na
 pub signed-nearest : (n : ℤ) (d : ℕ) → signed (int_lt n (pos 0)) (nearest_natural (unsigned_abs n) d) ≡ nearest n d
 signed-nearest (pos n) d = rw (le-ltb n 0 zero-le) refl
 signed-nearest (negsuc n) d = refl
+
+-- a quotient that is 0 where its divisor z is, at a z that isn't 0
+pub divided : (z r q : ℤ) → (of_z w64 z ≡ 0 → ⊥) → r ≡ q → r ≡ cond (int_eq z (pos 0)) (pos 0) q
+divided z r q some e = rw (false_from_ne_true (int_eq z (pos 0)) (λ t. some (ap (of_z w64) ((Decides-int_eq z (pos 0)).0 t)))) e
+
+-- a field that is read is the number that it shows
+pub shown : (w : Width) (inside z : ℤ) → inside ≡ z → FitsSigned w z → to_z w (of_z w inside) ≡ z
+shown w inside z e fits = ap (λ (x : ℤ). to_z w (of_z w x)) e ∙ to_z-of_z w z fits
+
+-- ---- room for the products
+
+pub rescale-room : (mark given max : ℤ) → IsWithin (pos 0) given mark → IsMaxMark max → unsigned_abs (mark *ℤ max) ≤ (2 ^ 63 - 1) * unsigned_abs given
+rescale-room mark given max between small =
+    let mark_le : unsigned_abs mark ≤ unsigned_abs given = omega (arith, ints, between.0, between.1) in
+    let max_le : unsigned_abs max ≤ 10000 * one = omega (arith, ints, small.0, small.1) in
+    rw unsigned_abs-mul (omega (arith, mul-le (unsigned_abs mark) (unsigned_abs max) (unsigned_abs given) (10000 * one) mark_le max_le))
+
+pub grade-room : (total grade : ℤ) (count : ℕ) → unsigned_abs total ≤ count * (12000000 * one) → count < 2 ^ 32 → IsQuizGrade grade → unsigned_abs (total *ℤ grade) ≤ 2 ^ 126
+grade-room total grade count few fits small =
+    let total_le : unsigned_abs total ≤ 2 ^ 32 * (12000000 * one) = omega arith in
+    let grade_le : unsigned_abs grade ≤ 10000 * grade_one = omega (arith, ints, small.0, small.1) in
+    rw unsigned_abs-mul (omega (arith, mul-le (unsigned_abs total) (unsigned_abs grade) (2 ^ 32 * (12000000 * one)) (10000 * grade_one) total_le grade_le))

@@ -1,6 +1,9 @@
 -- Quotients that are rounded once, and the numbers of a quiz that they give. A mark, a max mark and a fraction are whole
 -- numbers of units of 10^-7.
-use Rattle.std.specs.Prelude.{◌≡◌, ℕ, zero, suc, ◌+◌, ◌*◌, ◌/◌, ◌^◌, ◌≤◌, Bool, true, false, ℤ, pos, negsuc, neg_ℤ, ◌-ℤ◌, ◌*ℤ◌, ◌≤ℤ◌, unsigned_abs}
+use Rattle.std.specs.Prelude.{◌≡◌, ℕ, suc, ◌+◌, ◌*◌, ◌/◌, ◌^◌, ◌≤◌, Bool, true, false, ℤ, pos, negsuc, neg_ℤ, ◌-ℤ◌, ◌*ℤ◌, ◌≤ℤ◌, unsigned_abs, int_lt, if◌then◌else◌}
+use Rattle.std.specs.Ordering.{int_eq}
+use Rattle.qz_decimal.specs.declared.tone.Tone.{Tone}
+use Rattle.qz_decimal.specs.declared.tone.Tone.TheVariants.{Wrong, Partial, Right}
 
 -- ---- the nearest whole number
 
@@ -48,22 +51,38 @@ IsMaxMark = IsWithin (pos 0) (pos (10000 * one))
 abbrev pub IsEarnedFraction : ℤ → Type 0
 IsEarnedFraction = IsWithin (neg_ℤ (pos (6 * one))) (pos (6 * one))
 
+-- so a slot's mark is from -60,000 to 60,000
+abbrev pub IsSlotMark : ℤ → Type 0
+IsSlotMark = IsWithin (neg_ℤ (pos (60000 * one))) (pos (60000 * one))
+
+-- the sum of a quiz's max marks is from 0 to 2,000,000
+abbrev pub IsMaxSum : ℤ → Type 0
+IsMaxSum = IsWithin (pos 0) (pos (2000000 * one))
+
+-- a quiz's grade is from 0 to 10,000
+abbrev pub IsQuizGrade : ℤ → Type 0
+IsQuizGrade = IsWithin (pos 0) (pos (10000 * grade_one))
+
 -- the mark that a fraction earns of a max mark
 abbrev pub mark_of : ℤ → ℤ → ℤ
 mark_of fraction max = nearest (fraction *ℤ max) one
 
--- a part of a whole, as a fraction
+-- the fraction for so many right ones of all
 abbrev pub share : ℕ → ℕ → ℤ
 share right all = nearest (pos (right * one)) all
 
--- the fraction that a mark is of its max mark, and 0 of a max mark of 0
+-- the fraction that a mark is of a max mark
 abbrev pub fraction_of : ℤ → ℤ → ℤ
-fraction_of mark (pos zero) = pos 0
-fraction_of mark (pos (suc max)) = nearest (mark *ℤ pos one) (suc max)
-fraction_of mark (negsuc max) = pos 0
+fraction_of mark max = if int_eq max (pos 0) then pos 0 else nearest (mark *ℤ pos one) (unsigned_abs max)
 
--- a mark given out of one max mark, for another, and 0 where it was given out of 0
+-- a mark given out of one max mark, as a mark out of another
 abbrev pub rescale : ℤ → ℤ → ℤ → ℤ
-rescale mark (pos zero) max = pos 0
-rescale mark (pos (suc given)) max = nearest (mark *ℤ max) (suc given)
-rescale mark (negsuc given) max = pos 0
+rescale mark given max = if int_eq given (pos 0) then pos 0 else nearest (mark *ℤ max) (unsigned_abs given)
+
+-- the grade for a sum of totals and their number, where a whole total would have the quiz's grade
+abbrev pub grade_of : ℤ → ℕ → ℤ → ℤ → ℤ
+grade_of total count grade sum = if int_eq sum (pos 0) then pos 0 else nearest (total *ℤ grade) (count * unsigned_abs sum)
+
+-- a fraction below 0.000001 is wrong, one above 0.999999 is right, and one between is partial
+abbrev pub tone_of : ℤ → Tone
+tone_of fraction = if int_lt fraction (pos 10) then Wrong else (if int_lt (pos 9999990) fraction then Right else Partial)

@@ -89,10 +89,6 @@ IsWrittenMark = IsWithin (neg_ℤ (pos (100000 * one))) (pos (100000 * one))
 abbrev pub IsWrittenFraction : ℤ → Type 0
 IsWrittenFraction = IsWithin (pos 0) (pos one)
 
--- and a grade from 0 to 10,000
-abbrev pub IsWrittenGrade : ℤ → Type 0
-IsWrittenGrade = IsWithin (pos 0) (pos (10000 * grade_one))
-
 -- the text spells a number that may not be written
 pub record SpellsOther (form : Form) (MayBe : ℤ → Type 0) (text : List ℕ) : Type 0 where
   pub units : ℤ

@@ -26,7 +26,7 @@ pub(crate) fn with_zeros(digits: &[u8], zeros: u32) -> u128
 }
 
 /// The number that digits write.
-fn number_of(digits: &[u8]) -> u128
+pub(crate) fn number_of(digits: &[u8]) -> u128
     requires digits { IsTrue (all_ascii_digits digits.now) }
     requires few { length digits.now ≤ 36 }
     ensures value { result ≡ digits_value 10 digits.now }

@@ -1,15 +1,15 @@
 //! The one place where numbers are rounded.
-ghost use Rattle.std.specs.Prelude.{◌≡◌, ◌-◌, ◌*◌, ◌^◌, ◌<◌, ◌≤◌, ℤ, ◌*ℤ◌, unsigned_abs};
+ghost use Rattle.std.specs.Prelude.{◌≡◌, ◌-◌, ◌*◌, ◌^◌, ◌<◌, ◌≤◌, ℤ, pos, ◌*ℤ◌, ◌<ℤ◌, unsigned_abs};
 ghost use Rattle.qz_decimal.specs.Numbers.{nearest_natural, nearest, signed, IsNearest};
 
 /// The whole number nearest to `a * b / d`, where a half goes away from zero.
-pub(crate) fn nearest_product(a: i64, b: i64, d: u64) -> i64
-    requires divisor { 0 < d }
-    requires room { unsigned_abs (a *ℤ b) ≤ (2 ^ 63 - 1) * d }
-    ensures value { result ≡ nearest (a *ℤ b) d }
-    ensures law { IsNearest (a *ℤ b) d result }
+pub(crate) fn nearest_product(a: i64, b: i64, d: i64) -> i64
+    requires divisor { pos 0 <ℤ d }
+    requires room { unsigned_abs (a *ℤ b) ≤ (2 ^ 63 - 1) * unsigned_abs d }
+    ensures value { result ≡ nearest (a *ℤ b) (unsigned_abs d) }
+    ensures law { IsNearest (a *ℤ b) (unsigned_abs d) result }
 {
-    nearest_quotient(i128::from(a) * i128::from(b), u128::from(d)) as i64
+    nearest_quotient(i128::from(a) * i128::from(b), d as u128) as i64
 }
 
 /// The whole number nearest to `n / d`, where a half goes away from zero.

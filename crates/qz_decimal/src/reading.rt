@@ -1,7 +1,7 @@
 //! Numbers as they are written: an optional minus, whole digits, and optionally a point and decimals.
 ghost use Rattle.std.specs.Prelude.{◌≡◌, ◌+◌, ◌≤◌, ◌<◌, ◌^◌, ◌↔◌, ℕ, ℤ, IfOk, Ok, Err};
-ghost use Rattle.qz_decimal.specs.Numbers.{IsWithin};
-ghost use Rattle.qz_decimal.specs.Reading.{mark_form, grade_form, mark_in, fraction_in, grade_in, IsWrittenMark, IsWrittenFraction, IsWrittenGrade, IsSpelled, SpellsOther, Stuck, decimals_at, size_at, has_minus, without_minus, units_in, units_within};
+ghost use Rattle.qz_decimal.specs.Numbers.{IsWithin, IsQuizGrade};
+ghost use Rattle.qz_decimal.specs.Reading.{mark_form, grade_form, mark_in, fraction_in, grade_in, IsWrittenMark, IsWrittenFraction, IsSpelled, SpellsOther, Stuck, decimals_at, size_at, has_minus, without_minus, units_in, units_within};
 
 use crate::digits::{split_digits, with_zeros};
 use crate::quotient::with_sign;
@@ -48,9 +48,9 @@ impl Grade {
     /// Reads a number in the form of a mark with at most five decimals, from 0 to 10,000.
     pub fn read(text: &[u8]) -> Result<Grade, BadNumber>
         ensures value { result ≡ grade_in text.now }
-        ensures found { (units : ℤ) → (result ≡ Ok units) ↔ (IsSpelled grade_form text.now units × IsWrittenGrade units) }
+        ensures found { (units : ℤ) → (result ≡ Ok units) ↔ (IsSpelled grade_form text.now units × IsQuizGrade units) }
         ensures malformed { (place : ℕ) → (result ≡ Err (BadNumber.Malformed place)) ↔ Stuck grade_form text.now place }
-        ensures range { (result ≡ Err BadNumber.Range) ↔ SpellsOther grade_form IsWrittenGrade text.now }
+        ensures range { (result ≡ Err BadNumber.Range) ↔ SpellsOther grade_form IsQuizGrade text.now }
     {
         Ok(Grade(read_within(text, GRADE_FORM, 0, 1_000_000_000)?))
     }

@@ -1,16 +1,21 @@
 -- Which answers fit a question, which are complete, and what each is worth, by cases on the kind.
-use Rattle.std.specs.Prelude.{ℕ, ◌+◌, ◌-◌, Bool, true, false, not, ◌&&◌, ◌||◌, ◌==◌, nat_lt, nat_le, if◌then◌else◌, List, [], ◌∷◌, length, map, filter, zip, fold, count_by, Option, Some, None, unwrap_or, option_map, slice_get, ℤ, pos, ◌+ℤ◌, int_lt, bytes_eq}
+use Rattle.std.specs.Prelude.{ℕ, ◌+◌, ◌-◌, Bool, true, false, not, ◌&&◌, ◌||◌, ◌==◌, nat_lt, nat_le, if◌then◌else◌, List, [], ◌∷◌, length, map, filter, find, zip, fold, count_by, Option, Some, None, is_some, unwrap_or, option_map, slice_get, ℤ, pos, ◌+ℤ◌, ◌-ℤ◌, int_lt, int_le, bytes_eq}
 use Rattle.std.specs.List.{list_any, list_all}
-use Rattle.std.specs.Int.{int_max}
+use Rattle.qz_decimal.specs.Decimals.{decimal_in}
 use Rattle.qz_decimal.specs.Numbers.{one, share}
+use Rattle.qz_text.specs.Patterns as patterns
 use Rattle.qz_grading.specs.declared.outcome.Behaviour.{Behaviour}
 use Rattle.qz_grading.specs.declared.outcome.Behaviour.TheVariants.{DeferredCbm, ImmediateCbm}
 use Rattle.qz_grading.specs.declared.question.Choice.{Choice}
+use Rattle.qz_grading.specs.declared.question.Extent.{Extent}
+use Rattle.qz_grading.specs.declared.question.Extent.TheVariants as extent
 use Rattle.qz_grading.specs.declared.question.Pair.{Pair}
 use Rattle.qz_grading.specs.declared.question.Kind.{Kind}
 use Rattle.qz_grading.specs.declared.question.Kind.TheVariants as kind
+use Rattle.qz_grading.specs.declared.question.Num.{Num}
 use Rattle.qz_grading.specs.declared.question.Question.{Question}
 use Rattle.qz_grading.specs.declared.question.Shape.{Shape}
+use Rattle.qz_grading.specs.declared.question.Short.{Short}
 use Rattle.qz_grading.specs.declared.response.Answer.{Answer}
 use Rattle.qz_grading.specs.declared.response.Answer.TheVariants as answer
 use Rattle.qz_grading.specs.declared.response.Response.{Response}
@@ -100,17 +105,26 @@ fits q r b = answer_fits q.kind r.answer && certainty_fits b r.certainty
 
 -- ---- complete and gradable
 
--- something is typed beside white space
+-- for a stem an answer is chosen
+abbrev pub is_chosen : ℕ → Bool
+is_chosen n = nat_lt 0 n
+
+-- something is typed beside white space, which is more here than in the texts of a question
 abbrev pub is_typed : List ℕ → Bool
-is_typed t = not (is_blank t)
+is_typed t = not (patterns.is_blank t)
+
+-- a number is typed
+abbrev pub is_number : List ℕ → Bool
+is_number t = is_some (decimal_in t)
 
 abbrev pub complete_answer : Kind → Answer → Bool
 complete_answer kind.Essay (answer.Words t) = is_typed t
 complete_answer (kind.TrueFalse right on_wrong on_right) (answer.Pick n) = true
 complete_answer (kind.One choices) (answer.Pick n) = true
 complete_answer (kind.Several choices) (answer.Picks ns) = true
-complete_answer (kind.Matching pairs) (answer.Match ns) = list_all (λ n. nat_lt 0 n) ns
+complete_answer (kind.Matching pairs) (answer.Match ns) = list_all is_chosen ns
 complete_answer (kind.ShortAnswer answers) (answer.Words t) = is_typed t
+complete_answer (kind.Numerical answers) (answer.Words t) = is_number t
 complete_answer k a = false
 
 abbrev pub complete : Question → Response → Bool
@@ -118,7 +132,7 @@ complete q r = complete_answer q.kind r.answer
 
 -- a matching question is gradable where some stem is chosen; every other kind where its answer is complete
 abbrev pub gradable_answer : Kind → Answer → Bool
-gradable_answer (kind.Matching pairs) (answer.Match ns) = list_any (λ n. nat_lt 0 n) ns
+gradable_answer (kind.Matching pairs) (answer.Match ns) = list_any is_chosen ns
 gradable_answer k a = complete_answer k a
 
 abbrev pub gradable : Question → Response → Bool
@@ -141,13 +155,56 @@ is_right_stem texts stem = unwrap_or (option_map (bytes_eq stem.0.answer) (at_pl
 abbrev pub right_stems : List Pair → List ℕ → ℕ
 right_stems pairs ns = count_by (is_right_stem (answers pairs)) (zip (stems pairs) ns)
 
+-- the weight of the first answer whose pattern the typed text fits, or 0
+abbrev pub short_weight : List Short → List ℕ → ℤ
+short_weight answers t = unwrap_or (option_map (λ (a : Short). a.weight) (find (λ (a : Short). patterns.pattern_fits a.pattern t) answers)) (pos 0)
+
+-- an extent takes a number; its ends are included
+abbrev pub takes_number : Extent → ℤ → Bool
+takes_number extent.Any x = true
+takes_number (extent.Near centre slack) x = int_le (centre -ℤ slack) x && int_le x (centre +ℤ slack)
+takes_number (extent.Between low high) x = int_le low x && int_le x high
+
+-- the weight of the first answer whose extent takes the number, or 0
+abbrev pub number_weight : List Num → ℤ → ℤ
+number_weight answers x = unwrap_or (option_map (λ (a : Num). a.weight) (find (λ (a : Num). takes_number a.extent x) answers)) (pos 0)
+
+-- and 0 where no number is typed
+abbrev pub numerical_weight : List Num → List ℕ → ℤ
+numerical_weight answers t = unwrap_or (option_map (number_weight answers) (decimal_in t)) (pos 0)
+
 abbrev pub grade_answer : Kind → Answer → ℤ
 grade_answer (kind.TrueFalse true on_wrong on_right) (answer.Pick n) = if n == 1 then pos one else pos 0
 grade_answer (kind.TrueFalse false on_wrong on_right) (answer.Pick n) = if n == 1 then pos 0 else pos one
 grade_answer (kind.One choices) (answer.Pick n) = weight_at choices n
 grade_answer (kind.Several choices) (answer.Picks ns) = clamped (fold ◌+ℤ◌ (pos 0) (map (weight_at choices) ns))
 grade_answer (kind.Matching pairs) (answer.Match ns) = share (right_stems pairs ns) (length (stems pairs))
+grade_answer (kind.ShortAnswer answers) (answer.Words t) = short_weight answers t
+grade_answer (kind.Numerical answers) (answer.Words t) = numerical_weight answers t
 grade_answer k a = pos 0
 
 abbrev pub grade : Question → Response → ℤ
 grade q r = grade_answer q.kind r.answer
+
+-- ---- the shape
+
+-- kinds are numbered in the order in which they are declared
+abbrev pub kind_number : Kind → ℕ
+kind_number kind.Description = 0
+kind_number kind.Essay = 1
+kind_number (kind.TrueFalse right on_wrong on_right) = 2
+kind_number (kind.One choices) = 3
+kind_number (kind.Several choices) = 4
+kind_number (kind.Matching pairs) = 5
+kind_number (kind.ShortAnswer answers) = 6
+kind_number (kind.Numerical answers) = 7
+
+-- so many choices and 0, or so many stems and answers to choose from, or 0 and 0
+abbrev pub counts : Kind → ℕ × ℕ
+counts (kind.One choices) = (length choices, 0)
+counts (kind.Several choices) = (length choices, 0)
+counts (kind.Matching pairs) = (length (stems pairs), length (answers pairs))
+counts k = (0, 0)
+
+abbrev pub shape : Question → Shape
+shape q = record { kind = kind_number q.kind; first = (counts q.kind).0; second = (counts q.kind).1 }

@@ -1,4 +1,5 @@
 pub mod Grading
+pub mod Questions
 pub mod Steps
 pub mod Behaviours
 pub mod Slots

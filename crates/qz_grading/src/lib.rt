@@ -1,14 +1,20 @@
 //! One question and the steps taken on it: types, spellings, and what grading and behaviours mean.
 #![tactic(auto)]
 
+mod counting;
+mod fitting;
 mod grading;
+mod matching;
 mod outcome;
 mod question;
 mod refusal;
 mod response;
+mod shape;
 mod spelled;
 mod words;
 
+pub use counting::Steps;
+pub use fitting::{complete, fits, gradable};
 pub use grading::same;
 pub use outcome::{Behaviour, Moved, Outcome, State};
 pub use question::{
@@ -16,4 +22,5 @@ pub use question::{
 };
 pub use refusal::{AttemptId, Refusal, Thing};
 pub use response::{Answer, Response, Step};
+pub use shape::shape_of;
 pub use spelled::Spelled;
