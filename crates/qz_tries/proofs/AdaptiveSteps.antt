@@ -23,6 +23,7 @@ use Rattle.qz_grading.specs.Grading.{same, same_answer, gradable, grade}
 use Rattle.qz_grading.specs.Steps.{is_finish, has_finish, before, last, last_of, submitted}
 use Rattle.qz_grading.specs.Behaviours.{complete_under, handed_in, ends_complete, ends_incomplete, is_right, graded, changed, changed_after, further, submitted_tries, adaptive_tries, best_try, penalty_under, without_last, adaptive_state, adaptive, outcome}
 use Rattle.qz_grading.proofs.StepLemmas.{last_of-push, has_finish-push, has_finish-finished, before-open, before-finished, last-finished}
+use Rattle.qz_tries.specs.After.{is_new}
 use Rattle.qz_tries.proofs.MoreSteps.{has_finish-closed, before-closed, last-closed, handed_in-closed, handed_in-finished, handed_in-complete, ends_in_submit-push, without_last-push, enumerate_from-append, and-false, and-true}
 
 -- ---- responses that are the same are equal
@@ -45,10 +46,6 @@ same-equal a b h =
     ∙ ap (λ (n : ℕ). record { answer = b.answer; certainty = n }) (eqb-true a.certainty b.certainty parts.1)
 
 -- ---- the tries
-
--- a response that isn't the same as the one before, if any
-abbrev pub is_new : Option Response → Response → Bool
-is_new o r = not (unwrap_or (option_map (λ (t : Response). same t r) o) false)
 
 changed_after-last-cons : (r t : Response) (ts : List Response) (b : Bool) → same r t ≡ b → last_or (Some t) (changed_after t ts) ≡ last_or (Some t) ts → last_or (Some r) (changed_after r (t ∷ ts)) ≡ last_or (Some t) ts
 changed_after-last-cons r t ts true is rest = rw is (ap (λ (u : Response). last_or (Some u) (changed_after t ts)) (same-equal r t is) ∙ rest)

@@ -3,6 +3,7 @@ use Rattle.std.proofs.Common.{◌≡◌, ℕ, ◌+◌, ◌-◌, Bool, true, fals
 use Rattle.std.specs.Prelude.{find, unwrap_or, option_map, is_some, if◌then◌else◌, ◌==◌}
 use Rattle.std.specs.List.{enumerate_from}
 use Rattle.std.specs.Option.{option_or}
+use Rattle.std.proofs.lemmas.Bool.{false_from_ne_true, true_from_ne_false}
 use Rattle.std.proofs.lemmas.List.Folds.{find-append}
 use Rattle.qz_grading.specs.declared.outcome.Behaviour.TheVariants.{Interactive}
 use Rattle.qz_grading.specs.declared.outcome.Outcome.{Outcome}
@@ -11,10 +12,11 @@ use Rattle.qz_grading.specs.declared.question.Question.{Question}
 use Rattle.qz_grading.specs.declared.response.Response.{Response}
 use Rattle.qz_grading.specs.declared.response.Step.{Step}
 use Rattle.qz_grading.specs.declared.response.Step.TheVariants as step
-use Rattle.qz_grading.specs.Grading.{gradable, grade}
+use Rattle.qz_grading.specs.Grading.{complete, gradable, grade}
 use Rattle.qz_grading.specs.Steps.{is_finish, has_finish, before, last, submitted}
 use Rattle.qz_grading.specs.Behaviours.{complete_under, handed_in, ends_complete, ends_incomplete, ending_try, tries_allowed, is_right, graded, penalised, tried, unfinished, outcome}
 use Rattle.qz_grading.proofs.StepLemmas.{has_finish-push, has_finish-finished, before-open, before-finished, last-finished}
+use Rattle.qz_tries.specs.After.{gradable_last}
 use Rattle.qz_tries.proofs.MoreSteps.{has_finish-closed, before-closed, last-closed, handed_in-closed, handed_in-finished, handed_in-complete, ends_in_submit-push, enumerate_from-append, and-false, and-true}
 
 -- a try, with its number, that ends the slot
@@ -129,3 +131,50 @@ gives_up-by q s None none still open_yet cannot = rw (has_finish-finished s, bef
 pub gives_up : (q : Question) (s : List Step) → has_finish s ≡ false → (outcome Interactive q s).ended ≡ false → gradable q (last s) ≡ false
     → outcome Interactive q (s ++ step.Finish ∷ []) ≡ record { state = state.GaveUp; fraction = None; ended = true; needs_again = false; tries = (outcome Interactive q s).tries }
 gives_up q s still open_yet cannot = gives_up-by q s (ending_try Interactive q s) refl still open_yet cannot
+
+-- ---- the same, for an outcome that is known to be that of the list
+
+pub gradable_last-none : (q : Question) (s : List Step) → None ≡ gradable_last q s → gradable q (last s) ≡ false
+gradable_last-none q s none = false_from_ne_true (gradable q (last s)) (λ can. let h = rw can at none in cc)
+
+pub gradable_last-some : (q : Question) (s : List Step) (r : Response) → Some r ≡ gradable_last q s → (gradable q (last s) ≡ true) × (r ≡ last s)
+gradable_last-some q s r some =
+    let can : gradable q (last s) ≡ true = true_from_ne_false (gradable q (last s)) (λ cannot. let h = rw cannot at some in cc) in
+    let h = rw can at some in
+    (can, cc)
+
+pub try_after_end : (o : Outcome) (q : Question) (s : List Step) (r : Response) → has_finish s ≡ false → o ≡ outcome Interactive q s → complete q r ≡ true → o.ended ≡ true
+    → record o { tries = o.tries + 1 } ≡ outcome Interactive q (s ++ step.Submit r ∷ [])
+try_after_end o q s r still is whole ended =
+    ap (λ (p : Outcome). record p { tries = p.tries + 1 }) is ∙ sym (tries_more q s r still (ap (λ (b : Bool). b && true) whole) (ap (λ (p : Outcome). p.ended) (sym is) ∙ ended))
+
+pub try_that_ends : (o : Outcome) (q : Question) (s : List Step) (r : Response) → has_finish s ≡ false → o ≡ outcome Interactive q s → complete q r ≡ true → o.ended ≡ false → ends q (o.tries + 1, r) ≡ true
+    → record { state = graded (grade q r); fraction = Some (penalised q o.tries r); ended = true; needs_again = false; tries = o.tries + 1 } ≡ outcome Interactive q (s ++ step.Submit r ∷ [])
+try_that_ends o q s r still is whole open_yet now =
+    let count : o.tries ≡ (outcome Interactive q s).tries = ap (λ (p : Outcome). p.tries) is in
+    ap (λ (n : ℕ). record { state = graded (grade q r); fraction = Some (penalised q n r); ended = true; needs_again = false; tries = n + 1 }) count
+    ∙ sym (ends_now q s r still (ap (λ (b : Bool). b && true) whole) (ap (λ (p : Outcome). p.ended) (sym is) ∙ open_yet) (ap (λ (n : ℕ). ends q (n + 1, r)) (sym count) ∙ now))
+
+pub try_that_goes_on : (o : Outcome) (q : Question) (s : List Step) (r : Response) → has_finish s ≡ false → o ≡ outcome Interactive q s → complete q r ≡ true → o.ended ≡ false → ends q (o.tries + 1, r) ≡ false
+    → record { state = state.Todo; fraction = None; ended = false; needs_again = true; tries = o.tries + 1 } ≡ outcome Interactive q (s ++ step.Submit r ∷ [])
+try_that_goes_on o q s r still is whole open_yet goes =
+    let count : o.tries ≡ (outcome Interactive q s).tries = ap (λ (p : Outcome). p.tries) is in
+    ap (λ (n : ℕ). record { state = state.Todo; fraction = None; ended = false; needs_again = true; tries = n + 1 }) count
+    ∙ sym (goes_on q s r still (ap (λ (b : Bool). b && true) whole) (ap (λ (p : Outcome). p.ended) (sym is) ∙ open_yet) (ap (λ (n : ℕ). ends q (n + 1, r)) (sym count) ∙ goes))
+
+pub finish_after_end : (o : Outcome) (q : Question) (s : List Step) → has_finish s ≡ false → o ≡ outcome Interactive q s → o.ended ≡ true → o ≡ outcome Interactive q (s ++ step.Finish ∷ [])
+finish_after_end o q s still is ended = is ∙ sym (finishes_ended q s still (ap (λ (p : Outcome). p.ended) (sym is) ∙ ended))
+
+pub finish_gives_up : (o : Outcome) (q : Question) (s : List Step) → has_finish s ≡ false → o ≡ outcome Interactive q s → o.ended ≡ false → None ≡ gradable_last q s
+    → record { state = state.GaveUp; fraction = None; ended = true; needs_again = false; tries = o.tries } ≡ outcome Interactive q (s ++ step.Finish ∷ [])
+finish_gives_up o q s still is open_yet none =
+    ap (λ (p : Outcome). record { state = state.GaveUp; fraction = None; ended = true; needs_again = false; tries = p.tries }) is
+    ∙ sym (gives_up q s still (ap (λ (p : Outcome). p.ended) (sym is) ∙ open_yet) (gradable_last-none q s none))
+
+pub finish_graded : (o : Outcome) (q : Question) (s : List Step) (r : Response) → has_finish s ≡ false → o ≡ outcome Interactive q s → o.ended ≡ false → Some r ≡ gradable_last q s
+    → record { state = graded (grade q r); fraction = Some (penalised q o.tries r); ended = true; needs_again = false; tries = o.tries } ≡ outcome Interactive q (s ++ step.Finish ∷ [])
+finish_graded o q s r still is open_yet some =
+    let last_is = gradable_last-some q s r some in
+    ap (λ (p : Outcome). record { state = graded (grade q r); fraction = Some (penalised q p.tries r); ended = true; needs_again = false; tries = p.tries }) is
+    ∙ ap (λ (t : Response). record { state = graded (grade q t); fraction = Some (penalised q (outcome Interactive q s).tries t); ended = true; needs_again = false; tries = (outcome Interactive q s).tries }) last_is.1
+    ∙ sym (graded_finish q s still (ap (λ (p : Outcome). p.ended) (sym is) ∙ open_yet) last_is.0)

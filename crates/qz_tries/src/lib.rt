@@ -1,6 +1,10 @@
 //! Slots with more than one try: interactive with hints, and adaptive with and without penalties.
 #![tactic(auto)]
 
+mod adaptive;
+mod fractions;
+mod interactive;
 mod machine;
+mod stub;
 
 pub use machine::TryMachine;

@@ -1,0 +1,78 @@
+//! The outcome of an adaptive slot, one step at a time.
+//!
+//! Moodle's manual page "Question behaviours" calls it "Adaptive mode": a student tries until the answer is right, each try
+//! costs the penalty once more than the one before, and the best try counts.
+
+ghost use Rattle.std.specs.Prelude.{◌≡◌, ◌+◌, ◌-◌, ◌^◌, ◌<◌, true, false, not, pos, neg_ℤ, ◌-ℤ◌, ◌*ℤ◌, Some, IfSome, unwrap_or, if◌then◌else◌};
+ghost use Rattle.std.specs.Option.{option_copied};
+ghost use Rattle.std.specs.Int.{int_max};
+ghost use Rattle.qz_decimal.specs.Numbers.{one, IsWithin, IsEarnedFraction};
+ghost use Rattle.qz_decimal.specs.Reading.{IsWrittenFraction};
+ghost use Rattle.qz_grading.specs.declared.outcome.State.TheVariants as state;
+ghost use Rattle.qz_grading.specs.Behaviours.{penalty_under};
+ghost use Rattle.qz_tries.specs.After.{is_new};
+
+use crate::fractions::reduced;
+use qz_decimal::Fraction;
+use qz_grading::{Behaviour, Outcome, Question, Response, State, same};
+
+/// What a try costs more than the one before.
+pub(crate) fn penalty_under(behaviour: Behaviour, question: &Question) -> Fraction
+    ensures { result ≡ penalty_under behaviour question.now }
+{
+    match behaviour {
+        Behaviour::AdaptiveNoPenalty => Fraction(0),
+        _ => question.penalty,
+    }
+}
+
+/// Whether a response differs from the one before, if any.
+pub(crate) fn is_new(before: Option<&Response>, response: &Response) -> bool
+    ensures { result ≡ is_new (option_copied before.entry) response.now }
+{
+    match before {
+        Some(before) => !same(before, response),
+        None => true,
+    }
+}
+
+/// The greatest of 0 and what the tries so far counted.
+fn best(so_far: Option<Fraction>) -> Fraction
+    ensures value { result ≡ unwrap_or so_far (pos 0) }
+    ensures earned { IfSome so_far IsEarnedFraction → IsEarnedFraction result }
+{
+    so_far.unwrap_or(Fraction(0))
+}
+
+/// The outcome after one more try with this grade. `right` tells whether it or one before it was right.
+pub(crate) fn after_try(so_far: Outcome, right: bool, grade: Fraction, penalty: Fraction) -> Outcome
+    requires grade { IsWithin (neg_ℤ (pos one)) (pos one) grade }
+    requires penalty { IsWrittenFraction penalty }
+    requires room { so_far.tries < 2 ^ 32 - 1 }
+    ensures value { result ≡ record { state = if right then state.Complete else state.Todo; fraction = Some (int_max (unwrap_or so_far.fraction (pos 0)) (grade -ℤ pos so_far.tries *ℤ penalty)); ended = false; needs_again = false; tries = so_far.tries + 1 } }
+    ensures earned { IfSome so_far.fraction IsEarnedFraction → IfSome result.fraction IsEarnedFraction }
+{
+    let counts = reduced(grade, so_far.tries, penalty);
+    Outcome {
+        state: if right { State::Complete } else { State::Todo },
+        fraction: Some(Fraction(best(so_far.fraction).0.max(counts.0))),
+        ended: false,
+        needs_again: false,
+        tries: so_far.tries + 1,
+    }
+}
+
+/// The outcome after the Finish: the best try stays.
+pub(crate) fn finished(so_far: Outcome, state: State) -> Outcome
+    ensures value { result ≡ record { state = state; fraction = Some (unwrap_or so_far.fraction (pos 0)); ended = true; needs_again = false; tries = so_far.tries } }
+    ensures earned { IfSome so_far.fraction IsEarnedFraction → IfSome result.fraction IsEarnedFraction }
+{
+    let best = best(so_far.fraction);
+    Outcome {
+        state,
+        fraction: Some(best),
+        ended: true,
+        needs_again: false,
+        tries: so_far.tries,
+    }
+}
