@@ -1,2 +1,3 @@
 pub mod AnswersLemmas
 pub mod StepLemmas
+pub mod WeightLemmas

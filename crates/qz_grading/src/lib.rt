@@ -11,11 +11,12 @@ mod refusal;
 mod response;
 mod shape;
 mod spelled;
+mod weights;
 mod words;
 
 pub use counting::Steps;
 pub use fitting::{complete, fits, gradable};
-pub use grading::same;
+pub use grading::{grade, same};
 pub use outcome::{Behaviour, Moved, Outcome, State};
 pub use question::{
     Bank, Choice, Extent, Format, Item, Kind, Num, Pair, Question, Rich, Shape, Short,
