@@ -10,13 +10,13 @@ use Rattle.qz_grading.specs.declared.question.Question.{Question}
 use Rattle.qz_grading.specs.declared.response.Response.{Response}
 use Rattle.qz_grading.specs.declared.response.Step.{Step}
 use Rattle.qz_grading.specs.declared.response.Step.TheVariants as step
-use Rattle.qz_grading.specs.Grading.{blank, fits, gradable, grade}
+use Rattle.qz_grading.specs.Grading.{blank, fits, complete, gradable, grade}
 use Rattle.qz_grading.specs.Steps.{is_finish, has_finish, before, last, last_of, response_of, submitted}
 use Rattle.qz_grading.specs.Behaviours.{complete_under, handed_in, ends_complete, ends_incomplete, is_right, changed, outcome}
 use Rattle.qz_grading.proofs.StepLemmas.{last_of-push, has_finish-push, has_finish-finished, last-finished}
 use Rattle.qz_tries.specs.Progress.{Progress, has_tries}
 use Rattle.qz_tries.specs.After.{step_at, response_at, submitted_at, has_right_try, IsAfter}
-use Rattle.qz_tries.proofs.MoreSteps.{has_finish-closed, last-closed, last-response, last-other, handed_in-closed, handed_in-finished, handed_in-complete, handed_in-other, handed_in-incomplete, ends_in_submit-push, slice_get-push, inside-more, step_at-kept}
+use Rattle.qz_tries.proofs.MoreSteps.{has_finish-closed, last-closed, last-response, last-other, handed_in-closed, handed_in-finished, handed_in-complete, handed_in-other, handed_in-incomplete, ends_in_submit-push, slice_get-push, inside-more, step_at-kept, and-true}
 use Rattle.qz_tries.proofs.InteractiveSteps as interactive
 use Rattle.qz_tries.proofs.AdaptiveSteps as adaptive
 
@@ -96,3 +96,111 @@ closed m q s x after finished =
       earned = after.earned;
       few = one_longer s x m.outcome.tries after.few;
     }
+
+waited-fraction-by : (o : Outcome) (incomplete ended : Bool) → o.ended ≡ ended → (waited o incomplete).fraction ≡ o.fraction
+waited-fraction-by o incomplete true is = rw is refl
+waited-fraction-by o incomplete false is = rw is refl
+
+waited-tries-by : (o : Outcome) (incomplete ended : Bool) → o.ended ≡ ended → (waited o incomplete).tries ≡ o.tries
+waited-tries-by o incomplete true is = rw is refl
+waited-tries-by o incomplete false is = rw is refl
+
+-- under these behaviours nothing is asked of certainty
+pub complete-under : (b : Behaviour) (q : Question) (r : Response) (v : Bool) → IsTrue (has_tries b) → complete q r ≡ v → complete_under b q r ≡ v
+complete-under behaviour.Interactive q r v plays is = and-true (complete q r) ∙ is
+complete-under behaviour.Adaptive q r v plays is = and-true (complete q r) ∙ is
+complete-under behaviour.AdaptiveNoPenalty q r v plays is = and-true (complete q r) ∙ is
+complete-under b q r v plays is = absurd cc
+
+-- what stays where no complete Submit is added
+stays : (m : Progress) (q : Question) (s : List Step) (x : Step) (o : Outcome) (incomplete : Bool) → IsAfter m q s → m.finished ≡ false → is_finish x ≡ false
+    → handed_in m.behaviour q (s ++ x ∷ []) ≡ handed_in m.behaviour q s → ends_complete m.behaviour q (s ++ x ∷ []) ≡ false → ends_incomplete m.behaviour q (s ++ x ∷ []) ≡ incomplete → o ≡ waited m.outcome incomplete
+    → (last' : Option ℕ) → response_at (s ++ x ∷ []) last' ≡ last (s ++ x ∷ []) → IfSome last' (λ place. place < length (s ++ x ∷ [])) → (gradable q (last (s ++ x ∷ [])) ≡ true → fits q (last (s ++ x ∷ [])) m.behaviour ≡ true)
+    → IsAfter (record m { outcome = o; last = last' }) q (s ++ x ∷ [])
+stays m q s x o incomplete after open_yet other same part is waits_is last' there inside' fitting =
+    let still : has_finish s ≡ false = sym after.finished ∙ open_yet in
+    record {
+      plays = after.plays;
+      finished = open_yet ∙ sym (has_finish-push s x other ∙ still);
+      fits = fitting;
+      outcome = waits_is ∙ ap (λ (p : Outcome). waited p incomplete) after.outcome ∙ sym (waits m.behaviour q s x incomplete after.plays still other same part is);
+      last = there;
+      inside = inside';
+      handed_in = ap (option_and_then submitted) (step_at-kept m.handed_in s x after.handed_in_inside) ∙ after.handed_in ∙ ap last_of (sym same);
+      handed_in_inside = inside-more m.handed_in s x after.handed_in_inside;
+      right = after.right ∙ sym (right-same m.behaviour q (s ++ x ∷ []) s same);
+      earned = rw (waits_is, waited-fraction-by m.outcome incomplete m.outcome.ended refl) after.earned;
+      few = rw (waits_is, waited-tries-by m.outcome incomplete m.outcome.ended refl) (one_longer s x m.outcome.tries after.few);
+    }
+
+-- Again, or a Mark
+pub passes : (m : Progress) (q : Question) (s : List Step) (x : Step) (o : Outcome) → IsAfter m q s → m.finished ≡ false → is_finish x ≡ false → response_of x ≡ None → submitted x ≡ None → o ≡ waited m.outcome false
+    → IsAfter (record m { outcome = o }) q (s ++ x ∷ [])
+passes m q s x o after open_yet other silent none waits_is =
+    let still : has_finish s ≡ false = sym after.finished ∙ open_yet in
+    let same_last : last (s ++ x ∷ []) ≡ last s = last-other s x still other silent in
+    let part : ends_complete m.behaviour q (s ++ x ∷ []) ≡ false = ends_in_submit-push (complete_under m.behaviour q) s x ∙ rw none refl in
+    let is : ends_incomplete m.behaviour q (s ++ x ∷ []) ≡ false = ends_in_submit-push (λ (t : Response). not (complete_under m.behaviour q t)) s x ∙ rw none refl in
+    stays m q s x o false after open_yet other (handed_in-other m.behaviour q s x still other none) part is waits_is
+    m.last (ap (λ (p : Option Step). unwrap_or (option_and_then response_of p) blank) (step_at-kept m.last s x after.inside) ∙ after.last ∙ sym same_last) (inside-more m.last s x after.inside) (rw same_last after.fits)
+
+pub saves : (m : Progress) (q : Question) (s : List Step) (r : Response) (place : ℕ) (o : Outcome) → IsAfter m q s → m.finished ≡ false → fits q r m.behaviour ≡ true → place ≡ length s → o ≡ waited m.outcome false
+    → IsAfter (record m { outcome = o; last = Some place }) q (s ++ step.Save r ∷ [])
+saves m q s r place o after open_yet fitting at_end waits_is =
+    let still : has_finish s ≡ false = sym after.finished ∙ open_yet in
+    let last_is : last (s ++ step.Save r ∷ []) ≡ r = last-response s (step.Save r) r still refl refl in
+    let part : ends_complete m.behaviour q (s ++ step.Save r ∷ []) ≡ false = ends_in_submit-push (complete_under m.behaviour q) s (step.Save r) in
+    let is : ends_incomplete m.behaviour q (s ++ step.Save r ∷ []) ≡ false = ends_in_submit-push (λ (t : Response). not (complete_under m.behaviour q t)) s (step.Save r) in
+    stays m q s (step.Save r) o false after open_yet refl (handed_in-other m.behaviour q s (step.Save r) still refl refl) part is waits_is
+    (Some place) (place-response s (step.Save r) r place at_end refl ∙ sym last_is) (place-inside s (step.Save r) place at_end) (rw last_is (λ can. fitting))
+
+pub submits_incomplete : (m : Progress) (q : Question) (s : List Step) (r : Response) (place : ℕ) (o : Outcome) → IsAfter m q s → m.finished ≡ false → fits q r m.behaviour ≡ true → complete q r ≡ false → place ≡ length s → o ≡ waited m.outcome true
+    → IsAfter (record m { outcome = o; last = Some place }) q (s ++ step.Submit r ∷ [])
+submits_incomplete m q s r place o after open_yet fitting partial at_end waits_is =
+    let still : has_finish s ≡ false = sym after.finished ∙ open_yet in
+    let under : complete_under m.behaviour q r ≡ false = complete-under m.behaviour q r false after.plays partial in
+    let last_is : last (s ++ step.Submit r ∷ []) ≡ r = last-response s (step.Submit r) r still refl refl in
+    let part : ends_complete m.behaviour q (s ++ step.Submit r ∷ []) ≡ false = ends_in_submit-push (complete_under m.behaviour q) s (step.Submit r) ∙ under in
+    let is : ends_incomplete m.behaviour q (s ++ step.Submit r ∷ []) ≡ true = ends_in_submit-push (λ (t : Response). not (complete_under m.behaviour q t)) s (step.Submit r) ∙ ap not under in
+    stays m q s (step.Submit r) o true after open_yet refl (handed_in-incomplete m.behaviour q s r still under) part is waits_is
+    (Some place) (place-response s (step.Submit r) r place at_end refl ∙ sym last_is) (place-inside s (step.Submit r) place at_end) (rw last_is (λ can. fitting))
+
+-- a complete Submit, with what comes of it
+pub hands_in : (m : Progress) (q : Question) (s : List Step) (r : Response) (place : ℕ) (o : Outcome) (right' : Bool) → IsAfter m q s → m.finished ≡ false → fits q r m.behaviour ≡ true → complete q r ≡ true → place ≡ length s
+    → o ≡ outcome m.behaviour q (s ++ step.Submit r ∷ []) → IfSome o.fraction IsEarnedFraction → o.tries ≤ m.outcome.tries + 1 → right' ≡ has_right_try m.behaviour q (s ++ step.Submit r ∷ [])
+    → IsAfter (record m { outcome = o; last = Some place; handed_in = Some place; right = right' }) q (s ++ step.Submit r ∷ [])
+hands_in m q s r place o right' after open_yet fitting whole at_end is earned' few' right_is =
+    let still : has_finish s ≡ false = sym after.finished ∙ open_yet in
+    let last_is : last (s ++ step.Submit r ∷ []) ≡ r = last-response s (step.Submit r) r still refl refl in
+    let more : handed_in m.behaviour q (s ++ step.Submit r ∷ []) ≡ handed_in m.behaviour q s ++ r ∷ [] = handed_in-complete m.behaviour q s r still (complete-under m.behaviour q r true after.plays whole) in
+    record {
+      plays = after.plays;
+      finished = open_yet ∙ sym (has_finish-push s (step.Submit r) refl ∙ still);
+      fits = rw last_is (λ can. fitting);
+      outcome = is;
+      last = place-response s (step.Submit r) r place at_end refl ∙ sym last_is;
+      inside = place-inside s (step.Submit r) place at_end;
+      handed_in = place-submitted s r place at_end ∙ sym (ap last_of more ∙ last_of-push None (handed_in m.behaviour q s) r);
+      handed_in_inside = place-inside s (step.Submit r) place at_end;
+      right = right_is;
+      earned = earned';
+      few = omega (arith, after.few, few', length-append s (step.Submit r ∷ []));
+    }
+
+-- the Finish, with what comes of it
+pub finishes : (m : Progress) (q : Question) (s : List Step) (o : Outcome) → IsAfter m q s → m.finished ≡ false
+    → o ≡ outcome m.behaviour q (s ++ step.Finish ∷ []) → IfSome o.fraction IsEarnedFraction → o.tries ≤ m.outcome.tries + 1
+    → IsAfter (record m { outcome = o; finished = true }) q (s ++ step.Finish ∷ [])
+finishes m q s o after open_yet is earned' few' = record {
+    plays = after.plays;
+    finished = sym (has_finish-finished s);
+    fits = rw (last-finished s) after.fits;
+    outcome = is;
+    last = ap (λ (p : Option Step). unwrap_or (option_and_then response_of p) blank) (step_at-kept m.last s step.Finish after.inside) ∙ after.last ∙ sym (last-finished s);
+    inside = inside-more m.last s step.Finish after.inside;
+    handed_in = ap (option_and_then submitted) (step_at-kept m.handed_in s step.Finish after.handed_in_inside) ∙ after.handed_in ∙ ap last_of (sym (handed_in-finished m.behaviour q s));
+    handed_in_inside = inside-more m.handed_in s step.Finish after.handed_in_inside;
+    right = after.right ∙ sym (right-same m.behaviour q (s ++ step.Finish ∷ []) s (handed_in-finished m.behaviour q s));
+    earned = earned';
+    few = omega (arith, after.few, few', length-append s (step.Finish ∷ []));
+  }

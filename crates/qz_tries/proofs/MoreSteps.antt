@@ -1,5 +1,5 @@
 -- Readings of a list of steps with one more step at its end.
-use Rattle.std.proofs.Common.{◌≡◌, ℕ, zero, suc, ◌+◌, ◌<◌, ◌≤◌, Bool, true, false, cond, not, ◌&&◌, ◌||◌, List, [], ◌∷◌, ◌++◌, length, Option, Some, None, IfSome, refl, ap, sym, ◌∙◌, arith, append-nil, length-append, add-zero}
+use Rattle.std.proofs.Common.{◌≡◌, ℕ, zero, suc, ◌+◌, ◌-◌, ◌<◌, ◌≤◌, Bool, true, false, cond, not, ◌&&◌, ◌||◌, List, [], ◌∷◌, ◌++◌, length, Option, Some, None, IfSome, refl, ap, sym, ◌∙◌, arith, append-nil, length-append, add-zero}
 use Rattle.std.specs.Prelude.{filter, filter_map, unwrap_or, option_map, option_and_then, slice_get, find, fold, is_some}
 use Rattle.std.specs.List.{list_any, last_or, enumerate_from}
 use Rattle.std.proofs.lemmas.List.Folds.{list_any-append}
@@ -113,6 +113,14 @@ step_at-kept None s x inside = refl
 step_at-kept (Some i) s x inside = slice_get-kept s x i inside
 
 -- ---- lists
+
+last_read-cons : {A : Type 0} (x : A) (xs : List A) → slice_get (x ∷ xs) (length xs) ≡ last_or (Some x) xs
+last_read-cons x [] = refl
+last_read-cons x (y ∷ ys) = last_read-cons y ys
+
+pub last_read : {A : Type 0} (xs : List A) → slice_get xs (length xs - 1) ≡ last_of xs
+last_read [] = refl
+last_read (x ∷ xs) = let before_it : length (x ∷ xs) - 1 ≡ length xs = omega arith in rw before_it (last_read-cons x xs)
 
 pub enumerate_from-append : {A : Type 0} (n : ℕ) (xs ys : List A) → enumerate_from n (xs ++ ys) ≡ enumerate_from n xs ++ enumerate_from (n + length xs) ys
 enumerate_from-append {A = A} n [] ys = rw add-zero refl

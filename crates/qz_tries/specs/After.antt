@@ -24,9 +24,12 @@ response_at s place = unwrap_or (option_and_then response_of (step_at s place)) 
 abbrev pub submitted_at : List Step → Option ℕ → Option Response
 submitted_at s place = option_and_then submitted (step_at s place)
 
--- the last response, where it can be graded
+-- a response, where it can be graded
+abbrev pub if_gradable : Question → Response → Option Response
+if_gradable q r = if gradable q r then Some r else None
+
 abbrev pub gradable_last : Question → List Step → Option Response
-gradable_last q s = if gradable q (last s) then Some (last s) else None
+gradable_last q s = if_gradable q (last s)
 
 -- a response that isn't the same as the one before, if any
 abbrev pub is_new : Option Response → Response → Bool

@@ -17,9 +17,8 @@ ghost use Rattle.qz_grading.specs.Behaviours.{outcome, is_right, graded, tries_a
 ghost use Rattle.qz_tries.specs.After.{gradable_last};
 
 use crate::fractions::{graded, is_right, reduced};
-use crate::stub::grade;
 use qz_decimal::Fraction;
-use qz_grading::{Outcome, Question, Response, State, Steps};
+use qz_grading::{Outcome, Question, Response, State, Steps, grade};
 use std::sync::ledger::Ledger;
 
 /// Whether a try with this grade ends the slot: it is right, or by its number, from 1, the last that the question allows.

@@ -5,6 +5,6 @@ mod adaptive;
 mod fractions;
 mod interactive;
 mod machine;
-mod stub;
+mod places;
 
 pub use machine::TryMachine;

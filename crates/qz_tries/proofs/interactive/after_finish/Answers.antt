@@ -13,7 +13,7 @@ returns-then-so_far-clause-outcome g c = λ s still is last_is.
 
 pub returns-in_default-clause-outcome : goal.returns-in_default-clause-outcome
 returns-in_default-clause-outcome g c = λ s still is last_is.
-    finish_gives_up c.args.so_far c.args.question.now s still is c.if-so_far.false ?
+    finish_gives_up c.args.so_far c.args.question.now s still is c.if-so_far.false (ap option_copied (sym c.in_default.is) ∙ last_is)
 
 pub returns-clause-outcome : goal.returns-clause-outcome
 returns-clause-outcome g c = λ s still is last_is.
@@ -21,4 +21,4 @@ returns-clause-outcome g c = λ s still is last_is.
     let n = c.args.so_far.tries in
     c.ends_with.ensures.value
     ∙ ap (λ (f : ℤ). let o : Outcome = record { state = graded f; fraction = Some (int_max (pos 0) (f -ℤ pos n *ℤ q.penalty)); ended = true; needs_again = false; tries = n } in o) c.grade-grade.ensures.value
-    ∙ finish_graded c.args.so_far q s c.in-Some.last.now still is c.if-so_far.false ?
+    ∙ finish_graded c.args.so_far q s c.in-Some.last.now still is c.if-so_far.false (ap option_copied (sym c.in-Some.is) ∙ last_is)

@@ -13,7 +13,7 @@ pub returns-then-ends_slot-clause-outcome : goal.returns-then-ends_slot-clause-o
 returns-then-ends_slot-clause-outcome g c = λ s still is.
     let q = c.args.question.now in
     let n = c.args.so_far.tries in
-    let now : ends q (n + 1, c.args.response.now) ≡ true = ap (λ (f : ℤ). is_right f || (n + 1 == tries_allowed q)) (sym c.grade-grade.ensures.value) ∙ sym c.ends_slot.ensures ∙ c.then-ends_slot.true in
+    let now : ends q (n + 1, c.args.response.now) ≡ true = ap (λ (f : ℤ). is_right f || (n + 1 == tries_allowed q)) (sym c.grade-grade.ensures.value) ∙ sym c.ends_slot.ensures ∙ c.if-ends_slot.true in
     c.ends_with.ensures.value
     ∙ ap (λ (f : ℤ). let o : Outcome = record { state = graded f; fraction = Some (int_max (pos 0) (f -ℤ pos n *ℤ q.penalty)); ended = true; needs_again = false; tries = n + 1 } in o) c.grade-grade.ensures.value
     ∙ try_that_ends c.args.so_far q s c.args.response.now still is c.requires.complete c.if-so_far.false now
