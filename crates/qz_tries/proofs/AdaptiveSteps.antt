@@ -23,8 +23,9 @@ use Rattle.qz_grading.specs.Grading.{same, same_answer, gradable, grade}
 use Rattle.qz_grading.specs.Steps.{is_finish, has_finish, before, last, last_of, submitted}
 use Rattle.qz_grading.specs.Behaviours.{complete_under, handed_in, ends_complete, ends_incomplete, is_right, graded, changed, changed_after, further, submitted_tries, adaptive_tries, best_try, penalty_under, without_last, adaptive_state, adaptive, outcome}
 use Rattle.qz_grading.proofs.StepLemmas.{last_of-push, has_finish-push, has_finish-finished, before-open, before-finished, last-finished}
-use Rattle.qz_tries.specs.After.{is_new}
-use Rattle.qz_tries.proofs.MoreSteps.{has_finish-closed, before-closed, last-closed, handed_in-closed, handed_in-finished, handed_in-complete, ends_in_submit-push, without_last-push, enumerate_from-append, and-false, and-true}
+use Rattle.qz_tries.specs.Progress.{is_adaptive}
+use Rattle.qz_tries.specs.After.{is_new, gradable_last}
+use Rattle.qz_tries.proofs.MoreSteps.{gradable_last-none, gradable_last-some, has_finish-closed, before-closed, last-closed, handed_in-closed, handed_in-finished, handed_in-complete, ends_in_submit-push, without_last-push, enumerate_from-append, and-false, and-true}
 
 -- ---- responses that are the same are equal
 
@@ -86,11 +87,6 @@ best_try-push b q tries r =
     ∙ ap (λ (n : ℕ). int_max (best_try b q tries) (grade q r -ℤ pos n *ℤ penalty_under b q)) count
 
 -- ---- the outcome, under both behaviours
-
-abbrev pub is_adaptive : Behaviour → Bool
-is_adaptive Adaptive = true
-is_adaptive AdaptiveNoPenalty = true
-is_adaptive b = false
 
 abbrev adaptive_outcome : Behaviour → Question → List Step → Outcome
 adaptive_outcome b q s = record { state = adaptive_state b q s; fraction = (adaptive b q s).1; ended = has_finish s; needs_again = false; tries = length (adaptive_tries b q s) }
@@ -203,3 +199,40 @@ pub tries_last : (b : Behaviour) (q : Question) (s : List Step) → is_adaptive 
     → outcome b q (s ++ step.Finish ∷ []) ≡ record { state = graded (grade q (last s)); fraction = Some (int_max (unwrap_or (outcome b q s).fraction (pos 0)) (grade q (last s) -ℤ pos (outcome b q s).tries *ℤ penalty_under b q)); ended = true; needs_again = false; tries = (outcome b q s).tries + 1 }
 tries_last b q s plays still can new =
     outcome_is b q (s ++ step.Finish ∷ []) plays ∙ tries_last-here b q s still can new ∙ rw (best_so_far b q s plays still, tries_so_far b q s plays still) refl
+
+-- ---- the same, for an outcome that is known to be that of the list
+
+pub finish_gives_up : (o : Outcome) (b : Behaviour) (q : Question) (s : List Step) → is_adaptive b ≡ true → has_finish s ≡ false → o ≡ outcome b q s → None ≡ gradable_last q s
+    → record { state = state.GaveUp; fraction = Some (unwrap_or o.fraction (pos 0)); ended = true; needs_again = false; tries = o.tries } ≡ outcome b q (s ++ step.Finish ∷ [])
+finish_gives_up o b q s plays still is none =
+    let cannot : gradable q (last s) ≡ false = gradable_last-none q s none in
+    let final = rests b q s plays still (ap (λ (v : Bool). v && is_new (last_of (handed_in b q s)) (last s)) cannot) in
+    ap (λ (p : Outcome). record { state = state.GaveUp; fraction = Some (unwrap_or p.fraction (pos 0)); ended = true; needs_again = false; tries = p.tries }) is
+    ∙ ap (λ (v : Bool). record { state = if v then graded (grade q (last s)) else state.GaveUp; fraction = Some (unwrap_or (outcome b q s).fraction (pos 0)); ended = true; needs_again = false; tries = (outcome b q s).tries }) (sym cannot)
+    ∙ sym final
+
+pub finish_same : (o : Outcome) (b : Behaviour) (q : Question) (s : List Step) (r : Response) → is_adaptive b ≡ true → has_finish s ≡ false → o ≡ outcome b q s → Some r ≡ gradable_last q s → is_new (last_of (handed_in b q s)) r ≡ false
+    → record { state = graded (grade q r); fraction = Some (unwrap_or o.fraction (pos 0)); ended = true; needs_again = false; tries = o.tries } ≡ outcome b q (s ++ step.Finish ∷ [])
+finish_same o b q s r plays still is some again =
+    let last_is = gradable_last-some q s r some in
+    let final = rests b q s plays still (ap (λ (v : Bool). v && is_new (last_of (handed_in b q s)) (last s)) last_is.0 ∙ ap (is_new (last_of (handed_in b q s))) (sym last_is.1) ∙ again) in
+    ap (λ (p : Outcome). record { state = graded (grade q r); fraction = Some (unwrap_or p.fraction (pos 0)); ended = true; needs_again = false; tries = p.tries }) is
+    ∙ ap (λ (t : Response). record { state = graded (grade q t); fraction = Some (unwrap_or (outcome b q s).fraction (pos 0)); ended = true; needs_again = false; tries = (outcome b q s).tries }) last_is.1
+    ∙ ap (λ (v : Bool). record { state = if v then graded (grade q (last s)) else state.GaveUp; fraction = Some (unwrap_or (outcome b q s).fraction (pos 0)); ended = true; needs_again = false; tries = (outcome b q s).tries }) (sym last_is.0)
+    ∙ sym final
+
+pub finish_further : (o : Outcome) (b : Behaviour) (q : Question) (s : List Step) (r : Response) → is_adaptive b ≡ true → has_finish s ≡ false → o ≡ outcome b q s → Some r ≡ gradable_last q s → is_new (last_of (handed_in b q s)) r ≡ true
+    → record { state = graded (grade q r); fraction = Some (int_max (unwrap_or o.fraction (pos 0)) (grade q r -ℤ pos o.tries *ℤ penalty_under b q)); ended = true; needs_again = false; tries = o.tries + 1 } ≡ outcome b q (s ++ step.Finish ∷ [])
+finish_further o b q s r plays still is some new =
+    let last_is = gradable_last-some q s r some in
+    ap (λ (p : Outcome). record { state = graded (grade q r); fraction = Some (int_max (unwrap_or p.fraction (pos 0)) (grade q r -ℤ pos p.tries *ℤ penalty_under b q)); ended = true; needs_again = false; tries = p.tries + 1 }) is
+    ∙ ap (λ (t : Response). record { state = graded (grade q t); fraction = Some (int_max (unwrap_or (outcome b q s).fraction (pos 0)) (grade q t -ℤ pos (outcome b q s).tries *ℤ penalty_under b q)); ended = true; needs_again = false; tries = (outcome b q s).tries + 1 }) last_is.1
+    ∙ sym (tries_last b q s plays still last_is.0 (ap (is_new (last_of (handed_in b q s))) (sym last_is.1) ∙ new))
+
+pub try_more : (o : Outcome) (b : Behaviour) (q : Question) (s : List Step) (r : Response) → is_adaptive b ≡ true → has_finish s ≡ false → o ≡ outcome b q s → complete_under b q r ≡ true → is_new (last_of (handed_in b q s)) r ≡ true
+    → (right : Bool) → right ≡ (is_some (find (λ t. is_right (grade q t)) (submitted_tries b q s)) || is_right (grade q r))
+    → record { state = if right then state.Complete else state.Todo; fraction = Some (int_max (unwrap_or o.fraction (pos 0)) (grade q r -ℤ pos o.tries *ℤ penalty_under b q)); ended = false; needs_again = false; tries = o.tries + 1 } ≡ outcome b q (s ++ step.Submit r ∷ [])
+try_more o b q s r plays still is whole new right right_is =
+    ap (λ (p : Outcome). record { state = if right then state.Complete else state.Todo; fraction = Some (int_max (unwrap_or p.fraction (pos 0)) (grade q r -ℤ pos p.tries *ℤ penalty_under b q)); ended = false; needs_again = false; tries = p.tries + 1 }) is
+    ∙ ap (λ (v : Bool). record { state = if v then state.Complete else state.Todo; fraction = Some (int_max (unwrap_or (outcome b q s).fraction (pos 0)) (grade q r -ℤ pos (outcome b q s).tries *ℤ penalty_under b q)); ended = false; needs_again = false; tries = (outcome b q s).tries + 1 }) right_is
+    ∙ sym (tries_again b q s r plays still whole new)

@@ -1,6 +1,7 @@
 -- A machine stands after one more step.
-use Rattle.std.proofs.Common.{◌≡◌, ℕ, ◌+◌, ◌<◌, ◌≤◌, Bool, true, false, cond, not, ◌&&◌, ◌||◌, List, [], ◌∷◌, ◌++◌, length, Option, Some, None, IfSome, refl, ap, sym, ◌∙◌, subst, arith, length-append}
+use Rattle.std.proofs.Common.{◌≡◌, ℕ, ◌+◌, ◌<◌, ◌≤◌, Bool, true, false, cond, not, ◌&&◌, ◌||◌, List, [], ◌∷◌, ◌++◌, length, Option, Some, None, IfSome, pos, ◌-ℤ◌, ◌*ℤ◌, refl, ap, sym, ◌∙◌, subst, arith, append-nil, length-append}
 use Rattle.std.specs.Prelude.{find, unwrap_or, option_and_then, slice_get, is_some, if◌then◌else◌, IsTrue}
+use Rattle.std.specs.Int.{int_max}
 use Rattle.qz_decimal.specs.Numbers.{IsEarnedFraction}
 use Rattle.qz_grading.specs.declared.outcome.Behaviour.{Behaviour}
 use Rattle.qz_grading.specs.declared.outcome.Behaviour.TheVariants as behaviour
@@ -12,11 +13,11 @@ use Rattle.qz_grading.specs.declared.response.Step.{Step}
 use Rattle.qz_grading.specs.declared.response.Step.TheVariants as step
 use Rattle.qz_grading.specs.Grading.{blank, fits, complete, gradable, grade}
 use Rattle.qz_grading.specs.Steps.{is_finish, has_finish, before, last, last_of, response_of, submitted}
-use Rattle.qz_grading.specs.Behaviours.{complete_under, handed_in, ends_complete, ends_incomplete, is_right, changed, outcome}
+use Rattle.qz_grading.specs.Behaviours.{complete_under, handed_in, ends_complete, ends_incomplete, is_right, changed, submitted_tries, penalty_under, outcome}
 use Rattle.qz_grading.proofs.StepLemmas.{last_of-push, has_finish-push, has_finish-finished, last-finished}
-use Rattle.qz_tries.specs.Progress.{Progress, has_tries}
-use Rattle.qz_tries.specs.After.{step_at, response_at, submitted_at, has_right_try, IsAfter}
-use Rattle.qz_tries.proofs.MoreSteps.{has_finish-closed, last-closed, last-response, last-other, handed_in-closed, handed_in-finished, handed_in-complete, handed_in-other, handed_in-incomplete, ends_in_submit-push, slice_get-push, inside-more, step_at-kept, and-true}
+use Rattle.qz_tries.specs.Progress.{Progress, is_adaptive, has_tries}
+use Rattle.qz_tries.specs.After.{step_at, response_at, submitted_at, has_right_try, is_new, gradable_last, IsAfter}
+use Rattle.qz_tries.proofs.MoreSteps.{gradable_last-some, has_finish-closed, last-closed, last-response, last-other, handed_in-closed, handed_in-finished, handed_in-complete, handed_in-other, handed_in-incomplete, ends_in_submit-push, slice_get-push, inside-more, step_at-kept, and-true}
 use Rattle.qz_tries.proofs.InteractiveSteps as interactive
 use Rattle.qz_tries.proofs.AdaptiveSteps as adaptive
 
@@ -40,17 +41,17 @@ waited o incomplete = if o.ended then o else record o { state = if incomplete th
 waited-open : (o : Outcome) (incomplete : Bool) → o.ended ≡ false → o.needs_again ≡ false → record o { state = if incomplete then state.Invalid else state.Todo } ≡ waited o incomplete
 waited-open o incomplete open_yet no_need = rw (open_yet, no_need) refl
 
-adaptive-open : (b : Behaviour) (q : Question) (s : List Step) → adaptive.is_adaptive b ≡ true → has_finish s ≡ false → (outcome b q s).ended ≡ false
+adaptive-open : (b : Behaviour) (q : Question) (s : List Step) → is_adaptive b ≡ true → has_finish s ≡ false → (outcome b q s).ended ≡ false
 adaptive-open behaviour.Adaptive q s plays still = rw still refl
 adaptive-open behaviour.AdaptiveNoPenalty q s plays still = rw still refl
 adaptive-open b q s plays still = absurd cc
 
-adaptive-no_need : (b : Behaviour) (q : Question) (s : List Step) → adaptive.is_adaptive b ≡ true → (outcome b q s).needs_again ≡ false
+adaptive-no_need : (b : Behaviour) (q : Question) (s : List Step) → is_adaptive b ≡ true → (outcome b q s).needs_again ≡ false
 adaptive-no_need behaviour.Adaptive q s plays = refl
 adaptive-no_need behaviour.AdaptiveNoPenalty q s plays = refl
 adaptive-no_need b q s plays = absurd cc
 
-waits-adaptive : (b : Behaviour) (q : Question) (s : List Step) (x : Step) (incomplete : Bool) → adaptive.is_adaptive b ≡ true → has_finish s ≡ false → is_finish x ≡ false
+waits-adaptive : (b : Behaviour) (q : Question) (s : List Step) (x : Step) (incomplete : Bool) → is_adaptive b ≡ true → has_finish s ≡ false → is_finish x ≡ false
     → handed_in b q (s ++ x ∷ []) ≡ handed_in b q s → ends_incomplete b q (s ++ x ∷ []) ≡ incomplete
     → outcome b q (s ++ x ∷ []) ≡ waited (outcome b q s) incomplete
 waits-adaptive b q s x incomplete plays still other same is =
@@ -204,3 +205,86 @@ finishes m q s o after open_yet is earned' few' = record {
     earned = earned';
     few = omega (arith, after.few, few', length-append s (step.Finish ∷ []));
   }
+
+-- ---- whether some try was right
+
+pub right-interactive : (b : Behaviour) (q : Question) (s t : List Step) (right : Bool) → b ≡ behaviour.Interactive → right ≡ has_right_try b q s → right ≡ has_right_try b q t
+right-interactive b q s t right is kept = kept ∙ ap (λ (a : Behaviour). has_right_try a q s) is ∙ ap (λ (a : Behaviour). has_right_try a q t) (sym is)
+
+right-adaptive : (b : Behaviour) (q : Question) (s : List Step) → is_adaptive b ≡ true → has_right_try b q s ≡ is_some (find (λ r. is_right (grade q r)) (submitted_tries b q s))
+right-adaptive behaviour.Adaptive q s plays = refl
+right-adaptive behaviour.AdaptiveNoPenalty q s plays = refl
+right-adaptive b q s plays = absurd cc
+
+pub right-new : (b : Behaviour) (q : Question) (s : List Step) (r : Response) → is_adaptive b ≡ true → has_finish s ≡ false → complete_under b q r ≡ true → is_new (last_of (handed_in b q s)) r ≡ true
+    → (has_right_try b q s || is_right (grade q r)) ≡ has_right_try b q (s ++ step.Submit r ∷ [])
+right-new b q s r plays still whole new =
+    let more : submitted_tries b q (s ++ step.Submit r ∷ []) ≡ submitted_tries b q s ++ r ∷ [] = adaptive.submitted_tries-complete b q s r still whole ∙ rw new refl in
+    ap (λ (v : Bool). v || is_right (grade q r)) (right-adaptive b q s plays)
+    ∙ sym (right-adaptive b q (s ++ step.Submit r ∷ []) plays ∙ ap (λ (ts : List Response). is_some (find (λ t. is_right (grade q t)) ts)) more ∙ adaptive.right-push q (submitted_tries b q s) r)
+
+pub right-again : (b : Behaviour) (q : Question) (s : List Step) (r : Response) → is_adaptive b ≡ true → has_finish s ≡ false → complete_under b q r ≡ true → is_new (last_of (handed_in b q s)) r ≡ false
+    → has_right_try b q s ≡ has_right_try b q (s ++ step.Submit r ∷ [])
+right-again b q s r plays still whole again =
+    let same : submitted_tries b q (s ++ step.Submit r ∷ []) ≡ submitted_tries b q s = adaptive.submitted_tries-complete b q s r still whole ∙ rw again (append-nil (submitted_tries b q s)) in
+    right-adaptive b q s plays ∙ ap (λ (ts : List Response). is_some (find (λ t. is_right (grade q t)) ts)) (sym same) ∙ sym (right-adaptive b q (s ++ step.Submit r ∷ []) plays)
+
+-- an interactive slot aside, the others are adaptive
+pub adaptive-else : (b : Behaviour) → IsTrue (has_tries b) → (b ≡ behaviour.Interactive → ⊥) → is_adaptive b ≡ true
+adaptive-else behaviour.Interactive plays other = absurd (other refl)
+adaptive-else behaviour.Adaptive plays other = refl
+adaptive-else behaviour.AdaptiveNoPenalty plays other = refl
+adaptive-else b plays other = absurd cc
+
+pub plays-adaptive : (b : Behaviour) → is_adaptive b ≡ true → IsTrue (has_tries b)
+plays-adaptive behaviour.Adaptive plays = refl
+plays-adaptive behaviour.AdaptiveNoPenalty plays = refl
+plays-adaptive b plays = absurd cc
+
+-- the last response fits, where it can be graded
+pub last-fits : (b : Behaviour) (q : Question) (s : List Step) (r : Option Response) → r ≡ gradable_last q s → (gradable q (last s) ≡ true → fits q (last s) b ≡ true) → IfSome r (λ t. fits q t b ≡ true)
+last-fits b q s None is fitting = tt
+last-fits b q s (Some r) is fitting =
+    let last_is = gradable_last-some q s r is in
+    ap (λ (t : Response). fits q t b) last_is.1 ∙ fitting last_is.0
+
+-- a machine that is seen as another value of the same
+pub seen_after : {m v : Progress} (q : Question) (s : List Step) → m ≡ v → IsAfter v q s → IsAfter m q s
+seen_after q s view after = let P : Progress → Type 0 = λ p. IsAfter p q s in subst P (sym view) after
+
+pub seen_fits : {m v : Progress} (q : Question) (r : Response) → m ≡ v → fits q r v.behaviour ≡ true → fits q r m.behaviour ≡ true
+seen_fits q r view fitting = ap (λ (p : Progress). fits q r p.behaviour) view ∙ fitting
+
+pub seen_finished : {m v : Progress} (b : Bool) → m ≡ v → v.finished ≡ b → m.finished ≡ b
+seen_finished b view is = ap (λ (p : Progress). p.finished) view ∙ is
+
+-- ---- a complete Submit under an adaptive behaviour
+
+pub tries_adaptive : (m : Progress) (q : Question) (s : List Step) (r : Response) (o : Outcome) (right' : Bool) → IsAfter m q s → m.finished ≡ false → is_adaptive m.behaviour ≡ true → fits q r m.behaviour ≡ true → complete q r ≡ true → is_new (submitted_at s m.handed_in) r ≡ true
+    → right' ≡ (m.right || is_right (grade q r))
+    → o ≡ record { state = if right' then state.Complete else state.Todo; fraction = Some (int_max (unwrap_or m.outcome.fraction (pos 0)) (grade q r -ℤ pos m.outcome.tries *ℤ penalty_under m.behaviour q)); ended = false; needs_again = false; tries = m.outcome.tries + 1 }
+    → IfSome o.fraction IsEarnedFraction
+    → IsAfter (record m { outcome = o; last = Some (length s); handed_in = Some (length s); right = right' }) q (s ++ step.Submit r ∷ [])
+tries_adaptive m q s r o right' after open_yet plays fitting whole new right_is is earned' =
+    let still : has_finish s ≡ false = sym after.finished ∙ open_yet in
+    let under : complete_under m.behaviour q r ≡ true = complete-under m.behaviour q r true after.plays whole in
+    let differs : is_new (last_of (handed_in m.behaviour q s)) r ≡ true = ap (λ (t : Option Response). is_new t r) (sym after.handed_in) ∙ new in
+    let was : right' ≡ (has_right_try m.behaviour q s || is_right (grade q r)) = right_is ∙ ap (λ (v : Bool). v || is_right (grade q r)) after.right in
+    hands_in m q s r (length s) o right' after open_yet fitting whole refl
+    (is ∙ adaptive.try_more m.outcome m.behaviour q s r plays still after.outcome under differs right' (was ∙ ap (λ (v : Bool). v || is_right (grade q r)) (right-adaptive m.behaviour q s plays)))
+    earned' (let one_more : o.tries ≡ m.outcome.tries + 1 = ap (λ (p : Outcome). p.tries) is in omega (arith, one_more))
+    (was ∙ right-new m.behaviour q s r plays still under differs)
+
+pub repeats_adaptive : (m : Progress) (q : Question) (s : List Step) (r : Response) (o : Outcome) → IsAfter m q s → m.finished ≡ false → is_adaptive m.behaviour ≡ true → fits q r m.behaviour ≡ true → complete q r ≡ true → is_new (submitted_at s m.handed_in) r ≡ false
+    → o ≡ waited m.outcome false
+    → IsAfter (record m { outcome = o; last = Some (length s); handed_in = Some (length s) }) q (s ++ step.Submit r ∷ [])
+repeats_adaptive m q s r o after open_yet plays fitting whole again is =
+    let still : has_finish s ≡ false = sym after.finished ∙ open_yet in
+    let under : complete_under m.behaviour q r ≡ true = complete-under m.behaviour q r true after.plays whole in
+    let same : is_new (last_of (handed_in m.behaviour q s)) r ≡ false = ap (λ (t : Option Response). is_new t r) (sym after.handed_in) ∙ again in
+    hands_in m q s r (length s) o m.right after open_yet fitting whole refl
+    (is ∙ ap (λ (p : Outcome). waited p false) after.outcome
+     ∙ sym (adaptive.repeats m.behaviour q s r plays still under same ∙ waited-open (outcome m.behaviour q s) false (adaptive-open m.behaviour q s plays still) (adaptive-no_need m.behaviour q s plays)))
+    (rw (is, waited-fraction-by m.outcome false m.outcome.ended refl) after.earned)
+    (let kept : o.tries ≡ m.outcome.tries = ap (λ (p : Outcome). p.tries) is ∙ waited-tries-by m.outcome false m.outcome.ended refl in omega (arith, kept))
+    (after.right ∙ right-again m.behaviour q s r plays still under same)

@@ -17,7 +17,7 @@ use Rattle.qz_grading.specs.Steps.{is_finish, has_finish, before, last, submitte
 use Rattle.qz_grading.specs.Behaviours.{complete_under, handed_in, ends_complete, ends_incomplete, ending_try, tries_allowed, is_right, graded, penalised, tried, unfinished, outcome}
 use Rattle.qz_grading.proofs.StepLemmas.{has_finish-push, has_finish-finished, before-open, before-finished, last-finished}
 use Rattle.qz_tries.specs.After.{gradable_last}
-use Rattle.qz_tries.proofs.MoreSteps.{has_finish-closed, before-closed, last-closed, handed_in-closed, handed_in-finished, handed_in-complete, ends_in_submit-push, enumerate_from-append, and-false, and-true}
+use Rattle.qz_tries.proofs.MoreSteps.{gradable_last-none, gradable_last-some, has_finish-closed, before-closed, last-closed, handed_in-closed, handed_in-finished, handed_in-complete, ends_in_submit-push, enumerate_from-append, and-false, and-true}
 
 -- a try, with its number, that ends the slot
 abbrev pub ends : Question → ℕ × Response → Bool
@@ -133,15 +133,6 @@ pub gives_up : (q : Question) (s : List Step) → has_finish s ≡ false → (ou
 gives_up q s still open_yet cannot = gives_up-by q s (ending_try Interactive q s) refl still open_yet cannot
 
 -- ---- the same, for an outcome that is known to be that of the list
-
-pub gradable_last-none : (q : Question) (s : List Step) → None ≡ gradable_last q s → gradable q (last s) ≡ false
-gradable_last-none q s none = false_from_ne_true (gradable q (last s)) (λ can. let h = rw can at none in cc)
-
-pub gradable_last-some : (q : Question) (s : List Step) (r : Response) → Some r ≡ gradable_last q s → (gradable q (last s) ≡ true) × (r ≡ last s)
-gradable_last-some q s r some =
-    let can : gradable q (last s) ≡ true = true_from_ne_false (gradable q (last s)) (λ cannot. let h = rw cannot at some in cc) in
-    let h = rw can at some in
-    (can, cc)
 
 pub try_after_end : (o : Outcome) (q : Question) (s : List Step) (r : Response) → has_finish s ≡ false → o ≡ outcome Interactive q s → complete q r ≡ true → o.ended ≡ true
     → record o { tries = o.tries + 1 } ≡ outcome Interactive q (s ++ step.Submit r ∷ [])

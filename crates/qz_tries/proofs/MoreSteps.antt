@@ -2,6 +2,7 @@
 use Rattle.std.proofs.Common.{◌≡◌, ℕ, zero, suc, ◌+◌, ◌-◌, ◌<◌, ◌≤◌, Bool, true, false, cond, not, ◌&&◌, ◌||◌, List, [], ◌∷◌, ◌++◌, length, Option, Some, None, IfSome, refl, ap, sym, ◌∙◌, arith, append-nil, length-append, add-zero}
 use Rattle.std.specs.Prelude.{filter, filter_map, unwrap_or, option_map, option_and_then, slice_get, find, fold, is_some}
 use Rattle.std.specs.List.{list_any, last_or, enumerate_from}
+use Rattle.std.proofs.lemmas.Bool.{false_from_ne_true, true_from_ne_false}
 use Rattle.std.proofs.lemmas.List.Folds.{list_any-append}
 use Rattle.std.proofs.lemmas.List.Elements.{filter-append, filter_map-append}
 use Rattle.qz_grading.specs.declared.outcome.Behaviour.{Behaviour}
@@ -9,9 +10,10 @@ use Rattle.qz_grading.specs.declared.question.Question.{Question}
 use Rattle.qz_grading.specs.declared.response.Response.{Response}
 use Rattle.qz_grading.specs.declared.response.Step.{Step}
 use Rattle.qz_grading.specs.declared.response.Step.TheVariants as step
-use Rattle.qz_grading.specs.Grading.{blank}
+use Rattle.qz_grading.specs.Grading.{blank, gradable}
 use Rattle.qz_grading.specs.Steps.{is_finish, has_finish, before, last, last_of, response_of, submitted}
 use Rattle.qz_grading.specs.Behaviours.{complete_under, handed_in, ends_in_submit, without_last}
+use Rattle.qz_tries.specs.After.{gradable_last}
 use Rattle.qz_grading.proofs.StepLemmas.{last_of-push, has_finish-push, before-open, before-finished}
 
 -- ---- after a Finish nothing counts
@@ -50,6 +52,16 @@ last-other s x none other silent =
     let no : filter_map response_of (x ∷ []) ≡ [] = rw silent refl in
     ap (λ (t : List Step). unwrap_or (last_of (filter_map response_of t)) blank) (before-more s x none other)
     ∙ ap (λ (t : List Response). unwrap_or (last_of t) blank) (filter_map-append response_of (before s) (x ∷ []) ∙ ap (λ (t : List Response). filter_map response_of (before s) ++ t) no ∙ append-nil (filter_map response_of (before s)))
+
+-- the last response, where it can be graded
+pub gradable_last-none : (q : Question) (s : List Step) → None ≡ gradable_last q s → gradable q (last s) ≡ false
+gradable_last-none q s none = false_from_ne_true (gradable q (last s)) (λ can. let h = rw can at none in cc)
+
+pub gradable_last-some : (q : Question) (s : List Step) (r : Response) → Some r ≡ gradable_last q s → (gradable q (last s) ≡ true) × (r ≡ last s)
+gradable_last-some q s r some =
+    let can : gradable q (last s) ≡ true = true_from_ne_false (gradable q (last s)) (λ cannot. let h = rw cannot at some in cc) in
+    let h = rw can at some in
+    (can, cc)
 
 -- ---- complete Submits
 

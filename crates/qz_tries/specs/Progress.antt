@@ -14,9 +14,13 @@ pub record Progress : Type 0 where
   pub right : Bool
   pub finished : Bool
 
+-- the behaviours under which the best try counts
+abbrev pub is_adaptive : Behaviour → Bool
+is_adaptive Adaptive = true
+is_adaptive AdaptiveNoPenalty = true
+is_adaptive b = false
+
 -- the behaviours under which a student tries more than once
 abbrev pub has_tries : Behaviour → Bool
 has_tries Interactive = true
-has_tries Adaptive = true
-has_tries AdaptiveNoPenalty = true
-has_tries b = false
+has_tries b = is_adaptive b

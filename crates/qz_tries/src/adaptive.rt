@@ -3,18 +3,25 @@
 //! Moodle's manual page "Question behaviours" calls it "Adaptive mode": a student tries until the answer is right, each try
 //! costs the penalty once more than the one before, and the best try counts.
 
-ghost use Rattle.std.specs.Prelude.{◌≡◌, ◌+◌, ◌-◌, ◌^◌, ◌<◌, true, false, not, pos, neg_ℤ, ◌-ℤ◌, ◌*ℤ◌, Some, IfSome, unwrap_or, if◌then◌else◌};
+ghost use Rattle.std.specs.Prelude.{◌≡◌, ◌+◌, ◌-◌, ◌^◌, ◌<◌, ◌≤◌, ◌++◌, ◌∷◌, [], List, true, false, pos, neg_ℤ, ◌-ℤ◌, ◌*ℤ◌, Some, IfSome, unwrap_or, if◌then◌else◌};
 ghost use Rattle.std.specs.Option.{option_copied};
 ghost use Rattle.std.specs.Int.{int_max};
 ghost use Rattle.qz_decimal.specs.Numbers.{one, IsWithin, IsEarnedFraction};
 ghost use Rattle.qz_decimal.specs.Reading.{IsWrittenFraction};
-ghost use Rattle.qz_grading.specs.declared.outcome.State.TheVariants as state;
-ghost use Rattle.qz_grading.specs.Behaviours.{penalty_under};
-ghost use Rattle.qz_tries.specs.After.{is_new};
+ghost use Rattle.qz_grading.specs.declared.response.Step.{Step};
+ghost use Rattle.qz_grading.specs.declared.response.Step.TheVariants as step;
+ghost use Rattle.qz_grading.specs.Grading.{fits};
+ghost use Rattle.qz_grading.specs.Questions.{IsQuestion};
+ghost use Rattle.qz_grading.specs.Steps.{has_finish, last_of};
+ghost use Rattle.qz_grading.specs.Behaviours.{outcome, penalty_under};
+ghost use Rattle.qz_grading.specs.Behaviours as behaviours;
+ghost use Rattle.qz_tries.specs.Progress.{is_adaptive};
+ghost use Rattle.qz_tries.specs.After.{is_new, gradable_last};
 
-use crate::fractions::reduced;
+use crate::fractions::{graded, reduced};
 use qz_decimal::Fraction;
-use qz_grading::{Behaviour, Outcome, Question, Response, State, same};
+use qz_grading::{Behaviour, Outcome, Question, Response, State, Steps, grade, same};
+use std::sync::ledger::Ledger;
 
 /// What a try costs more than the one before.
 pub(crate) fn penalty_under(behaviour: Behaviour, question: &Question) -> Fraction
@@ -49,7 +56,7 @@ pub(crate) fn after_try(so_far: Outcome, right: bool, grade: Fraction, penalty: 
     requires grade { IsWithin (neg_ℤ (pos one)) (pos one) grade }
     requires penalty { IsWrittenFraction penalty }
     requires room { so_far.tries < 2 ^ 32 - 1 }
-    ensures value { result ≡ record { state = if right then state.Complete else state.Todo; fraction = Some (int_max (unwrap_or so_far.fraction (pos 0)) (grade -ℤ pos so_far.tries *ℤ penalty)); ended = false; needs_again = false; tries = so_far.tries + 1 } }
+    ensures value { result ≡ record { state = if right then State.Complete else State.Todo; fraction = Some (int_max (unwrap_or so_far.fraction (pos 0)) (grade -ℤ pos so_far.tries *ℤ penalty)); ended = false; needs_again = false; tries = so_far.tries + 1 } }
     ensures earned { IfSome so_far.fraction IsEarnedFraction → IfSome result.fraction IsEarnedFraction }
 {
     let counts = reduced(grade, so_far.tries, penalty);
@@ -62,8 +69,8 @@ pub(crate) fn after_try(so_far: Outcome, right: bool, grade: Fraction, penalty: 
     }
 }
 
-/// The outcome after the Finish: the best try stays.
-pub(crate) fn finished(so_far: Outcome, state: State) -> Outcome
+/// The outcome of a slot that has ended, where the best try stays.
+fn ended(so_far: Outcome, state: State) -> Outcome
     ensures value { result ≡ record { state = state; fraction = Some (unwrap_or so_far.fraction (pos 0)); ended = true; needs_again = false; tries = so_far.tries } }
     ensures earned { IfSome so_far.fraction IsEarnedFraction → IfSome result.fraction IsEarnedFraction }
 {
@@ -75,4 +82,37 @@ pub(crate) fn finished(so_far: Outcome, state: State) -> Outcome
         needs_again: false,
         tries: so_far.tries,
     }
+}
+
+/// The outcome after the Finish. `last` is the last response, if it can be graded; it is a further try where it differs from
+/// the last complete Submit, `handed_in`.
+pub(crate) fn after_finish<L: Ledger>(
+    so_far: Outcome,
+    behaviour: Behaviour,
+    question: &Question,
+    last: Option<&Response>,
+    handed_in: Option<&Response>,
+    steps: &mut Steps<L>,
+) -> Outcome
+    requires adaptive { is_adaptive behaviour ≡ true }
+    requires question { IsQuestion question.now }
+    requires fits { IfSome (option_copied last) (λ r. fits question.now r behaviour ≡ true) }
+    requires room { so_far.tries < 2 ^ 32 - 1 }
+    ensures outcome { (s : List Step) → has_finish s ≡ false → so_far ≡ outcome behaviour question.now s
+        → option_copied last.entry ≡ gradable_last question.now s → option_copied handed_in.entry ≡ last_of (behaviours.handed_in behaviour question.now s)
+        → result ≡ outcome behaviour question.now (s ++ step.Finish ∷ []) }
+    ensures earned { IfSome so_far.fraction IsEarnedFraction → IfSome result.fraction IsEarnedFraction }
+    ensures tries { result.tries ≤ so_far.tries + 1 }
+    ensures count { steps.new ≤ steps.old + 1 }
+{
+    let Some(last) = last else {
+        return ended(so_far, State::GaveUp);
+    };
+    let grade = grade(question, last, steps);
+    if is_new(handed_in, last) {
+        let penalty = penalty_under(behaviour, question);
+        let with_last = after_try(so_far, false, grade, penalty);
+        return ended(with_last, graded(grade));
+    }
+    ended(so_far, graded(grade))
 }

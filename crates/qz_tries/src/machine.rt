@@ -1,13 +1,27 @@
 //! A machine that follows the steps of one slot.
 
-ghost use Rattle.std.specs.Prelude.{◌≡◌, IsTrue};
-ghost use Rattle.qz_tries.specs.Progress.{has_tries};
-ghost use Rattle.qz_tries.specs.After.{Starts};
+ghost use Rattle.std.specs.Prelude.{◌≡◌, ◌-◌, ◌+◌, ◌^◌, ◌<◌, ◌≤◌, ◌++◌, ◌∷◌, [], List, length, true, false, Some, None, Ok, IfSome, IfOk, IfErr, OnErr, IsTrue, if◌then◌else◌};
+ghost use Rattle.qz_decimal.specs.Numbers.{IsEarnedFraction};
+ghost use Rattle.qz_grading.specs.declared.response.Response.{Response};
+ghost use Rattle.qz_grading.specs.Grading.{complete, fits};
+ghost use Rattle.qz_grading.specs.Questions.{IsQuestion};
+ghost use Rattle.qz_grading.specs.Behaviours.{barred, moved};
+ghost use Rattle.qz_grading.specs.Behaviours as behaviours;
+ghost use Rattle.qz_tries.specs.Progress.{is_adaptive, has_tries};
+ghost use Rattle.qz_tries.specs.After.{IsAfter, Starts, StepFits};
 
-use qz_grading::{Behaviour, Outcome, State};
+use crate::adaptive::{is_new, penalty_under};
+use crate::fractions::is_right;
+use crate::places::{ends_complete, ends_with_submit_of, gradable_at, is_same_at, submitted_at};
+use crate::{adaptive, interactive};
+use qz_grading::{Behaviour, Moved, Outcome, Question, Refusal, Response, State, Step, Steps, complete, grade};
 use std::marker::Model;
+use std::sync::ledger::Ledger;
 
-/// Follows the steps of one slot under a behaviour with tries.
+/// Follows the steps of one slot under a behaviour with tries: interactive, or adaptive with or without penalties.
+///
+/// It keeps no steps. The caller keeps them and lends the list of those before each new one, always the same list with the same
+/// question. No call takes memory.
 #[derive(Drop)]
 pub struct TryMachine {
     behaviour: Behaviour,
@@ -27,6 +41,20 @@ impl Model for TryMachine {
     ghost Value = { Progress };
 
     ghost view = { λ m. record { behaviour = m.behaviour; outcome = m.outcome; last = m.last; handed_in = m.handed_in; right = m.right; finished = m.finished } };
+}
+
+/// The outcome after a step that is no try: a slot that has ended stays as it is, and another goes on in this state.
+fn waiting(so_far: Outcome, state: State) -> Outcome
+    ensures { result ≡ (if so_far.ended then so_far else record so_far { state = state; needs_again = false }) }
+{
+    if so_far.ended {
+        return so_far;
+    }
+    Outcome {
+        state,
+        needs_again: false,
+        ..so_far
+    }
 }
 
 impl TryMachine {
@@ -58,10 +86,166 @@ impl TryMachine {
         self.outcome
     }
 
-    /// The behaviour that it plays.
+    /// The behaviour that it follows.
     pub fn behaviour(&self) -> Behaviour
         ensures { result ≡ self.now.behaviour }
     {
         self.behaviour
+    }
+
+    /// Follows one more step, whether or not it would be refused. After a Finish no step changes anything.
+    ///
+    /// `before` are the steps so far. A response in the step fits the question. It counts at most one step of grading, and none
+    /// for a Save.
+    pub fn feed<L: Ledger>(
+        &mut self,
+        question: &Question,
+        before: &[Step],
+        step: &Step,
+        steps: &mut Steps<L>,
+    )
+        requires question { IsQuestion question.now }
+        requires after { IsAfter self.old question.now before.now }
+        requires fits { StepFits self.old.behaviour question.now step.now }
+        requires few { length before.now < 2 ^ 32 - 1 }
+        ensures after { IsAfter self.new question.now (before.now ++ step.now ∷ []) }
+        ensures behaviour { self.new.behaviour ≡ self.old.behaviour }
+        ensures count { steps.new ≤ steps.old + 1 }
+        ensures save_count { (r : Response) → step.now ≡ Step.Save r → steps.new ≡ steps.old }
+    {
+        if self.finished {
+            return;
+        }
+        match step {
+            Step::Save(_) => self.save(before.len()),
+            Step::Submit(response) => self.submit(question, before, response, steps),
+            Step::Again | Step::Mark { .. } => self.outcome = waiting(self.outcome, State::Todo),
+            Step::Finish => self.finish(question, before, steps),
+        }
+    }
+
+    /// Goes on with a response, at this place, that is no try.
+    fn save(&mut self, place: usize)
+        ensures { self.new ≡ record self.old { outcome = (if self.old.outcome.ended then self.old.outcome else record self.old.outcome { state = State.Todo; needs_again = false }); last = Some place } }
+    {
+        self.outcome = waiting(self.outcome, State::Todo);
+        self.last = Some(place);
+    }
+
+    fn submit<L: Ledger>(
+        &mut self,
+        question: &Question,
+        before: &[Step],
+        response: &Response,
+        steps: &mut Steps<L>,
+    )
+        requires question { IsQuestion question.now }
+        requires after { IsAfter self.old question.now before.now }
+        requires unfinished { self.old.finished ≡ false }
+        requires fits { fits question.now response.now self.old.behaviour ≡ true }
+        requires few { length before.now < 2 ^ 32 - 1 }
+        ensures after { IsAfter self.new question.now (before.now ++ Step.Submit response.now ∷ []) }
+        ensures behaviour { self.new.behaviour ≡ self.old.behaviour }
+        ensures count { steps.new ≤ steps.old + 1 }
+    {
+        if !complete(question, response) {
+            self.outcome = waiting(self.outcome, State::Invalid);
+            self.last = Some(before.len());
+            return;
+        }
+        match self.behaviour {
+            Behaviour::Interactive => self.submit_interactive(question, before, response, steps),
+            _ => self.submit_adaptive(question, before, response, steps),
+        }
+    }
+
+    /// A complete Submit under the interactive behaviour.
+    fn submit_interactive<L: Ledger>(
+        &mut self,
+        question: &Question,
+        before: &[Step],
+        response: &Response,
+        steps: &mut Steps<L>,
+    )
+        requires interactive { self.old.behaviour ≡ Behaviour.Interactive }
+        requires question { IsQuestion question.now }
+        requires after { IsAfter self.old question.now before.now }
+        requires unfinished { self.old.finished ≡ false }
+        requires fits { fits question.now response.now self.old.behaviour ≡ true }
+        requires complete { complete question.now response.now ≡ true }
+        requires few { length before.now < 2 ^ 32 - 1 }
+        ensures after { IsAfter self.new question.now (before.now ++ Step.Submit response.now ∷ []) }
+        ensures behaviour { self.new.behaviour ≡ self.old.behaviour }
+        ensures count { steps.new ≤ steps.old + 1 }
+    {
+        self.outcome = interactive::after_try(self.outcome, question, response, steps);
+        self.last = Some(before.len());
+        self.handed_in = Some(before.len());
+    }
+
+    /// A complete Submit under an adaptive behaviour. It is a try where it differs from the last one.
+    fn submit_adaptive<L: Ledger>(
+        &mut self,
+        question: &Question,
+        before: &[Step],
+        response: &Response,
+        steps: &mut Steps<L>,
+    )
+        requires adaptive { is_adaptive self.old.behaviour ≡ true }
+        requires question { IsQuestion question.now }
+        requires after { IsAfter self.old question.now before.now }
+        requires unfinished { self.old.finished ≡ false }
+        requires fits { fits question.now response.now self.old.behaviour ≡ true }
+        requires complete { complete question.now response.now ≡ true }
+        requires few { length before.now < 2 ^ 32 - 1 }
+        ensures after { IsAfter self.new question.now (before.now ++ Step.Submit response.now ∷ []) }
+        ensures behaviour { self.new.behaviour ≡ self.old.behaviour }
+        ensures count { steps.new ≤ steps.old + 1 }
+    {
+        if is_new(submitted_at(before, self.handed_in), response) {
+            let grade = grade(question, response, steps);
+            let penalty = penalty_under(self.behaviour, question);
+            self.right |= is_right(grade);
+            self.outcome = adaptive::after_try(self.outcome, self.right, grade, penalty);
+        } else {
+            self.outcome = waiting(self.outcome, State::Todo);
+        }
+        self.last = Some(before.len());
+        self.handed_in = Some(before.len());
+    }
+
+    fn finish<L: Ledger>(&mut self, question: &Question, before: &[Step], steps: &mut Steps<L>)
+        requires question { IsQuestion question.now }
+        requires after { IsAfter self.old question.now before.now }
+        requires unfinished { self.old.finished ≡ false }
+        requires few { length before.now < 2 ^ 32 - 1 }
+        ensures after { IsAfter self.new question.now (before.now ++ Step.Finish ∷ []) }
+        ensures behaviour { self.new.behaviour ≡ self.old.behaviour }
+        ensures count { steps.new ≤ steps.old + 1 }
+    {
+        self.outcome = self.outcome_at_finish(question, before, steps);
+        self.finished = true;
+    }
+
+    fn outcome_at_finish<L: Ledger>(&self, question: &Question, before: &[Step], steps: &mut Steps<L>) -> Outcome
+        requires question { IsQuestion question.now }
+        requires after { IsAfter self.now question.now before.now }
+        requires unfinished { self.now.finished ≡ false }
+        requires few { length before.now < 2 ^ 32 - 1 }
+        ensures outcome { result ≡ behaviours.outcome self.now.behaviour question.now (before.now ++ Step.Finish ∷ []) }
+        ensures earned { IfSome result.fraction IsEarnedFraction }
+        ensures tries { result.tries ≤ self.now.outcome.tries + 1 }
+        ensures count { steps.new ≤ steps.old + 1 }
+    {
+        let last = gradable_at(question, before, self.last);
+        match self.behaviour {
+            Behaviour::Interactive => {
+                interactive::after_finish(self.outcome, question, last, steps)
+            }
+            behaviour => {
+                let handed_in = submitted_at(before, self.handed_in);
+                adaptive::after_finish(self.outcome, behaviour, question, last, handed_in, steps)
+            }
+        }
     }
 }

@@ -1,9 +1,5 @@
-use Rattle.std.proofs.Common.{◌≡◌, true, false, Some, None, pos, ℤ, ◌-ℤ◌, ◌*ℤ◌, ap, sym, ◌∙◌}
-use Rattle.std.specs.Int.{int_max}
+use Rattle.std.proofs.Common.{ap, sym, ◌∙◌}
 use Rattle.std.specs.Option.{option_copied}
-use Rattle.qz_grading.specs.declared.outcome.Outcome.{Outcome}
-use Rattle.qz_grading.specs.Behaviours.{graded}
-use Rattle.qz_tries.specs.After.{gradable_last}
 use Rattle.qz_tries.proofs.InteractiveSteps.{finish_after_end, finish_gives_up, finish_graded}
 use Rattle.qz_tries.proofs.interactive.after_finish.Goals as goal
 
@@ -17,8 +13,5 @@ returns-in_default-clause-outcome g c = λ s still is last_is.
 
 pub returns-clause-outcome : goal.returns-clause-outcome
 returns-clause-outcome g c = λ s still is last_is.
-    let q = c.args.question.now in
-    let n = c.args.so_far.tries in
-    c.ends_with.ensures.value
-    ∙ ap (λ (f : ℤ). let o : Outcome = record { state = graded f; fraction = Some (int_max (pos 0) (f -ℤ pos n *ℤ q.penalty)); ended = true; needs_again = false; tries = n } in o) c.grade-grade.ensures.value
-    ∙ finish_graded c.args.so_far q s c.in-Some.last.now still is c.if-so_far.false (ap option_copied (sym c.in-Some.is) ∙ last_is)
+    rw (c.ends_with.ensures.value, c.grade-grade.ensures.value)
+    (finish_graded c.args.so_far c.args.question.now s c.in-Some.last.now still is c.if-so_far.false (ap option_copied (sym c.in-Some.is) ∙ last_is))

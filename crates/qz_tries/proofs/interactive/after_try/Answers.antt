@@ -1,7 +1,5 @@
-use Rattle.std.proofs.Common.{◌≡◌, ◌+◌, ◌||◌, ◌==◌, true, false, Some, pos, ℤ, ◌-ℤ◌, ◌*ℤ◌, ap, sym, ◌∙◌}
-use Rattle.std.specs.Int.{int_max}
-use Rattle.qz_grading.specs.declared.outcome.Outcome.{Outcome}
-use Rattle.qz_grading.specs.Behaviours.{is_right, graded, tries_allowed}
+use Rattle.std.proofs.Common.{◌≡◌, ◌+◌, ◌||◌, ◌==◌, true, false, ℤ, ap, sym, ◌∙◌}
+use Rattle.qz_grading.specs.Behaviours.{is_right, tries_allowed}
 use Rattle.qz_tries.proofs.InteractiveSteps.{ends, try_after_end, try_that_ends, try_that_goes_on}
 use Rattle.qz_tries.proofs.interactive.after_try.Goals as goal
 
@@ -14,9 +12,7 @@ returns-then-ends_slot-clause-outcome g c = λ s still is.
     let q = c.args.question.now in
     let n = c.args.so_far.tries in
     let now : ends q (n + 1, c.args.response.now) ≡ true = ap (λ (f : ℤ). is_right f || (n + 1 == tries_allowed q)) (sym c.grade-grade.ensures.value) ∙ sym c.ends_slot.ensures ∙ c.if-ends_slot.true in
-    c.ends_with.ensures.value
-    ∙ ap (λ (f : ℤ). let o : Outcome = record { state = graded f; fraction = Some (int_max (pos 0) (f -ℤ pos n *ℤ q.penalty)); ended = true; needs_again = false; tries = n + 1 } in o) c.grade-grade.ensures.value
-    ∙ try_that_ends c.args.so_far q s c.args.response.now still is c.requires.complete c.if-so_far.false now
+    rw (c.ends_with.ensures.value, c.grade-grade.ensures.value) (try_that_ends c.args.so_far q s c.args.response.now still is c.requires.complete c.if-so_far.false now)
 
 pub returns-clause-outcome : goal.returns-clause-outcome
 returns-clause-outcome g c = λ s still is.
