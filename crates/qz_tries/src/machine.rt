@@ -1,14 +1,15 @@
 //! A machine that follows the steps of one slot.
 
-ghost use Rattle.std.specs.Prelude.{◌≡◌, ◌-◌, ◌+◌, ◌^◌, ◌<◌, ◌≤◌, ◌++◌, ◌∷◌, [], List, length, true, false, Some, None, Ok, IfSome, IfOk, IfErr, OnErr, IsTrue, if◌then◌else◌};
+ghost use Rattle.std.specs.Prelude.{◌≡◌, ◌-◌, ◌+◌, ◌^◌, ◌<◌, ◌≤◌, ◌++◌, ◌∷◌, [], List, length, true, false, Some, None, Ok, not, ◌&&◌, IfSome, IfOk, IfErr, OnErr, IsTrue, if◌then◌else◌};
 ghost use Rattle.qz_decimal.specs.Numbers.{IsEarnedFraction};
 ghost use Rattle.qz_grading.specs.declared.response.Response.{Response};
 ghost use Rattle.qz_grading.specs.Grading.{complete, fits};
 ghost use Rattle.qz_grading.specs.Questions.{IsQuestion};
-ghost use Rattle.qz_grading.specs.Behaviours.{barred, moved};
+ghost use Rattle.qz_grading.specs.Steps.{last, is_finish, is_mark};
+ghost use Rattle.qz_grading.specs.Behaviours.{barred, moved, is_wrong_action};
 ghost use Rattle.qz_grading.specs.Behaviours as behaviours;
 ghost use Rattle.qz_tries.specs.Progress.{is_adaptive, has_tries};
-ghost use Rattle.qz_tries.specs.After.{IsAfter, Starts, StepFits};
+ghost use Rattle.qz_tries.specs.After.{response_at, IsAfter, Starts, StepFits};
 
 use crate::adaptive::{is_new, penalty_under};
 use crate::fractions::is_right;
@@ -54,6 +55,17 @@ fn waiting(so_far: Outcome, state: State) -> Outcome
         state,
         needs_again: false,
         ..so_far
+    }
+}
+
+/// Whether the behaviour doesn't take the step: "again" is for interactive slots, after a complete Submit.
+fn is_wrong_action(behaviour: Behaviour, question: &Question, before: &[Step], step: &Step) -> bool
+    requires { IsTrue (has_tries behaviour) }
+    ensures { result ≡ is_wrong_action behaviour question.now before.now step.now }
+{
+    match step {
+        Step::Again => behaviour != Behaviour::Interactive || !ends_complete(question, before),
+        _ => false,
     }
 }
 
@@ -121,6 +133,87 @@ impl TryMachine {
             Step::Submit(response) => self.submit(question, before, response, steps),
             Step::Again | Step::Mark { .. } => self.outcome = waiting(self.outcome, State::Todo),
             Step::Finish => self.finish(question, before, steps),
+        }
+    }
+
+    /// Follows one more step, or refuses it and stays as it is: "again" anywhere but after a complete Submit of an interactive
+    /// slot (`WrongAction`), a step of a student after the end (`SlotEnded`, with the state), or a response where "try again" is
+    /// needed first (`NeedsTryAgain`), in this order.
+    ///
+    /// A response that is the same as the last one adds no step: it is answered `Same`, and the machine stays as it is. A Save
+    /// and a refused step count no step of grading, and any other at most two.
+    pub fn act<L: Ledger>(
+        &mut self,
+        question: &Question,
+        before: &[Step],
+        step: &Step,
+        steps: &mut Steps<L>,
+    ) -> Result<Moved, Refusal>
+        requires question { IsQuestion question.now }
+        requires after { IsAfter self.old question.now before.now }
+        requires fits { StepFits self.old.behaviour question.now step.now }
+        requires few { length before.now < 2 ^ 32 - 1 }
+        ensures refused { IfErr result (λ r. barred self.old.behaviour question.now before.now step.now ≡ Some r) }
+        ensures taken { IfOk result (λ m. (barred self.old.behaviour question.now before.now step.now ≡ None) × (m ≡ moved before.now step.now)) }
+        ensures after { result ≡ Ok Moved.Kept → IsAfter self.new question.now (before.now ++ step.now ∷ []) }
+        ensures unchanged { OnErr result (self.new ≡ self.old) }
+        ensures same { result ≡ Ok Moved.Same → self.new ≡ self.old }
+        ensures behaviour { self.new.behaviour ≡ self.old.behaviour }
+        ensures count { steps.new ≤ steps.old + 2 }
+        ensures refused_count { OnErr result (steps.new ≡ steps.old) }
+        ensures save_count { (r : Response) → step.now ≡ Step.Save r → steps.new ≡ steps.old }
+    {
+        if let Some(refusal) = self.barred(question, before, step) {
+            return Err(refusal);
+        }
+        if self.moved(before, step) == Moved::Same {
+            return Ok(Moved::Same);
+        }
+        self.feed(question, before, step, steps);
+        Ok(Moved::Kept)
+    }
+
+    /// The first cause for which a step is refused.
+    fn barred(&self, question: &Question, before: &[Step], step: &Step) -> Option<Refusal>
+        requires { IsAfter self.now question.now before.now }
+        ensures { result ≡ barred self.now.behaviour question.now before.now step.now }
+    {
+        if is_wrong_action(self.behaviour, question, before, step) {
+            return Some(Refusal::WrongAction {
+                behaviour: self.behaviour,
+            });
+        }
+        if self.comes_late(step) {
+            return Some(Refusal::SlotEnded {
+                state: self.outcome.state,
+            });
+        }
+        if self.outcome.needs_again && matches!(step, Step::Save(_) | Step::Submit(_)) {
+            return Some(Refusal::NeedsTryAgain);
+        }
+        None
+    }
+
+    /// Whether a step comes after the end. A Finish still comes after a try that ended the slot, and a Mark always.
+    fn comes_late(&self, step: &Step) -> bool
+        ensures { result ≡ (if is_finish step.now then self.now.finished else not (is_mark step.now) && self.now.outcome.ended) }
+    {
+        match step {
+            Step::Finish => self.finished,
+            Step::Mark { .. } => false,
+            _ => self.outcome.ended,
+        }
+    }
+
+    /// Whether a step adds something to those before it.
+    fn moved(&self, before: &[Step], step: &Step) -> Moved
+        requires { response_at before.now self.now.last ≡ last before.now }
+        ensures { result ≡ moved before.now step.now }
+    {
+        match step {
+            Step::Save(response) if is_same_at(before, self.last, response) => Moved::Same,
+            Step::Submit(response) if ends_with_submit_of(before, response) => Moved::Same,
+            _ => Moved::Kept,
         }
     }
 
