@@ -1,6 +1,6 @@
 -- A machine stands after one more step.
 use Rattle.std.proofs.Common.{◌≡◌, ℕ, ◌+◌, ◌<◌, ◌≤◌, Bool, true, false, cond, not, ◌&&◌, ◌||◌, List, [], ◌∷◌, ◌++◌, length, Option, Some, None, IfSome, pos, ◌-ℤ◌, ◌*ℤ◌, refl, ap, sym, ◌∙◌, subst, arith, append-nil, length-append}
-use Rattle.std.specs.Prelude.{find, unwrap_or, option_and_then, slice_get, is_some, if◌then◌else◌, IsTrue}
+use Rattle.std.specs.Prelude.{find, unwrap_or, option_and_then, slice_get, is_some, if◌then◌else◌}
 use Rattle.std.specs.Int.{int_max}
 use Rattle.qz_decimal.specs.Numbers.{IsEarnedFraction}
 use Rattle.qz_grading.specs.declared.outcome.Behaviour.{Behaviour}
@@ -28,7 +28,7 @@ right-same : (b : Behaviour) (q : Question) (s t : List Step) → handed_in b q 
 right-same behaviour.Interactive q s t e = refl
 right-same b q s t e = ap (λ (rs : List Response). is_some (find (λ r. is_right (grade q r)) (changed rs))) e
 
-outcome-closed : (b : Behaviour) (q : Question) (s : List Step) (x : Step) → IsTrue (has_tries b) → has_finish s ≡ true → outcome b q (s ++ x ∷ []) ≡ outcome b q s
+outcome-closed : (b : Behaviour) (q : Question) (s : List Step) (x : Step) → has_tries b ≡ true → has_finish s ≡ true → outcome b q (s ++ x ∷ []) ≡ outcome b q s
 outcome-closed behaviour.Interactive q s x plays closed = interactive.outcome-closed q s x closed
 outcome-closed behaviour.Adaptive q s x plays closed = adaptive.outcome-closed behaviour.Adaptive q s x refl closed
 outcome-closed behaviour.AdaptiveNoPenalty q s x plays closed = adaptive.outcome-closed behaviour.AdaptiveNoPenalty q s x refl closed
@@ -58,7 +58,7 @@ waits-adaptive b q s x incomplete plays still other same is =
     adaptive.waits b q s x incomplete plays still other (ap changed same) is
     ∙ waited-open (outcome b q s) incomplete (adaptive-open b q s plays still) (adaptive-no_need b q s plays)
 
-waits : (b : Behaviour) (q : Question) (s : List Step) (x : Step) (incomplete : Bool) → IsTrue (has_tries b) → has_finish s ≡ false → is_finish x ≡ false
+waits : (b : Behaviour) (q : Question) (s : List Step) (x : Step) (incomplete : Bool) → has_tries b ≡ true → has_finish s ≡ false → is_finish x ≡ false
     → handed_in b q (s ++ x ∷ []) ≡ handed_in b q s → ends_complete b q (s ++ x ∷ []) ≡ false → ends_incomplete b q (s ++ x ∷ []) ≡ incomplete
     → outcome b q (s ++ x ∷ []) ≡ waited (outcome b q s) incomplete
 waits behaviour.Interactive q s x incomplete plays still other same part is = interactive.waits q s x incomplete still other same part is
@@ -107,7 +107,7 @@ waited-tries-by o incomplete true is = rw is refl
 waited-tries-by o incomplete false is = rw is refl
 
 -- under these behaviours nothing is asked of certainty
-pub complete-under : (b : Behaviour) (q : Question) (r : Response) (v : Bool) → IsTrue (has_tries b) → complete q r ≡ v → complete_under b q r ≡ v
+pub complete-under : (b : Behaviour) (q : Question) (r : Response) (v : Bool) → has_tries b ≡ true → complete q r ≡ v → complete_under b q r ≡ v
 complete-under behaviour.Interactive q r v plays is = and-true (complete q r) ∙ is
 complete-under behaviour.Adaptive q r v plays is = and-true (complete q r) ∙ is
 complete-under behaviour.AdaptiveNoPenalty q r v plays is = and-true (complete q r) ∙ is
@@ -193,18 +193,18 @@ pub finishes : (m : Progress) (q : Question) (s : List Step) (o : Outcome) → I
     → o ≡ outcome m.behaviour q (s ++ step.Finish ∷ []) → IfSome o.fraction IsEarnedFraction → o.tries ≤ m.outcome.tries + 1
     → IsAfter (record m { outcome = o; finished = true }) q (s ++ step.Finish ∷ [])
 finishes m q s o after open_yet is earned' few' = record {
-    plays = after.plays;
-    finished = sym (has_finish-finished s);
-    fits = rw (last-finished s) after.fits;
-    outcome = is;
-    last = ap (λ (p : Option Step). unwrap_or (option_and_then response_of p) blank) (step_at-kept m.last s step.Finish after.inside) ∙ after.last ∙ sym (last-finished s);
-    inside = inside-more m.last s step.Finish after.inside;
-    handed_in = ap (option_and_then submitted) (step_at-kept m.handed_in s step.Finish after.handed_in_inside) ∙ after.handed_in ∙ ap last_of (sym (handed_in-finished m.behaviour q s));
-    handed_in_inside = inside-more m.handed_in s step.Finish after.handed_in_inside;
-    right = after.right ∙ sym (right-same m.behaviour q (s ++ step.Finish ∷ []) s (handed_in-finished m.behaviour q s));
-    earned = earned';
-    few = omega (arith, after.few, few', length-append s (step.Finish ∷ []));
-  }
+  plays = after.plays;
+  finished = sym (has_finish-finished s);
+  fits = rw (last-finished s) after.fits;
+  outcome = is;
+  last = ap (λ (p : Option Step). unwrap_or (option_and_then response_of p) blank) (step_at-kept m.last s step.Finish after.inside) ∙ after.last ∙ sym (last-finished s);
+  inside = inside-more m.last s step.Finish after.inside;
+  handed_in = ap (option_and_then submitted) (step_at-kept m.handed_in s step.Finish after.handed_in_inside) ∙ after.handed_in ∙ ap last_of (sym (handed_in-finished m.behaviour q s));
+  handed_in_inside = inside-more m.handed_in s step.Finish after.handed_in_inside;
+  right = after.right ∙ sym (right-same m.behaviour q (s ++ step.Finish ∷ []) s (handed_in-finished m.behaviour q s));
+  earned = earned';
+  few = omega (arith, after.few, few', length-append s (step.Finish ∷ []));
+}
 
 -- ---- whether some try was right
 
@@ -230,13 +230,13 @@ right-again b q s r plays still whole again =
     right-adaptive b q s plays ∙ ap (λ (ts : List Response). is_some (find (λ t. is_right (grade q t)) ts)) (sym same) ∙ sym (right-adaptive b q (s ++ step.Submit r ∷ []) plays)
 
 -- an interactive slot aside, the others are adaptive
-pub adaptive-else : (b : Behaviour) → IsTrue (has_tries b) → (b ≡ behaviour.Interactive → ⊥) → is_adaptive b ≡ true
+pub adaptive-else : (b : Behaviour) → has_tries b ≡ true → (b ≡ behaviour.Interactive → ⊥) → is_adaptive b ≡ true
 adaptive-else behaviour.Interactive plays other = absurd (other refl)
 adaptive-else behaviour.Adaptive plays other = refl
 adaptive-else behaviour.AdaptiveNoPenalty plays other = refl
 adaptive-else b plays other = absurd cc
 
-pub plays-adaptive : (b : Behaviour) → is_adaptive b ≡ true → IsTrue (has_tries b)
+pub plays-adaptive : (b : Behaviour) → is_adaptive b ≡ true → has_tries b ≡ true
 plays-adaptive behaviour.Adaptive plays = refl
 plays-adaptive behaviour.AdaptiveNoPenalty plays = refl
 plays-adaptive b plays = absurd cc
@@ -284,7 +284,7 @@ repeats_adaptive m q s r o after open_yet plays fitting whole again is =
     let same : is_new (last_of (handed_in m.behaviour q s)) r ≡ false = ap (λ (t : Option Response). is_new t r) (sym after.handed_in) ∙ again in
     hands_in m q s r (length s) o m.right after open_yet fitting whole refl
     (is ∙ ap (λ (p : Outcome). waited p false) after.outcome
-     ∙ sym (adaptive.repeats m.behaviour q s r plays still under same ∙ waited-open (outcome m.behaviour q s) false (adaptive-open m.behaviour q s plays still) (adaptive-no_need m.behaviour q s plays)))
+    ∙ sym (adaptive.repeats m.behaviour q s r plays still under same ∙ waited-open (outcome m.behaviour q s) false (adaptive-open m.behaviour q s plays still) (adaptive-no_need m.behaviour q s plays)))
     (rw (is, waited-fraction-by m.outcome false m.outcome.ended refl) after.earned)
     (let kept : o.tries ≡ m.outcome.tries = ap (λ (p : Outcome). p.tries) is ∙ waited-tries-by m.outcome false m.outcome.ended refl in omega (arith, kept))
     (after.right ∙ right-again m.behaviour q s r plays still under same)

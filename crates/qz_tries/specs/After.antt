@@ -1,5 +1,5 @@
 -- A machine of tries stands where a list of steps leads.
-use Rattle.std.specs.Prelude.{Some, None, not, option_map, if◌then◌else◌, ◌≡◌, ℕ, ◌<◌, ◌≤◌, Bool, true, false, List, [], length, Option, IfSome, is_some, find, unwrap_or, option_and_then, slice_get, IsTrue}
+use Rattle.std.specs.Prelude.{Some, None, not, option_map, if◌then◌else◌, ◌≡◌, ℕ, ◌<◌, ◌≤◌, Bool, true, false, List, [], length, Option, IfSome, is_some, find, unwrap_or, option_and_then, slice_get}
 use Rattle.qz_decimal.specs.Numbers.{IsEarnedFraction}
 use Rattle.qz_grading.specs.declared.outcome.Behaviour.{Behaviour}
 use Rattle.qz_grading.specs.declared.outcome.Behaviour.TheVariants.{Interactive}
@@ -41,7 +41,7 @@ has_right_try Interactive q s = false
 has_right_try b q s = is_some (find (λ r. is_right (grade q r)) (submitted_tries b q s))
 
 pub record IsAfter (m : Progress) (q : Question) (s : List Step) : Type 0 where
-  pub plays : IsTrue (has_tries m.behaviour)
+  pub plays : has_tries m.behaviour ≡ true
   pub outcome : m.outcome ≡ outcome m.behaviour q s
   pub finished : m.finished ≡ has_finish s
   pub fits : gradable q (last s) ≡ true → fits q (last s) m.behaviour ≡ true
@@ -58,8 +58,10 @@ pub record Starts (m : Progress) (b : Behaviour) : Type 0 where
   pub behaviour : m.behaviour ≡ b
   pub after : (q : Question) → IsAfter m q []
 
--- the response of a step, if any, fits the question
+-- the response of a step, if it has one, fits the question
 abbrev pub StepFits : Behaviour → Question → Step → Type 0
-StepFits b q (step.Save r) = fits q r b ≡ true
-StepFits b q (step.Submit r) = fits q r b ≡ true
-StepFits b q x = Unit {0}
+StepFits b q x = IfSome (response_of x) (λ r. fits q r b ≡ true)
+
+abbrev pub is_save : Step → Bool
+is_save (step.Save r) = true
+is_save x = false

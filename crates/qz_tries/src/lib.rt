@@ -8,3 +8,6 @@ mod machine;
 mod places;
 
 pub use machine::TryMachine;
+
+#[cfg(test)]
+mod tests;

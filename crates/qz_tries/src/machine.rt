@@ -2,20 +2,21 @@
 
 ghost use Rattle.std.specs.Prelude.{◌≡◌, ◌-◌, ◌+◌, ◌^◌, ◌<◌, ◌≤◌, ◌++◌, ◌∷◌, [], List, length, true, false, Some, None, Ok, not, ◌&&◌, IfSome, IfOk, IfErr, OnErr, IsTrue, if◌then◌else◌};
 ghost use Rattle.qz_decimal.specs.Numbers.{IsEarnedFraction};
-ghost use Rattle.qz_grading.specs.declared.response.Response.{Response};
 ghost use Rattle.qz_grading.specs.Grading.{complete, fits};
 ghost use Rattle.qz_grading.specs.Questions.{IsQuestion};
 ghost use Rattle.qz_grading.specs.Steps.{last, is_finish, is_mark};
 ghost use Rattle.qz_grading.specs.Behaviours.{barred, moved, is_wrong_action};
 ghost use Rattle.qz_grading.specs.Behaviours as behaviours;
 ghost use Rattle.qz_tries.specs.Progress.{is_adaptive, has_tries};
-ghost use Rattle.qz_tries.specs.After.{response_at, IsAfter, Starts, StepFits};
+ghost use Rattle.qz_tries.specs.After.{is_save, response_at, IsAfter, Starts, StepFits};
 
 use crate::adaptive::{is_new, penalty_under};
 use crate::fractions::is_right;
 use crate::places::{ends_complete, ends_with_submit_of, gradable_at, is_same_at, submitted_at};
 use crate::{adaptive, interactive};
-use qz_grading::{Behaviour, Moved, Outcome, Question, Refusal, Response, State, Step, Steps, complete, grade};
+use qz_grading::{
+    Behaviour, Moved, Outcome, Question, Refusal, Response, State, Step, Steps, complete, grade,
+};
 use std::marker::Model;
 use std::sync::ledger::Ledger;
 
@@ -60,7 +61,7 @@ fn waiting(so_far: Outcome, state: State) -> Outcome
 
 /// Whether the behaviour doesn't take the step: "again" is for interactive slots, after a complete Submit.
 fn is_wrong_action(behaviour: Behaviour, question: &Question, before: &[Step], step: &Step) -> bool
-    requires { IsTrue (has_tries behaviour) }
+    requires { has_tries behaviour ≡ true }
     ensures { result ≡ is_wrong_action behaviour question.now before.now step.now }
 {
     match step {
@@ -72,7 +73,7 @@ fn is_wrong_action(behaviour: Behaviour, question: &Question, before: &[Step], s
 impl TryMachine {
     /// Before the first step.
     pub fn start(behaviour: Behaviour) -> TryMachine
-        requires { IsTrue (has_tries behaviour) }
+        requires { has_tries behaviour ≡ true }
         ensures { Starts result behaviour }
     {
         TryMachine {
@@ -121,9 +122,9 @@ impl TryMachine {
         requires fits { StepFits self.old.behaviour question.now step.now }
         requires few { length before.now < 2 ^ 32 - 1 }
         ensures after { IsAfter self.new question.now (before.now ++ step.now ∷ []) }
-        ensures behaviour { self.new.behaviour ≡ self.old.behaviour }
+        ensures same_behaviour { self.new.behaviour ≡ self.old.behaviour }
         ensures count { steps.new ≤ steps.old + 1 }
-        ensures save_count { (r : Response) → step.now ≡ Step.Save r → steps.new ≡ steps.old }
+        ensures save { is_save step.now ≡ true → steps.new ≡ steps.old }
     {
         if self.finished {
             return;
@@ -141,7 +142,7 @@ impl TryMachine {
     /// needed first (`NeedsTryAgain`), in this order.
     ///
     /// A response that is the same as the last one adds no step: it is answered `Same`, and the machine stays as it is. A Save
-    /// and a refused step count no step of grading, and any other at most two.
+    /// and a refused step count no step of grading, and any other at most one.
     pub fn act<L: Ledger>(
         &mut self,
         question: &Question,
@@ -158,10 +159,10 @@ impl TryMachine {
         ensures after { result ≡ Ok Moved.Kept → IsAfter self.new question.now (before.now ++ step.now ∷ []) }
         ensures unchanged { OnErr result (self.new ≡ self.old) }
         ensures same { result ≡ Ok Moved.Same → self.new ≡ self.old }
-        ensures behaviour { self.new.behaviour ≡ self.old.behaviour }
-        ensures count { steps.new ≤ steps.old + 2 }
+        ensures same_behaviour { self.new.behaviour ≡ self.old.behaviour }
+        ensures count { steps.new ≤ steps.old + 1 }
         ensures refused_count { OnErr result (steps.new ≡ steps.old) }
-        ensures save_count { (r : Response) → step.now ≡ Step.Save r → steps.new ≡ steps.old }
+        ensures save { is_save step.now ≡ true → steps.new ≡ steps.old }
     {
         if let Some(refusal) = self.barred(question, before, step) {
             return Err(refusal);
@@ -238,7 +239,7 @@ impl TryMachine {
         requires fits { fits question.now response.now self.old.behaviour ≡ true }
         requires few { length before.now < 2 ^ 32 - 1 }
         ensures after { IsAfter self.new question.now (before.now ++ Step.Submit response.now ∷ []) }
-        ensures behaviour { self.new.behaviour ≡ self.old.behaviour }
+        ensures same_behaviour { self.new.behaviour ≡ self.old.behaviour }
         ensures count { steps.new ≤ steps.old + 1 }
     {
         if !complete(question, response) {
@@ -268,7 +269,7 @@ impl TryMachine {
         requires complete { complete question.now response.now ≡ true }
         requires few { length before.now < 2 ^ 32 - 1 }
         ensures after { IsAfter self.new question.now (before.now ++ Step.Submit response.now ∷ []) }
-        ensures behaviour { self.new.behaviour ≡ self.old.behaviour }
+        ensures same_behaviour { self.new.behaviour ≡ self.old.behaviour }
         ensures count { steps.new ≤ steps.old + 1 }
     {
         self.outcome = interactive::after_try(self.outcome, question, response, steps);
@@ -292,7 +293,7 @@ impl TryMachine {
         requires complete { complete question.now response.now ≡ true }
         requires few { length before.now < 2 ^ 32 - 1 }
         ensures after { IsAfter self.new question.now (before.now ++ Step.Submit response.now ∷ []) }
-        ensures behaviour { self.new.behaviour ≡ self.old.behaviour }
+        ensures same_behaviour { self.new.behaviour ≡ self.old.behaviour }
         ensures count { steps.new ≤ steps.old + 1 }
     {
         if is_new(submitted_at(before, self.handed_in), response) {
@@ -313,14 +314,19 @@ impl TryMachine {
         requires unfinished { self.old.finished ≡ false }
         requires few { length before.now < 2 ^ 32 - 1 }
         ensures after { IsAfter self.new question.now (before.now ++ Step.Finish ∷ []) }
-        ensures behaviour { self.new.behaviour ≡ self.old.behaviour }
+        ensures same_behaviour { self.new.behaviour ≡ self.old.behaviour }
         ensures count { steps.new ≤ steps.old + 1 }
     {
         self.outcome = self.outcome_at_finish(question, before, steps);
         self.finished = true;
     }
 
-    fn outcome_at_finish<L: Ledger>(&self, question: &Question, before: &[Step], steps: &mut Steps<L>) -> Outcome
+    fn outcome_at_finish<L: Ledger>(
+        &self,
+        question: &Question,
+        before: &[Step],
+        steps: &mut Steps<L>,
+    ) -> Outcome
         requires question { IsQuestion question.now }
         requires after { IsAfter self.now question.now before.now }
         requires unfinished { self.now.finished ≡ false }

@@ -29,6 +29,6 @@ returns-in-Again-clause-after g c =
     let s = c.args.before.now in
     let after = steps.seen_after q s c.self.view_is c.requires.after in
     elim c.in-Again.is [
-        inl again ↦ rw again (steps.passes _ q s step.Again c.waiting-self-inside.result after c.if-self.false refl refl refl c.waiting-self-inside.ensures)
+      | inl again ↦ rw again (steps.passes _ q s step.Again c.waiting-self-inside.result after c.if-self.false refl refl refl c.waiting-self-inside.ensures)
       | inr mark ↦ rw mark.2 (steps.passes _ q s (step.Mark mark.0 mark.1) c.waiting-self-inside.result after c.if-self.false refl refl refl c.waiting-self-inside.ensures)
     ]

@@ -26,7 +26,7 @@ returns-clause-after g c =
     let fitting = steps.seen_fits q r view c.requires.fits in
     let newness : is_new (submitted_at s c.self.inside.handed_in) r ≡ c.is_new.result = ap (λ (o : Option Response). is_new o r) (sym c.submitted_at.ensures) ∙ sym c.is_new.ensures in
     elim c.if-is_new.branch [
-        then-is_new w ↦ rw w.self-inside-is (steps.tries_adaptive _ q s r w.after_try-self-inside.result _ after open_yet plays fitting c.requires.complete (newness ∙ w.if-is_new.true)
+      | then-is_new w ↦ rw w.self-inside-is (steps.tries_adaptive _ q s r w.after_try-self-inside.result _ after open_yet plays fitting c.requires.complete (newness ∙ w.if-is_new.true)
           (ap (λ (v : Bool). c.self.inside.right || v) (w.is_right.ensures ∙ ap is_right w.grade-grade.ensures.value))
           (rw (w.after_try-self-inside.ensures.value, w.penalty_under-penalty.ensures, w.grade-grade.ensures.value) refl)
           (w.after_try-self-inside.ensures.earned after.earned))
