@@ -24,7 +24,7 @@ use Rattle.qz_grading.specs.Steps.{is_finish, has_finish, before, last, last_of,
 use Rattle.qz_grading.specs.Behaviours.{complete_under, handed_in, ends_complete, ends_incomplete, is_right, graded, changed, changed_after, further, submitted_tries, adaptive_tries, best_try, penalty_under, without_last, adaptive_state, adaptive, outcome}
 use Rattle.qz_grading.proofs.StepLemmas.{last_of-push, has_finish-push, has_finish-finished, before-open, before-finished, last-finished}
 use Rattle.qz_tries.specs.Progress.{is_adaptive}
-use Rattle.qz_tries.specs.After.{is_new, gradable_last}
+use Rattle.qz_tries.specs.Parts.{is_new, gradable_last}
 use Rattle.qz_tries.proofs.MoreSteps.{gradable_last-none, gradable_last-some, has_finish-closed, before-closed, last-closed, handed_in-closed, handed_in-finished, handed_in-complete, ends_in_submit-push, without_last-push, enumerate_from-append, and-false, and-true}
 
 -- ---- responses that are the same are equal

@@ -13,10 +13,11 @@ use Rattle.qz_grading.specs.declared.response.Step.{Step}
 use Rattle.qz_grading.specs.declared.response.Step.TheVariants as step
 use Rattle.qz_grading.specs.Grading.{blank, fits, complete, gradable, grade}
 use Rattle.qz_grading.specs.Steps.{is_finish, has_finish, before, last, last_of, response_of, submitted}
-use Rattle.qz_grading.specs.Behaviours.{complete_under, handed_in, ends_complete, ends_incomplete, is_right, changed, submitted_tries, penalty_under, outcome}
+use Rattle.qz_grading.specs.Behaviours.{ending_try, complete_under, handed_in, ends_complete, ends_incomplete, is_right, changed, submitted_tries, penalty_under, outcome}
 use Rattle.qz_grading.proofs.StepLemmas.{last_of-push, has_finish-push, has_finish-finished, last-finished}
 use Rattle.qz_tries.specs.Progress.{Progress, is_adaptive, has_tries}
-use Rattle.qz_tries.specs.After.{step_at, response_at, submitted_at, has_right_try, is_new, gradable_last, IsAfter}
+use Rattle.qz_tries.specs.After.{step_at, response_at, submitted_at, has_right_try, IsAfter}
+use Rattle.qz_tries.specs.Parts.{is_new, gradable_last}
 use Rattle.qz_tries.proofs.MoreSteps.{gradable_last-some, has_finish-closed, last-closed, last-response, last-other, handed_in-closed, handed_in-finished, handed_in-complete, handed_in-other, handed_in-incomplete, ends_in_submit-push, slice_get-push, inside-more, step_at-kept, and-true}
 use Rattle.qz_tries.proofs.InteractiveSteps as interactive
 use Rattle.qz_tries.proofs.AdaptiveSteps as adaptive
@@ -61,7 +62,7 @@ waits-adaptive b q s x incomplete plays still other same is =
 waits : (b : Behaviour) (q : Question) (s : List Step) (x : Step) (incomplete : Bool) → has_tries b ≡ true → has_finish s ≡ false → is_finish x ≡ false
     → handed_in b q (s ++ x ∷ []) ≡ handed_in b q s → ends_complete b q (s ++ x ∷ []) ≡ false → ends_incomplete b q (s ++ x ∷ []) ≡ incomplete
     → outcome b q (s ++ x ∷ []) ≡ waited (outcome b q s) incomplete
-waits behaviour.Interactive q s x incomplete plays still other same part is = interactive.waits q s x incomplete still other same part is
+waits behaviour.Interactive q s x incomplete plays still other same part is = interactive.waits q s x incomplete (ending_try behaviour.Interactive q s) refl still other same part is
 waits behaviour.Adaptive q s x incomplete plays still other same part is = waits-adaptive behaviour.Adaptive q s x incomplete refl still other same is
 waits behaviour.AdaptiveNoPenalty q s x incomplete plays still other same part is = waits-adaptive behaviour.AdaptiveNoPenalty q s x incomplete refl still other same is
 waits b q s x incomplete plays still other same part is = absurd cc

@@ -13,7 +13,7 @@ use Rattle.qz_grading.specs.declared.response.Step.TheVariants as step
 use Rattle.qz_grading.specs.Grading.{blank, gradable}
 use Rattle.qz_grading.specs.Steps.{is_finish, has_finish, before, last, last_of, response_of, submitted}
 use Rattle.qz_grading.specs.Behaviours.{complete_under, handed_in, ends_in_submit, without_last}
-use Rattle.qz_tries.specs.After.{gradable_last}
+use Rattle.qz_tries.specs.Parts.{gradable_last}
 use Rattle.qz_grading.proofs.StepLemmas.{last_of-push, has_finish-push, before-open, before-finished}
 
 -- ---- after a Finish nothing counts

@@ -1,5 +1,5 @@
 -- A machine of tries stands where a list of steps leads.
-use Rattle.std.specs.Prelude.{Some, None, not, option_map, if◌then◌else◌, ◌≡◌, ℕ, ◌<◌, ◌≤◌, Bool, true, false, List, [], length, Option, IfSome, is_some, find, unwrap_or, option_and_then, slice_get}
+use Rattle.std.specs.Prelude.{◌≡◌, ℕ, ◌<◌, ◌≤◌, Bool, true, false, List, [], length, Option, IfSome, is_some, find, unwrap_or, option_and_then, slice_get}
 use Rattle.qz_decimal.specs.Numbers.{IsEarnedFraction}
 use Rattle.qz_grading.specs.declared.outcome.Behaviour.{Behaviour}
 use Rattle.qz_grading.specs.declared.outcome.Behaviour.TheVariants.{Interactive}
@@ -7,7 +7,7 @@ use Rattle.qz_grading.specs.declared.question.Question.{Question}
 use Rattle.qz_grading.specs.declared.response.Response.{Response}
 use Rattle.qz_grading.specs.declared.response.Step.{Step}
 use Rattle.qz_grading.specs.declared.response.Step.TheVariants as step
-use Rattle.qz_grading.specs.Grading.{same, blank, fits, gradable, grade}
+use Rattle.qz_grading.specs.Grading.{blank, fits, gradable, grade}
 use Rattle.qz_grading.specs.Steps.{has_finish, last, last_of, response_of, submitted}
 use Rattle.qz_grading.specs.Behaviours.{outcome, handed_in, submitted_tries, is_right}
 use Rattle.qz_tries.specs.Progress.{Progress, has_tries}
@@ -23,17 +23,6 @@ response_at s place = unwrap_or (option_and_then response_of (step_at s place)) 
 -- the response that was submitted at a place
 abbrev pub submitted_at : List Step → Option ℕ → Option Response
 submitted_at s place = option_and_then submitted (step_at s place)
-
--- a response, where it can be graded
-abbrev pub if_gradable : Question → Response → Option Response
-if_gradable q r = if gradable q r then Some r else None
-
-abbrev pub gradable_last : Question → List Step → Option Response
-gradable_last q s = if_gradable q (last s)
-
--- a response that isn't the same as the one before, if any
-abbrev pub is_new : Option Response → Response → Bool
-is_new r x = not (unwrap_or (option_map (λ (t : Response). same t x) r) false)
 
 -- some try was right, under the adaptive behaviours
 abbrev pub has_right_try : Behaviour → Question → List Step → Bool

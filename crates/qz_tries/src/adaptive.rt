@@ -16,7 +16,7 @@ ghost use Rattle.qz_grading.specs.Steps.{has_finish, last_of};
 ghost use Rattle.qz_grading.specs.Behaviours.{outcome, penalty_under};
 ghost use Rattle.qz_grading.specs.Behaviours as behaviours;
 ghost use Rattle.qz_tries.specs.Progress.{is_adaptive};
-ghost use Rattle.qz_tries.specs.After.{is_new, gradable_last};
+ghost use Rattle.qz_tries.specs.Parts.{is_new, gradable_last};
 
 use crate::fractions::{graded, reduced};
 use qz_decimal::Fraction;
@@ -43,12 +43,24 @@ pub(crate) fn is_new(before: Option<&Response>, response: &Response) -> bool
     }
 }
 
-/// The greatest of 0 and what the tries so far counted.
-fn best(so_far: Option<Fraction>) -> Fraction
-    ensures value { result ≡ unwrap_or so_far (pos 0) }
-    ensures earned { IfSome so_far IsEarnedFraction → IsEarnedFraction result }
+/// The best of the tries so far: the greatest of 0 and what each counted.
+fn best(so_far: Outcome) -> Fraction
+    ensures value { result ≡ unwrap_or so_far.fraction (pos 0) }
+    ensures earned { IfSome so_far.fraction IsEarnedFraction → IsEarnedFraction result }
 {
-    so_far.unwrap_or(Fraction(0))
+    so_far.fraction.unwrap_or(Fraction(0))
+}
+
+/// The best of the tries so far and one more with this grade.
+fn best_with(so_far: Outcome, grade: Fraction, penalty: Fraction) -> Fraction
+    requires grade { IsWithin (neg_ℤ (pos one)) (pos one) grade }
+    requires penalty { IsWrittenFraction penalty }
+    ensures value { result ≡ int_max (unwrap_or so_far.fraction (pos 0)) (grade -ℤ pos so_far.tries *ℤ penalty) }
+    ensures earned { IfSome so_far.fraction IsEarnedFraction → IsEarnedFraction result }
+{
+    let counts = reduced(grade, so_far.tries, penalty);
+    let best = best(so_far);
+    Fraction(best.0.max(counts.0))
 }
 
 /// The outcome after one more try with this grade. `right` tells whether it or one before it was right.
@@ -59,28 +71,26 @@ pub(crate) fn after_try(so_far: Outcome, right: bool, grade: Fraction, penalty: 
     ensures value { result ≡ record { state = if right then State.Complete else State.Todo; fraction = Some (int_max (unwrap_or so_far.fraction (pos 0)) (grade -ℤ pos so_far.tries *ℤ penalty)); ended = false; needs_again = false; tries = so_far.tries + 1 } }
     ensures earned { IfSome so_far.fraction IsEarnedFraction → IfSome result.fraction IsEarnedFraction }
 {
-    let counts = reduced(grade, so_far.tries, penalty);
+    let tries = so_far.tries + 1;
     Outcome {
         state: if right { State::Complete } else { State::Todo },
-        fraction: Some(Fraction(best(so_far.fraction).0.max(counts.0))),
+        fraction: Some(best_with(so_far, grade, penalty)),
         ended: false,
         needs_again: false,
-        tries: so_far.tries + 1,
+        tries,
     }
 }
 
-/// The outcome of a slot that has ended, where the best try stays.
-fn ended(so_far: Outcome, state: State) -> Outcome
-    ensures value { result ≡ record { state = state; fraction = Some (unwrap_or so_far.fraction (pos 0)); ended = true; needs_again = false; tries = so_far.tries } }
-    ensures earned { IfSome so_far.fraction IsEarnedFraction → IfSome result.fraction IsEarnedFraction }
+/// The outcome of a slot that has ended, where the best try counts.
+fn ended(state: State, best: Fraction, tries: u32) -> Outcome
+    ensures { result ≡ record { state = state; fraction = Some best; ended = true; needs_again = false; tries = tries } }
 {
-    let best = best(so_far.fraction);
     Outcome {
         state,
         fraction: Some(best),
         ended: true,
         needs_again: false,
-        tries: so_far.tries,
+        tries,
     }
 }
 
@@ -105,14 +115,14 @@ pub(crate) fn after_finish<L: Ledger>(
     ensures tries { result.tries ≤ so_far.tries + 1 }
     ensures count { steps.new ≤ steps.old + 1 }
 {
+    let tries = so_far.tries;
     let Some(last) = last else {
-        return ended(so_far, State::GaveUp);
+        return ended(State::GaveUp, best(so_far), tries);
     };
     let grade = grade(question, last, steps);
-    if is_new(handed_in, last) {
-        let penalty = penalty_under(behaviour, question);
-        let with_last = after_try(so_far, false, grade, penalty);
-        return ended(with_last, graded(grade));
+    if !is_new(handed_in, last) {
+        return ended(graded(grade), best(so_far), tries);
     }
-    ended(so_far, graded(grade))
+    let penalty = penalty_under(behaviour, question);
+    ended(graded(grade), best_with(so_far, grade, penalty), tries + 1)
 }

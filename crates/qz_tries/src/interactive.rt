@@ -14,7 +14,7 @@ ghost use Rattle.qz_grading.specs.Grading.{complete, fits};
 ghost use Rattle.qz_grading.specs.Questions.{IsQuestion};
 ghost use Rattle.qz_grading.specs.Steps.{has_finish};
 ghost use Rattle.qz_grading.specs.Behaviours.{outcome, is_right, graded, tries_allowed};
-ghost use Rattle.qz_tries.specs.After.{gradable_last};
+ghost use Rattle.qz_tries.specs.Parts.{gradable_last};
 
 use crate::fractions::{graded, is_right, reduced};
 use qz_decimal::Fraction;

@@ -5,7 +5,8 @@ ghost use Rattle.std.specs.Option.{option_copied};
 ghost use Rattle.qz_grading.specs.Grading.{same, complete};
 ghost use Rattle.qz_grading.specs.Steps.{last_of, response_of, submitted};
 ghost use Rattle.qz_grading.specs.Behaviours.{ends_in_submit};
-ghost use Rattle.qz_tries.specs.After.{step_at, response_at, submitted_at, if_gradable};
+ghost use Rattle.qz_tries.specs.After.{step_at, response_at, submitted_at};
+ghost use Rattle.qz_tries.specs.Parts.{if_gradable};
 
 use qz_grading::{Answer, Question, Response, Step, complete, gradable, same};
 

@@ -9,7 +9,8 @@ use Rattle.qz_grading.specs.Grading.{fits}
 use Rattle.qz_grading.specs.Steps.{has_finish}
 use Rattle.qz_grading.specs.Behaviours.{outcome}
 use Rattle.qz_tries.specs.Progress.{Progress, is_adaptive}
-use Rattle.qz_tries.specs.After.{IsAfter, if_gradable, response_at}
+use Rattle.qz_tries.specs.After.{IsAfter}
+use Rattle.qz_tries.specs.Parts.{if_gradable}
 use Rattle.qz_tries.proofs.AfterSteps as steps
 use Rattle.qz_tries.proofs.machine.TryMachine.feed.Goals as goal
 

@@ -9,7 +9,8 @@ use Rattle.qz_grading.specs.Grading.{fits}
 use Rattle.qz_grading.specs.Steps.{has_finish}
 use Rattle.qz_grading.specs.Behaviours.{outcome, is_right}
 use Rattle.qz_tries.specs.Progress.{Progress, is_adaptive}
-use Rattle.qz_tries.specs.After.{IsAfter, is_new, submitted_at}
+use Rattle.qz_tries.specs.After.{submitted_at}
+use Rattle.qz_tries.specs.Parts.{is_new}
 use Rattle.qz_tries.proofs.AfterSteps as steps
 use Rattle.qz_tries.proofs.machine.TryMachine.submit_adaptive.Goals as goal
 use Rattle.qz_tries.proofs.machine.TryMachine.submit_adaptive.Goals.{then-is_new, else-is_new}
