@@ -1,0 +1,4 @@
+pub mod MoreSteps
+pub mod InteractiveSteps
+pub mod AdaptiveSteps
+pub mod AfterSteps

@@ -1,0 +1,13 @@
+//! Slots with more than one try: interactive with hints, and adaptive with and without penalties.
+#![tactic(auto)]
+
+mod adaptive;
+mod fractions;
+mod interactive;
+mod machine;
+mod places;
+
+pub use machine::TryMachine;
+
+#[cfg(test)]
+mod tests;
