@@ -106,3 +106,12 @@ six_of_five = refl
 pub it_is_graded : told is_marked 200 grade ≡ reply.Ok 4 (done.Grade (shown.Value (pos 800000)))
 unfolding is_blank chars
 it_is_graded = refl
+
+-- the same mark by the same key, and another
+pub marked_again : told is_marked 210 (mark (codes "m1") (pos 40000000)) ≡ reply.Ok 4 (done.Marked state.MangrPartial (shown.Value (pos 40000000)))
+unfolding is_blank chars
+marked_again = refl
+
+pub another_mark : told is_marked 210 (mark (codes "m1") (pos 30000000)) ≡ reply.Refused (refusal.KeyReused 4)
+unfolding is_blank chars
+another_mark = refl

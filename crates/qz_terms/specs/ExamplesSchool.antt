@@ -78,7 +78,7 @@ with_ann = then_has founded 100 make_ann
 abbrev with_bob : School
 with_bob = then_has with_ann 100 make_bob
 
-abbrev with_sky : School
+abbrev pub with_sky : School
 with_sky = then_has with_bob 100 import_sky
 
 abbrev with_quiz : School

@@ -25,3 +25,4 @@ pub mod ExamplesMarked
 pub mod ExamplesReview
 pub mod ExamplesBank
 pub mod ExamplesSchedule
+pub mod ExamplesKeys
