@@ -27,3 +27,4 @@ pub mod ExamplesReview
 pub mod ExamplesBank
 pub mod ExamplesSchedule
 pub mod ExamplesKeys
+pub mod ExamplesLegal
