@@ -8,6 +8,7 @@ use Rattle.qz_terms.specs.declared.grades.Method.TheVariants as method
 use Rattle.qz_terms.specs.declared.people.Role.TheVariants as role
 use Rattle.qz_terms.specs.declared.people.User.{User}
 use Rattle.qz_terms.specs.declared.plan.Bound.{Bound}
+use Rattle.qz_terms.specs.declared.plan.Job.{Job}
 use Rattle.qz_terms.specs.declared.plan.Plan.{Plan}
 use Rattle.qz_terms.specs.declared.record.Event.{Event}
 use Rattle.qz_terms.specs.declared.record.Event.TheVariants as event
@@ -18,8 +19,8 @@ use Rattle.qz_terms.specs.declared.record.Terms.{Terms}
 use Rattle.qz_terms.specs.declared.request.Request.TheVariants as request
 use Rattle.qz_terms.specs.Access.{default_settings}
 use Rattle.qz_terms.specs.Catalog as catalog
-use Rattle.qz_terms.specs.ExamplesSchool.{asked_with, first_attempt, school, true_false}
-use Rattle.qz_terms.specs.Legal.{IsAllowed}
+use Rattle.qz_terms.specs.ExamplesSchool.{School, asked_with, first_attempt, school, then_has, true_false}
+use Rattle.qz_terms.specs.Legal.{Agrees, IsAllowed}
 
 -- the plan of the quiz before and after the correction
 abbrev plan_at_7 : Plan
@@ -122,3 +123,46 @@ rebind_is_allowed = record {
 
 pub done_is_allowed : IsAllowed 0 1 (start_record ∷ save_record ∷ finish_record ∷ rebind_record ∷ []) done_record
 done_is_allowed = record { owner = refl; moment = refl; key = refl; event = record { bare = refl; undone = refl; none_left = refl } }
+
+-- ---- agreement
+
+pub start_agrees : Agrees school.records [] start_record
+start_agrees = record {
+    caller = refl;
+    event = record {
+        its_terms = record { terms = record { at = 7; settings = default_settings }; terms_are = refl; within = refl; plan = plan_at_7; plan_is = refl; settings = refl; ready = refl };
+        owner = refl;
+        behaviour = refl;
+        bounds_are = refl;
+        learns = refl;
+    };
+}
+
+pub save_agrees : Agrees school.records (start_record ∷ []) save_record
+save_agrees = record {
+    caller = refl;
+    event = record {
+        quiz = 1;
+        of_quiz = refl;
+        its_terms = record { terms = record { at = 7; settings = default_settings }; terms_are = refl; within = refl; plan = plan_at_7; plan_is = refl; settings = refl; ready = refl };
+    };
+}
+
+abbrev plan_at_9 : Plan
+plan_at_9 = record plan_at_7 {
+    at = 9;
+    slots = record { entry = 1; version = 2; max = pos 20000000 } ∷ [];
+    questions = true_false (codes "Sky") false ∷ [];
+}
+
+abbrev corrected : School
+corrected = then_has (then_has school 160 (asked_with (codes "root") (codes "c1") (request.Edit 1 (true_false (codes "Sky") false)))) 170 (asked_with (codes "root") (codes "c2") (request.Regrade 1))
+
+abbrev the_job : Job
+the_job = record { number = 1; position = 9; plan = plan_at_9 }
+
+pub rebind_agrees : Agrees corrected.records (start_record ∷ save_record ∷ finish_record ∷ []) rebind_record
+rebind_agrees = record { caller = refl; event = record { quiz = 1; of_quiz = refl; its_job = record { job = the_job; job_is = refl; quiz = refl; position_is = refl }; bound_is = refl; learns = refl } }
+
+pub done_agrees : Agrees corrected.records (start_record ∷ save_record ∷ finish_record ∷ rebind_record ∷ []) done_record
+done_agrees = record { caller = refl; event = record { job = the_job; job_is = refl; quiz = refl; position_is = refl } }
