@@ -28,3 +28,4 @@ pub mod ExamplesBank
 pub mod ExamplesSchedule
 pub mod ExamplesKeys
 pub mod ExamplesLegal
+pub mod ExamplesSerial

@@ -112,5 +112,5 @@ Goes a b (Asking now ask) r = Asks a b now ask r
 
 -- the replies to these lines in turn, and the lists at the end
 pub data Serial : (a : Lists) (lines : List Line) (replies : List Reply) (b : Lists) → Type 0 where
-  done : (a : Lists) → Serial a [] [] a
+  ended : (a : Lists) → Serial a [] [] a
   next : (a b c : Lists) (i : Line) (r : Reply) (is : List Line) (rs : List Reply) → Goes a b i r → Serial b is rs c → Serial a (i ∷ is) (r ∷ rs) c
