@@ -25,15 +25,15 @@ use Rattle.qz_terms.specs.Legal.{Agrees, IsAllowed}
 -- the plan of the quiz before and after the correction
 abbrev plan_at_7 : Plan
 plan_at_7 = record {
-    at = 7;
-    quiz = 1;
-    name = codes "Q";
-    ready = true;
-    behaviour = Deferred;
-    settings = default_settings;
-    policy = record { method = method.Highest; grade = pos 1000000; sum = pos 20000000 };
-    slots = record { entry = 1; version = 1; max = pos 20000000 } ∷ [];
-    questions = true_false (codes "Sky") true ∷ [];
+  at = 7;
+  quiz = 1;
+  name = codes "Q";
+  ready = true;
+  behaviour = Deferred;
+  settings = default_settings;
+  policy = record { method = method.Highest; grade = pos 1000000; sum = pos 20000000 };
+  slots = record { entry = 1; version = 1; max = pos 20000000 } ∷ [];
+  questions = true_false (codes "Sky") true ∷ [];
 }
 
 pub the_plan : catalog.plan school.records 1 2 ≡ Some plan_at_7
@@ -86,39 +86,39 @@ done_record = record { moment = 183; caller = 1; owner = 0; key = None; terms = 
 
 pub start_is_allowed : IsAllowed 0 1 [] start_record
 start_is_allowed = record {
-    owner = refl;
-    moment = refl;
-    key = refl;
-    event = record {
-        is_put = record { user = ann; plan = plan_at_7; ask = start; by_caller = refl; under_terms = refl; of_quiz = refl; when_ready = refl; granted = refl; put = refl };
-        learns = refl;
-        above_floor = refl;
-        at_terms = refl;
-    };
+  owner = refl;
+  moment = refl;
+  key = refl;
+  event = record {
+    is_put = record { user = ann; plan = plan_at_7; ask = start; by_caller = refl; under_terms = refl; of_quiz = refl; when_ready = refl; granted = refl; put = refl };
+    learns = refl;
+    above_floor = refl;
+    at_terms = refl;
+  };
 }
 
 pub save_is_allowed : IsAllowed 0 1 (start_record ∷ []) save_record
 save_is_allowed = record {
-    owner = refl;
-    moment = refl;
-    key = refl;
-    event = record { user = ann; plan = plan_at_7; ask = save; by_caller = refl; under_terms = refl; of_quiz = refl; when_ready = refl; granted = refl; put = refl };
+  owner = refl;
+  moment = refl;
+  key = refl;
+  event = record { user = ann; plan = plan_at_7; ask = save; by_caller = refl; under_terms = refl; of_quiz = refl; when_ready = refl; granted = refl; put = refl };
 }
 
 pub finish_is_allowed : IsAllowed 0 1 (start_record ∷ save_record ∷ []) finish_record
 finish_is_allowed = record {
-    owner = refl;
-    moment = refl;
-    key = refl;
-    event = record { user = ann; plan = plan_at_7; ask = finish; by_caller = refl; under_terms = refl; of_quiz = refl; when_ready = refl; granted = refl; put = refl };
+  owner = refl;
+  moment = refl;
+  key = refl;
+  event = record { user = ann; plan = plan_at_7; ask = finish; by_caller = refl; under_terms = refl; of_quiz = refl; when_ready = refl; granted = refl; put = refl };
 }
 
 pub rebind_is_allowed : IsAllowed 0 1 (start_record ∷ save_record ∷ finish_record ∷ []) rebind_record
 rebind_is_allowed = record {
-    owner = refl;
-    moment = refl;
-    key = refl;
-    event = record { bare = refl; undone = refl; quiz = 1; of_quiz = refl; first = refl; learns = refl; old = true_false (codes "Sky") true; newer = true_false (codes "Sky") false; old_is = refl; newer_is = refl; same = refl };
+  owner = refl;
+  moment = refl;
+  key = refl;
+  event = record { bare = refl; undone = refl; quiz = 1; of_quiz = refl; first = refl; learns = refl; old = true_false (codes "Sky") true; newer = true_false (codes "Sky") false; old_is = refl; newer_is = refl; same = refl };
 }
 
 pub done_is_allowed : IsAllowed 0 1 (start_record ∷ save_record ∷ finish_record ∷ rebind_record ∷ []) done_record
@@ -128,31 +128,31 @@ done_is_allowed = record { owner = refl; moment = refl; key = refl; event = reco
 
 pub start_agrees : Agrees school.records [] start_record
 start_agrees = record {
-    caller = refl;
-    event = record {
-        its_terms = record { terms = record { at = 7; settings = default_settings }; terms_are = refl; within = refl; plan = plan_at_7; plan_is = refl; settings = refl; ready = refl };
-        owner = refl;
-        behaviour = refl;
-        bounds_are = refl;
-        learns = refl;
-    };
+  caller = refl;
+  event = record {
+    its_terms = record { terms = record { at = 7; settings = default_settings }; terms_are = refl; within = refl; plan = plan_at_7; plan_is = refl; settings = refl; ready = refl };
+    owner = refl;
+    behaviour = refl;
+    bounds_are = refl;
+    learns = refl;
+  };
 }
 
 pub save_agrees : Agrees school.records (start_record ∷ []) save_record
 save_agrees = record {
-    caller = refl;
-    event = record {
-        quiz = 1;
-        of_quiz = refl;
-        its_terms = record { terms = record { at = 7; settings = default_settings }; terms_are = refl; within = refl; plan = plan_at_7; plan_is = refl; settings = refl; ready = refl };
-    };
+  caller = refl;
+  event = record {
+    quiz = 1;
+    of_quiz = refl;
+    its_terms = record { terms = record { at = 7; settings = default_settings }; terms_are = refl; within = refl; plan = plan_at_7; plan_is = refl; settings = refl; ready = refl };
+  };
 }
 
 abbrev plan_at_9 : Plan
 plan_at_9 = record plan_at_7 {
-    at = 9;
-    slots = record { entry = 1; version = 2; max = pos 20000000 } ∷ [];
-    questions = true_false (codes "Sky") false ∷ [];
+  at = 9;
+  slots = record { entry = 1; version = 2; max = pos 20000000 } ∷ [];
+  questions = true_false (codes "Sky") false ∷ [];
 }
 
 abbrev corrected : School
