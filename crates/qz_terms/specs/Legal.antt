@@ -1,12 +1,12 @@
 -- Which lists of records a shard and the catalogue may hold, and which records of a shard agree with a catalogue.
 use Rattle.std.specs.List.{list_all, list_any}
-use Rattle.std.specs.Prelude.{◌≡◌, ℕ, ◌%◌, ◌≤◌, Bool, true, false, not, ◌&&◌, ◌||◌, List, [], ◌∷◌, ◌++◌, map, length, take, is_some, is_none, nat_le, ◌==◌, Some, None, filter, Option, unwrap_or, option_map, option_and_then, All}
+use Rattle.std.specs.Prelude.{◌≡◌, ℕ, ◌%◌, Bool, true, false, not, ◌&&◌, ◌||◌, List, [], ◌∷◌, ◌++◌, map, length, take, is_some, is_none, nat_le, ◌==◌, Some, None, filter, Option, unwrap_or, option_map, option_and_then}
 use Rattle.qz_grading.specs.declared.outcome.Behaviour.{Behaviour}
 use Rattle.qz_grading.specs.declared.question.Question.{Question}
 use Rattle.qz_grading.specs.declared.question.Shape.{Shape}
 use Rattle.qz_grading.specs.declared.refusal.AttemptId.{AttemptId}
-use Rattle.qz_grading.specs.Grading.{at_place}
-use Rattle.qz_grading.specs.Shapes.{same_shape, shape}
+use Rattle.qz_grading.specs.Grading.{at_place, shape}
+use Rattle.qz_grading.specs.Shapes.{same_shape}
 use Rattle.qz_terms.specs.declared.ask.Ask.{Ask}
 use Rattle.qz_terms.specs.declared.people.Caller.TheVariants as caller
 use Rattle.qz_terms.specs.declared.people.User.{User}
@@ -189,13 +189,13 @@ pub record IsLegalCatalog (c : List Record) : Type 0 where
 
 -- the questions are those of the catalogue's first records
 abbrev pub LearnsFrom : List Record → List Learned → Type 0
-LearnsFrom c learned = All (λ (l : Learned). catalog.version c l.entry l.version ≡ Some l.question) learned
+LearnsFrom c learned = map (λ (l : Learned). catalog.version c l.entry l.version) learned ≡ map (λ (l : Learned). Some l.question) learned
 
 -- Its terms are those of the quiz and the user over the first so many records, in which the quiz is ready.
 pub record TermsAgree (c : List Record) (r : Record) (q u : ℕ) : Type 0 where
   pub terms : Terms
   pub terms_are : r.terms ≡ Some terms
-  pub within : terms.at ≤ length c
+  pub within : nat_le terms.at (length c) ≡ true
   pub plan : Plan
   pub plan_is : catalog.plan (take terms.at c) q u ≡ Some plan
   pub settings : terms.settings ≡ plan.settings

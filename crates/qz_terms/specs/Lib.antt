@@ -5,6 +5,7 @@ pub mod Review
 pub mod History
 pub mod Catalog
 pub mod Spelling
+pub mod Kept
 pub mod Cause
 pub mod Parts
 pub mod Answer
@@ -26,3 +27,5 @@ pub mod ExamplesReview
 pub mod ExamplesBank
 pub mod ExamplesSchedule
 pub mod ExamplesKeys
+pub mod ExamplesLegal
+pub mod ExamplesSerial

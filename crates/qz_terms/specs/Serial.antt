@@ -2,6 +2,7 @@
 use Rattle.std.specs.List.{AllZip, list_all}
 use Rattle.std.specs.Prelude.{◌≡◌, ℕ, Bool, true, false, ◌&&◌, ◌||◌, List, [], ◌∷◌, ◌++◌, map, length, drop, is_some, is_none, if◌then◌else◌, slice_get, Some, None, Option, unwrap_or, option_map, option_to_list, slice_set}
 use Rattle.qz_grading.specs.declared.refusal.Refusal.TheVariants as refusal
+use Rattle.qz_grading.specs.Questions.{parts}
 use Rattle.qz_terms.specs.declared.ask.Ask.{Ask}
 use Rattle.qz_terms.specs.declared.record.Record.{Record}
 use Rattle.qz_terms.specs.declared.reply.Reply.{Reply}
@@ -22,9 +23,9 @@ pub record Lists : Type 0 where
   pub parts : List Held
 
 -- a line of a script that has no reading, or a request at a moment
-pub data Item : Type 0 where
-  Unread : (place rule : ℕ) → Item
-  Asking : (moment : ℕ) → Ask → Item
+pub data Line : Type 0 where
+  Unread : (place rule : ℕ) → Line
+  Asking : (moment : ℕ) → Ask → Line
 
 -- Before a list is read it is mended: a record in doubt is dropped or adopted. A list that isn't read stays.
 pub data Mended : (old new : Held) → Type 0 where
@@ -105,11 +106,11 @@ pub record Asks (a b : Lists) (now : ℕ) (ask : Ask) (r : Reply) : Type 0 where
   pub mends : AllMended a mended
   pub turn : Turn mended b now ask r
 
-abbrev pub Goes : Lists → Lists → Item → Reply → Type 0
+abbrev pub Goes : Lists → Lists → Line → Reply → Type 0
 Goes a b (Unread place rule) r = (r ≡ reply.Refused (refusal.Malformed place rule)) × (b ≡ a)
 Goes a b (Asking now ask) r = Asks a b now ask r
 
--- the replies to these items in turn, and the lists at the end
-pub data Serial : (a : Lists) (items : List Item) (replies : List Reply) (b : Lists) → Type 0 where
-  done : (a : Lists) → Serial a [] [] a
-  next : (a b c : Lists) (i : Item) (r : Reply) (is : List Item) (rs : List Reply) → Goes a b i r → Serial b is rs c → Serial a (i ∷ is) (r ∷ rs) c
+-- the replies to these lines in turn, and the lists at the end
+pub data Serial : (a : Lists) (lines : List Line) (replies : List Reply) (b : Lists) → Type 0 where
+  ended : (a : Lists) → Serial a [] [] a
+  next : (a b c : Lists) (i : Line) (r : Reply) (is : List Line) (rs : List Reply) → Goes a b i r → Serial b is rs c → Serial a (i ∷ is) (r ∷ rs) c

@@ -15,8 +15,9 @@ pub enum Whom {
     Group,
 }
 
-/// A request. The first fourteen and the last but the looks go to the catalogue or to the shard of the user whose
-/// attempt they name. Moments and times are in seconds, marks, penalties and max marks in 10^-7, grades in 10^-5.
+/// A request. The first fourteen, `Jobs` and `Bank` go to the catalogue, `Work` and `Live` to the shard that they name,
+/// `Report` to every shard, and the others to the shard of the user whose attempt or grade they name. Moments and times
+/// are in seconds, marks, penalties and max marks in 10^-7, grades in 10^-5.
 #[derive(Drop)]
 pub enum Request {
     /// A user is made.
