@@ -44,12 +44,12 @@ a_description = refl
 -- one of three choices is right, one half right
 abbrev capital : Question
 capital = record {
-    name = codes "Capital";
-    text = html (codes "<p>Capital of France?</p>");
-    general = html (codes "See page 4");
-    kind = kind.One (choice (pos 10000000) (codes "Paris") (codes "Yes") ∷ choice (pos 0) (codes "Lyon") (codes "No") ∷ choice (pos 5000000) (codes "Paris area") [] ∷ []);
-    penalty = pos 3333333;
-    hints = [];
+  name = codes "Capital";
+  text = html (codes "<p>Capital of France?</p>");
+  general = html (codes "See page 4");
+  kind = kind.One (choice (pos 10000000) (codes "Paris") (codes "Yes") ∷ choice (pos 0) (codes "Lyon") (codes "No") ∷ choice (pos 5000000) (codes "Paris area") [] ∷ []);
+  penalty = pos 3333333;
+  hints = [];
 }
 
 abbrev capital_text : List ℕ
