@@ -1,5 +1,5 @@
 -- A worked schedule: two callers in turn at the same lists, a record in doubt, and a stop.
-use Rattle.std.specs.Prelude.{◌≡◌, ℕ, Bool, true, List, [], ◌∷◌, map, length, is_none, Some, None, codes, refl}
+use Rattle.std.specs.Prelude.{◌≡◌, ℕ, Bool, true, false, List, [], ◌∷◌, map, length, is_none, Some, None, codes, refl}
 use Rattle.qz_grading.specs.declared.refusal.Refusal.TheVariants as refusal
 use Rattle.qz_terms.specs.declared.ask.Ask.{Ask}
 use Rattle.qz_terms.specs.declared.reply.Done.TheVariants as done
@@ -36,6 +36,23 @@ both_are_answered = refl
 pub out_of_turn : world two_callers (turn 0 1 anns_start ∷ turn 0 2 anns_start ∷ []) ≡ two_callers
 out_of_turn = refl
 
+-- nor does one that was made already
+pub made_once : map {B = ℕ} (λ (v : Visit). v.made) (world two_callers (turn 0 0 anns_start ∷ turn 0 0 anns_start ∷ [])).visits ≡ 1 ∷ 0 ∷ []
+made_once = refl
+
+-- so many records in the shard, and whether none is in doubt
+abbrev standing : World → List (ℕ × Bool)
+standing w = map {B = ℕ × Bool} (λ (h : Held). (length h.list, is_none h.doubt)) w.parts
+
+pub one_in_doubt : standing (world two_callers both) ≡ (1, false) ∷ []
+one_in_doubt = refl
+
+pub adopted_by_mending : standing (world (world two_callers both) (Mends (Some 0) true ∷ [])) ≡ (2, true) ∷ []
+adopted_by_mending = refl
+
+pub dropped_by_mending : standing (world (world two_callers both) (Mends (Some 0) false ∷ [])) ≡ (1, true) ∷ []
+dropped_by_mending = refl
+
 -- adopted by a mending, the record is answered again by its key; dropped, it is put anew
 pub adopted : replies_of (world (world two_callers both) (Mends (Some 0) true ∷ turn 1 0 bobs_start ∷ turn 1 1 bobs_start ∷ turn 1 2 bobs_start ∷ [])) ≡ reply.Ok 1 (done.Started first_attempt 1 None) ∷ reply.Refused refusal.KeepFault ∷ reply.Ok 1 (done.Started (record { user = 3; nth = 1 }) 1 None) ∷ []
 adopted = refl
@@ -47,7 +64,7 @@ as_many_records = refl
 abbrev after_stop : World
 after_stop = world (world two_callers both) (Stops None [] ∷ [])
 
-pub one_record_stands : map {B = ℕ × Bool} (λ (h : Held). (length h.list, is_none h.doubt)) after_stop.parts ≡ (1, true) ∷ []
+pub one_record_stands : standing after_stop ≡ (1, true) ∷ []
 one_record_stands = refl
 
 pub nobody_asks : map {B = Bool × ℕ} (λ (v : Visit). (is_none v.ask, length v.records)) after_stop.visits ≡ (true, 0) ∷ (true, 0) ∷ []
