@@ -9,9 +9,9 @@ ghost use Rattle.qz_grading.specs.Slots.{slot_state, slot_mark, last_given, step
 ghost use Rattle.quizd.specs.Narrow.{IsPlayable, IsPlayed};
 
 use crate::slot::Slot;
-use crate::true_false::{complete, fits, grade};
+use crate::true_false::grade;
 use qz_decimal::{Fraction, Mark, mark_of};
-use qz_grading::{Answer, Moved, Refusal, Response, State, Step, same};
+use qz_grading::{Answer, Moved, Refusal, Response, State, Step, complete, fits, same};
 use qz_text::NoMemory;
 use std::alloc::Global;
 use std::marker::Model;
@@ -156,7 +156,7 @@ impl Taken {
         let Step::Save(response) = step else {
             return None;
         };
-        if !fits(&slot.question, response) {
+        if !fits(&slot.question, response, slot.behaviour) {
             return Some(Refusal::Misfit);
         }
         if self.answering >= MOST_ANSWERING {

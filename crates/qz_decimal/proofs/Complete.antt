@@ -10,7 +10,7 @@ use Rattle.std.proofs.lemmas.List.{append-nil}
 use Rattle.qz_decimal.specs.declared.reading.Form.{Form}
 use Rattle.qz_decimal.specs.declared.reading.BadNumber.{BadNumber}
 use Rattle.qz_decimal.specs.declared.reading.BadNumber.TheVariants.{Malformed, Range}
-use Rattle.qz_decimal.specs.Numbers.{IsWithin, IsQuizGrade}
+use Rattle.qz_decimal.specs.Numbers.{IsWithin}
 use Rattle.qz_decimal.specs.Reading.{mark_form, grade_form, ◌>>=◌, Parts, sign_text, point_text, text_of, decimal_units, point_units, units_of, IsDigits, IsFormed, IsSpelled, Stuck, SpellsOther, first_digits, after_digits, decimals_at, rest_at, size_at, has_minus, without_minus, units_in, units_within}
 use Rattle.qz_decimal.proofs.DigitRuns.{StopsDigits, first_digits-of, after_digits-of}
 use Rattle.qz_decimal.proofs.Scan.{not_minus}

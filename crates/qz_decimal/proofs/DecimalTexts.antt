@@ -1,71 +1,40 @@
 -- Reading from the left finds exactly the number that is spelled.
-use Rattle.std.proofs.Common.{◌≡◌, ℕ, zero, suc, ◌+◌, ◌-◌, ◌*◌, ◌/◌, ◌%◌, ◌^◌, ◌<◌, ◌≤◌, Bool, true, false, cond, ◌==◌, ◌&&◌, ◌||◌, nat_lt, List, [], ◌∷◌, ◌++◌, length, take, drop, Option, Some, None, refl, sym, ap, ◌∙◌, subst, arith, ℤ, append_assoc, inl, inr, ◌⊎◌}
-use Rattle.std.specs.Prelude.{◌↔◌, IsNone, IfSome, option_and_then, unwrap_or, if◌then◌else◌}
+use Rattle.std.proofs.Common.{◌≡◌, ℕ, ◌+◌, ◌-◌, ◌*◌, ◌^◌, ◌<◌, ◌≤◌, Bool, true, false, cond, ◌==◌, ◌||◌, nat_lt, List, [], ◌∷◌, ◌++◌, length, take, Option, Some, None, refl, sym, ap, ◌∙◌, subst, arith, ℤ, append_assoc}
+use Rattle.std.specs.Prelude.{◌↔◌, IsNone, IfSome, unwrap_or, if◌then◌else◌}
 use Rattle.std.specs.Char.{is_ascii_digit}
 use Rattle.std.specs.List.{prefix_len, list_all}
 use Rattle.std.specs.Str.{all_ascii_digits}
 use Rattle.std.specs.Str.Parse.{digits_value}
 use Rattle.std.specs.Float.Numeral as byte
-use Rattle.std.proofs.lemmas.Bool.{eqb-true, eqb-false, ltb-true, ltb-false, lt-ltb, le-ltb, eq-eqb, ne_eqb, and_parts, and_from, or_cases, or_parts, cases_Bool}
+use Rattle.std.proofs.lemmas.Bool.{eqb-true, eqb-false, ltb-false, ne_eqb, and_parts, or_parts}
 use Rattle.std.proofs.lemmas.Bool.Decides.{nat_tests}
 use Rattle.std.proofs.lemmas.List.{take-append-drop, append-nil, nil_from_length, length-append, drop_at}
-use Rattle.std.proofs.lemmas.List.Sums.{prefix_len-le-length}
-use Rattle.std.proofs.lemmas.List.Folds.{prefix_len-append}
-use Rattle.std.proofs.lemmas.Option.{same_Some, cond_some}
+use Rattle.std.proofs.lemmas.Option.{same_Some}
 use Rattle.qz_decimal.specs.declared.decimal.Digits.{Digits}
 use Rattle.qz_decimal.specs.declared.decimal.Tens.{Tens}
 use Rattle.qz_decimal.specs.Numbers.{signed}
 use Rattle.qz_decimal.specs.Reading.{IsDigits, point_text, first_digits, after_digits, has_minus}
-use Rattle.qz_decimal.specs.Decimals.{Sign, bare, plus, minus, Exponent, DecimalParts, sign_bytes, is_minus, exponent_text, decimal_text, digits_of, no_tens, signed_tens, tens_of, IsDecimalFormed, is_blank, IsDecimal, after_blanks, after_sign, first_decimals, after_decimals, digits_in, tens_in, exponent_in, short_size, short_quotient, exact_size, ◌>>=◌, decimal_in}
+use Rattle.qz_decimal.specs.Decimals.{Sign, bare, plus, minus, Exponent, sign_bytes, is_minus, exponent_text, digits_of, no_tens, signed_tens, tens_of, is_blank, IsDecimal, after_blanks, after_sign, first_decimals, after_decimals, digits_in, tens_in, exponent_in, exact_size, ◌>>=◌, decimal_in}
+use Rattle.qz_decimal.proofs.Fronts.{front-passes, prefix_len-of, stops-at, first-fails}
 use Rattle.qz_decimal.proofs.DigitRuns.{first_digits-each, first_digits-few, first_digits-append, first_digits-of, after_digits-of, all_ascii_digits-append, all_ascii_digits-parts}
 use Rattle.qz_decimal.proofs.Exact.{none-exactly}
 use Rattle.qz_decimal.proofs.Scales.{exact_size-found, exact_size-of}
 
 -- ---- blanks
 
-take-passes : (p : ℕ → Bool) (n : ℕ) (text : List ℕ) → n ≤ prefix_len p text → list_all p (take n text) ≡ true
-take-passes p zero text le = refl
-take-passes p (suc n) [] le = refl
-take-passes p (suc n) (b ∷ rest) le = go (p b) refl le (λ le. take-passes p n rest le)
-  where
-    go : (passes : Bool) → p b ≡ passes → suc n ≤ cond passes (1 + prefix_len p rest) 0 → (n ≤ prefix_len p rest → list_all p (take n rest) ≡ true) → list_all p (take (suc n) (b ∷ rest)) ≡ true
-    go true e le others = and_from (p b) (list_all p (take n rest)) e (others (omega arith))
-    go false e le others = absurd (omega arith)
-
-prefix_len-all : (p : ℕ → Bool) (text : List ℕ) → list_all p text ≡ true → prefix_len p text ≡ length text
-prefix_len-all p [] each = refl
-prefix_len-all p (b ∷ rest) each =
-    let parts = and_parts (p b) (list_all p rest) each in
-    let others = prefix_len-all p rest parts.1 in
-    rw parts.0 (omega arith)
-
--- a first item that fails a test, and none that passes
-first-fails : (p : ℕ → Bool) (b : ℕ) (rest : List ℕ) → prefix_len p (b ∷ rest) ≡ 0 → p b ≡ false
-first-fails p b rest none = go (p b) refl none
-  where
-    go : (passes : Bool) → p b ≡ passes → cond passes (1 + prefix_len p rest) 0 ≡ 0 → p b ≡ false
-    go true e none = absurd (omega arith)
-    go false e none = e
-
-stops-at : (p : ℕ → Bool) (b : ℕ) (rest : List ℕ) → p b ≡ false → prefix_len p (b ∷ rest) ≡ 0
-stops-at p b rest e = rw e refl
-
 blanks : List ℕ → List ℕ
 blanks text = take (prefix_len is_blank text) text
 
 blanks-each : (text : List ℕ) → list_all is_blank (blanks text) ≡ true
 unfolding blanks
-blanks-each text = take-passes is_blank (prefix_len is_blank text) text (omega arith)
+blanks-each text = front-passes is_blank (prefix_len is_blank text) text (omega arith)
 
 blanks-split : (text : List ℕ) → blanks text ++ after_blanks text ≡ text
 unfolding blanks
 blanks-split text = take-append-drop (prefix_len is_blank text) text
 
 after_blanks-of : (before rest : List ℕ) → list_all is_blank before ≡ true → prefix_len is_blank rest ≡ 0 → after_blanks (before ++ rest) ≡ rest
-after_blanks-of before rest each stops =
-    let count : prefix_len is_blank (before ++ rest) ≡ length before =
-        prefix_len-append is_blank before rest ∙ rw (prefix_len-all is_blank before each, eq-eqb (length before) (length before) refl, stops) (omega arith) in
-    drop_at before rest (prefix_len is_blank (before ++ rest)) (sym count)
+after_blanks-of before rest each stops = drop_at before rest (prefix_len is_blank (before ++ rest)) (sym (prefix_len-of is_blank before rest each stops))
 
 after_blanks-all : (after : List ℕ) → list_all is_blank after ≡ true → after_blanks after ≡ []
 after_blanks-all after each = ap after_blanks (sym (append-nil after)) ∙ after_blanks-of after [] each refl
@@ -162,14 +131,14 @@ digits-found text found rest e =
     let some = eqb-false _ _ given.0 in
     let size = length-append whole (unwrap_or split.decimals []) in
     let here : HasDigits text first (after_decimals most behind) = record {
-        whole = whole;
-        decimals = split.decimals;
-        text_is = sym (first_digits-append 30 text) ∙ ap (λ (t : List ℕ). whole ++ t) split.text_is;
-        number = ap (λ (ds : List ℕ). digits_value 10 (whole ++ ds)) split.found;
-        count = ap (λ (ds : List ℕ). length ds) split.found;
-        formed = record { each = all_ascii_digits-append whole (unwrap_or split.decimals []) (first_digits-each 30 text) split.formed.each; few = omega (arith, size, split.formed.few, first_digits-few 30 text) };
-        some = omega (arith, size, some, ap (λ (ds : List ℕ). length ds) split.found);
-      } in
+      whole = whole;
+      decimals = split.decimals;
+      text_is = sym (first_digits-append 30 text) ∙ ap (λ (t : List ℕ). whole ++ t) split.text_is;
+      number = ap (λ (ds : List ℕ). digits_value 10 (whole ++ ds)) split.found;
+      count = ap (λ (ds : List ℕ). length ds) split.found;
+      formed = record { each = all_ascii_digits-append whole (unwrap_or split.decimals []) (first_digits-each 30 text) split.formed.each; few = omega (arith, size, split.formed.few, first_digits-few 30 text) };
+      some = omega (arith, size, some, ap (λ (ds : List ℕ). length ds) split.found);
+    } in
     subst (λ (p : Digits × List ℕ). HasDigits text p.0 p.1) given.1 here
 
 first_decimals-of : (most : ℕ) (decimals : Option (List ℕ)) (rest : List ℕ) → IsDigits most (unwrap_or decimals []) → prefix_len is_ascii_digit rest ≡ 0 → prefix_len (λ b. b == byte.dot) rest ≡ 0 → first_decimals most (point_text decimals ++ rest) ≡ unwrap_or decimals []
@@ -188,7 +157,7 @@ stops-point (Some ds) rest no_digit = refl
 
 -- the same digits are found again, whatever follows that can't go on with them
 digits-of : (whole : List ℕ) (decimals : Option (List ℕ)) (rest : List ℕ) → IsDigits 30 (whole ++ unwrap_or decimals []) → 0 < length (whole ++ unwrap_or decimals []) → prefix_len is_ascii_digit rest ≡ 0 → prefix_len (λ b. b == byte.dot) rest ≡ 0
-  → digits_in (whole ++ (point_text decimals ++ rest)) ≡ Some (record { number = digits_value 10 (whole ++ unwrap_or decimals []); decimals = length (unwrap_or decimals []) }, rest)
+    → digits_in (whole ++ (point_text decimals ++ rest)) ≡ Some (record { number = digits_value 10 (whole ++ unwrap_or decimals []); decimals = length (unwrap_or decimals []) }, rest)
 unfolding digits_in
 digits-of whole decimals rest formed some no_digit no_dot =
     let each = all_ascii_digits-parts whole (unwrap_or decimals []) formed.each in
@@ -222,14 +191,14 @@ tens-found capital text found rest e =
     let some = eqb-false _ _ given.0 in
     let split = sign-split text in
     let text_is : text ≡ (sign_bytes split.sign ++ digits) ++ behind =
-        split.text_is ∙ ap (λ (t : List ℕ). sign_bytes split.sign ++ t) (sym (first_digits-append 3 (after_sign text))) ∙ sym (append_assoc (sign_bytes split.sign) digits behind) in
+    split.text_is ∙ ap (λ (t : List ℕ). sign_bytes split.sign ++ t) (sym (first_digits-append 3 (after_sign text))) ∙ sym (append_assoc (sign_bytes split.sign) digits behind) in
     let here : HasExponent (letter capital ∷ text) tens behind = record {
-        exponent = Some (record { capital = capital; sign = split.sign; digits = digits });
-        text_is = ap (λ (t : List ℕ). letter capital ∷ t) text_is;
-        tens = ap (λ negative. signed_tens negative (digits_value 10 digits)) split.negative;
-        formed = record { each = first_digits-each 3 (after_sign text); few = first_digits-few 3 (after_sign text) };
-        some = omega arith;
-      } in
+      exponent = Some (record { capital = capital; sign = split.sign; digits = digits });
+      text_is = ap (λ (t : List ℕ). letter capital ∷ t) text_is;
+      tens = ap (λ negative. signed_tens negative (digits_value 10 digits)) split.negative;
+      formed = record { each = first_digits-each 3 (after_sign text); few = first_digits-few 3 (after_sign text) };
+      some = omega arith;
+    } in
     subst (λ (p : Tens × List ℕ). HasExponent (letter capital ∷ text) p.0 p.1) given.1 here
 
 no_exponent : (text : List ℕ) (found : Tens) (rest : List ℕ) → ◌≡◌ {A = Option (Tens × List ℕ)} (Some (no_tens, text)) (Some (found, rest)) → HasExponent text found rest
@@ -329,7 +298,7 @@ is_decimal text units e =
     let sb = sign_bytes sign.sign in
     let pt = point_text digits.decimals in
     let inner : signed_text ≡ sb ++ (digits.whole ++ (pt ++ (exponent_text exponent.exponent ++ t.1))) =
-        sign.text_is ∙ ap (λ (x : List ℕ). sb ++ x) (digits.text_is ∙ ap (λ (x : List ℕ). digits.whole ++ (pt ++ x)) exponent.text_is) in
+    sign.text_is ∙ ap (λ (x : List ℕ). sb ++ x) (digits.text_is ∙ ap (λ (x : List ℕ). digits.whole ++ (pt ++ x)) exponent.text_is) in
     record {
       before = blanks text;
       parts = record { sign = sign.sign; whole = digits.whole; decimals = digits.decimals; exponent = exponent.exponent };

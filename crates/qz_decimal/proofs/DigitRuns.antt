@@ -1,18 +1,18 @@
 -- Runs of digits: what they write, how large that is, and where they end.
-use Rattle.std.proofs.Common.{◌≡◌, ℕ, zero, suc, ◌+◌, ◌-◌, ◌*◌, ◌^◌, ◌<◌, ◌≤◌, Bool, true, false, cond, List, [], ◌∷◌, ◌++◌, length, get_or, take, drop, refl, sym, ap, ◌∙◌, arith, inl, inr, add-zero, ◌⊎◌}
+use Rattle.std.proofs.Common.{◌≡◌, ℕ, suc, ◌+◌, ◌-◌, ◌*◌, ◌^◌, ◌<◌, ◌≤◌, true, false, ◌&&◌, List, [], ◌∷◌, ◌++◌, length, get_or, take, drop, refl, sym, ap, ◌∙◌, arith, inl, inr, add-zero, ◌⊎◌}
 use Rattle.std.specs.Char.{is_ascii_digit, digit_value}
 use Rattle.std.specs.Int.{IsInRange}
-use Rattle.std.specs.List.{prefix_len}
+use Rattle.std.specs.List.{prefix_len, list_all}
 use Rattle.std.specs.Str.{all_ascii_digits}
 use Rattle.std.specs.Str.Parse.{digits_value, digits_value_after}
-use Rattle.std.proofs.lemmas.Bool.{and_parts, and_from, cases_lt, eq-eqb}
+use Rattle.std.proofs.lemmas.Bool.{and_parts, and_from, cases_lt}
 use Rattle.std.proofs.lemmas.Bool.Decides.{nat_tests}
 use Rattle.std.proofs.lemmas.Int.Digits.{digits_value-lt, digits_value_more}
 use Rattle.std.proofs.lemmas.Str.Parse.{IsNumeralModel, numerals_by_value, tells_all_ascii_digits, digit_at}
 use Rattle.std.proofs.lemmas.List.{take-append-drop, length-take-le, length-drop, get_or-drop, take_at, drop_at}
 use Rattle.std.proofs.lemmas.List.Sums.{prefix_len-le-length, prefix_len_stops}
-use Rattle.std.proofs.lemmas.List.Folds.{prefix_len-append}
 use Rattle.std.proofs.Math.Nat.{pow-le-pow_right, pow-suc}
+use Rattle.qz_decimal.proofs.Fronts.{front-passes, prefix_len-of}
 use Rattle.qz_decimal.specs.Reading.{digit_count, first_digits, after_digits}
 
 numerals : IsNumeralModel (λ ds. all_ascii_digits ds ≡ true) (digits_value 10)
@@ -64,17 +64,12 @@ all_ascii_digits-parts (x ∷ xs) ys each =
 
 -- ---- a text's first digits
 
-take-each : (n : ℕ) (text : List ℕ) → n ≤ prefix_len is_ascii_digit text → all_ascii_digits (take n text) ≡ true
-take-each zero text le = refl
-take-each (suc n) [] le = refl
-take-each (suc n) (b ∷ rest) le = go (is_ascii_digit b) refl le (λ le. take-each n rest le)
-  where
-    go : (is_digit : Bool) → is_ascii_digit b ≡ is_digit → suc n ≤ cond is_digit (1 + prefix_len is_ascii_digit rest) 0 → (n ≤ prefix_len is_ascii_digit rest → all_ascii_digits (take n rest) ≡ true) → all_ascii_digits (take (suc n) (b ∷ rest)) ≡ true
-    go true e le others = and_from (is_ascii_digit b) (all_ascii_digits (take n rest)) e (others (omega arith))
-    go false e le others = absurd (omega arith)
+all_ascii_digits-is : (text : List ℕ) → all_ascii_digits text ≡ list_all is_ascii_digit text
+all_ascii_digits-is [] = refl
+all_ascii_digits-is (b ∷ rest) = ap (λ others. is_ascii_digit b && others) (all_ascii_digits-is rest)
 
 pub first_digits-each : (most : ℕ) (text : List ℕ) → all_ascii_digits (first_digits most text) ≡ true
-first_digits-each most text = take-each (digit_count most text) text (omega arith)
+first_digits-each most text = all_ascii_digits-is (first_digits most text) ∙ front-passes is_ascii_digit (digit_count most text) text (omega arith)
 
 pub first_digits-append : (most : ℕ) (text : List ℕ) → first_digits most text ++ after_digits most text ≡ text
 first_digits-append most text = take-append-drop (digit_count most text) text
@@ -99,21 +94,13 @@ after_digits-stops most text b rest e =
       | inr enough ↦ inl (omega (arith, length-first_digits most text))
     ]
 
-prefix_len-digits : (digits : List ℕ) → all_ascii_digits digits ≡ true → prefix_len is_ascii_digit digits ≡ length digits
-prefix_len-digits [] each = refl
-prefix_len-digits (d ∷ ds) each =
-    let parts = and_parts (is_ascii_digit d) (all_ascii_digits ds) each in
-    let others = prefix_len-digits ds parts.1 in
-    rw parts.0 (omega arith)
-
 -- no digit stands first
 abbrev pub StopsDigits : List ℕ → Type 0
 StopsDigits text = prefix_len is_ascii_digit text ≡ 0
 
 digit_count-of : (most : ℕ) (digits tail : List ℕ) → all_ascii_digits digits ≡ true → length digits ≤ most → StopsDigits tail → length digits ≡ digit_count most (digits ++ tail)
 digit_count-of most digits tail each few stops =
-    let run : prefix_len is_ascii_digit (digits ++ tail) ≡ length digits =
-    prefix_len-append is_ascii_digit digits tail ∙ rw (prefix_len-digits digits each, eq-eqb (length digits) (length digits) refl, stops) (add-zero (length digits)) in
+    let run = prefix_len-of is_ascii_digit digits tail (sym (all_ascii_digits-is digits) ∙ each) stops in
     omega arith
 
 pub first_digits-of : (most : ℕ) (digits tail : List ℕ) → all_ascii_digits digits ≡ true → length digits ≤ most → StopsDigits tail → first_digits most (digits ++ tail) ≡ digits

@@ -1,5 +1,5 @@
 -- An answer that is `Some` of exactly the values with a property is `None` exactly where none has it.
-use Rattle.std.proofs.Common.{◌≡◌, true, false, Option, Some, None, refl}
+use Rattle.std.proofs.Common.{◌≡◌, Option, Some, None, refl}
 use Rattle.std.specs.Prelude.{◌↔◌, IsNone, ℤ}
 
 pub none-exactly : (o : Option ℤ) (P : ℤ → Type 0) → ((x : ℤ) → (o ≡ Some x) ↔ P x) → IsNone o ↔ ((x : ℤ) → ¬ P x)

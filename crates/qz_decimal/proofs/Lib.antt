@@ -1,4 +1,5 @@
 pub mod Nearest
+pub mod Fronts
 pub mod DigitRuns
 pub mod Scan
 pub mod Places

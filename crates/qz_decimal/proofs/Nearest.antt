@@ -1,9 +1,9 @@
 -- The nearest whole quotient is the nearest, and no other number is.
 use Rattle.std.proofs.Common.{◌≡◌, ℕ, zero, suc, ◌+◌, ◌*◌, ◌/◌, ◌%◌, ◌<◌, ◌≤◌, zero-le, ℤ, pos, negsuc, neg_ℤ, ◌-ℤ◌, ◌*ℤ◌, refl, sym, ap, ◌∙◌, arith, inl, inr, cond, of_z, ◌^◌, ◌-◌, to_z, FitsSigned}
 use Rattle.std.specs.Prelude.{unsigned_abs, int_lt}
-use Rattle.std.specs.Int.{Width, abs_diff, w64}
+use Rattle.std.specs.Int.{Width, abs_diff, w64, w128}
 use Rattle.std.specs.Ordering.{int_eq}
-use Rattle.std.proofs.lemmas.Int.{ints, to_z-of_z, unsigned_abs-mul}
+use Rattle.std.proofs.lemmas.Int.{ints, to_z-of_z, unsigned_abs-mul, fits_signed_from_abs}
 use Rattle.std.proofs.lemmas.Nat.{mul-le}
 use Rattle.std.proofs.lemmas.Bool.{cases_order, cases_lt, le-ltb, false_from_ne_true}
 use Rattle.std.proofs.lemmas.Bool.Decides.{nat_tests, Decides-int_eq}
@@ -149,3 +149,11 @@ grade-room total grade count few fits small =
     let total_le : unsigned_abs total ≤ 2 ^ 32 * (12000000 * one) = omega arith in
     let grade_le : unsigned_abs grade ≤ 10000 * grade_one = omega (arith, ints, small.0, small.1) in
     rw unsigned_abs-mul (omega (arith, mul-le (unsigned_abs total) (unsigned_abs grade) (2 ^ 32 * (12000000 * one)) (10000 * grade_one) total_le grade_le))
+
+-- the product that the code computes
+pub grade-product : (total inside grade : ℤ) (count : ℕ) → FitsSigned w128 total → inside ≡ grade → unsigned_abs total ≤ count * (12000000 * one) → count < 2 ^ 32 → IsQuizGrade grade
+    → to_z w128 (of_z w128 (to_z w128 (of_z w128 total) *ℤ to_z w128 (of_z w128 inside))) ≡ total *ℤ grade
+grade-product total inside grade count fits same few small_count small =
+    let room = grade-room total grade count few small_count small in
+    let grade_is = shown w128 inside grade same (fits_signed_from_abs w128 grade (omega (arith, ints, small.0, small.1))) in
+    rw (to_z-of_z w128 total fits, grade_is) (to_z-of_z w128 (total *ℤ grade) (fits_signed_from_abs w128 (total *ℤ grade) (omega (arith, room))))

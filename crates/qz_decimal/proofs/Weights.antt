@@ -1,18 +1,18 @@
 -- Reading from the left finds exactly the weight that is spelled.
-use Rattle.std.proofs.Common.{◌≡◌, ℕ, zero, suc, ◌+◌, ◌-◌, ◌*◌, ◌<◌, ◌≤◌, Bool, true, false, cond, ◌==◌, ◌&&◌, nat_lt, List, [], ◌∷◌, ◌++◌, length, get_or, take, drop, Option, Some, None, Result, Ok, Err, refl, sym, ap, ◌∙◌, arith, ℤ, pos, neg_ℤ, append_assoc}
+use Rattle.std.proofs.Common.{◌≡◌, ℕ, suc, ◌+◌, ◌-◌, ◌<◌, Bool, true, ◌==◌, ◌&&◌, nat_lt, List, [], ◌∷◌, ◌++◌, length, get_or, take, Option, Some, None, Result, Ok, Err, refl, sym, ap, ◌∙◌, arith, ℤ, pos, neg_ℤ}
 use Rattle.std.specs.Prelude.{◌↔◌, IsNone, slice_index, option_and_then}
 use Rattle.std.specs.Result.{result_ok}
-use Rattle.std.proofs.lemmas.Bool.{eqb-true, eq-eqb, ltb-true, lt-ltb, and_parts, and_from}
+use Rattle.std.proofs.lemmas.Bool.{eqb-true, lt-ltb, and_parts}
 use Rattle.std.proofs.lemmas.List.{take_all, take_at, length-append}
 use Rattle.std.proofs.lemmas.Grind.{take_at_read}
 use Rattle.std.proofs.lemmas.Option.{cond_some, same_Some}
 use Rattle.qz_decimal.specs.declared.reading.BadNumber.{BadNumber}
-use Rattle.qz_decimal.specs.Numbers.{one, IsWithin}
-use Rattle.qz_decimal.specs.Reading.{IsSpelled, units_within}
+use Rattle.qz_decimal.specs.Numbers.{one}
+use Rattle.qz_decimal.specs.Reading.{units_within}
 use Rattle.qz_decimal.specs.Percent.{percent, percent_form, IsWeight, between_percents, weight_in}
 use Rattle.qz_decimal.proofs.Exact.{none-exactly}
 use Rattle.qz_decimal.proofs.Places.{IsUsual}
-use Rattle.qz_decimal.proofs.Complete.{Reads, units_within-reads}
+use Rattle.qz_decimal.proofs.Complete.{units_within-reads}
 
 -- a list up to its last item, and that item
 front_and_last : (rest : List ℕ) → 0 < length rest → take (length rest - 1) rest ++ get_or rest (length rest - 1) 0 ∷ [] ≡ rest

@@ -1,7 +1,7 @@
--- What number a text spells in a numerical question: 1 to 30 digits with a sign, a point and an exponent. Its units are 10^-10.
-use Rattle.std.specs.Prelude.{◌≡◌, ℕ, ◌+◌, ◌-◌, ◌*◌, ◌/◌, ◌%◌, ◌^◌, ◌<◌, ◌≤◌, Bool, true, false, IsTrue, if◌then◌else◌, ◌==◌, ◌&&◌, ◌||◌, nat_lt, ℤ, List, [], ◌∷◌, ◌++◌, length, drop, Option, Some, None, IfSome, option_and_then, unwrap_or}
+-- What number a text spells in a numerical question: 1 to 30 digits with a sign, a point and an
+-- exponent. Its units are 10^-10.
+use Rattle.std.specs.Prelude.{◌≡◌, ℕ, ◌+◌, ◌-◌, ◌*◌, ◌/◌, ◌%◌, ◌^◌, ◌<◌, Bool, true, false, IsTrue, if◌then◌else◌, ◌==◌, ◌||◌, nat_lt, ℤ, List, [], ◌∷◌, ◌++◌, length, drop, Option, Some, None, IfSome, option_and_then, unwrap_or}
 use Rattle.std.specs.List.{prefix_len, list_all}
-use Rattle.std.specs.Str.{all_ascii_digits}
 use Rattle.std.specs.Str.Parse.{digits_value}
 use Rattle.std.specs.Float.Numeral as byte
 use Rattle.qz_decimal.specs.declared.decimal.Digits.{Digits}
@@ -43,13 +43,14 @@ exponent_text None = []
 exponent_text (Some e) = (if e.capital then byte.upper_e else byte.lower_e) ∷ (sign_bytes e.sign ++ e.digits)
 
 abbrev pub decimal_text : DecimalParts → List ℕ
-decimal_text parts = sign_bytes parts.sign ++ (parts.whole ++ (point_text parts.decimals ++ exponent_text parts.exponent))
+decimal_text parts =
+    sign_bytes parts.sign ++ (parts.whole ++ (point_text parts.decimals ++ exponent_text parts.exponent))
 
 -- the digits on both sides of the point
 abbrev pub digits_of : DecimalParts → List ℕ
 digits_of parts = parts.whole ++ unwrap_or parts.decimals []
 
--- an exponent as powers of ten to multiply by and to divide by
+-- the powers of ten to multiply by and to divide by: without an exponent, with one, and for either
 abbrev pub no_tens : Tens
 no_tens = record { up = 0; down = 0 }
 
@@ -60,6 +61,7 @@ abbrev pub tens_of : Option Exponent → Tens
 tens_of None = no_tens
 tens_of (Some e) = signed_tens (is_minus e.sign) (digits_value 10 e.digits)
 
+-- 1 to 30 digits on both sides of the point, and 1 to 3 in an exponent
 pub record IsDecimalFormed (parts : DecimalParts) : Type 0 where
   pub digits : IsDigits 30 (digits_of parts)
   pub some_digits : 0 < length (digits_of parts)
@@ -70,7 +72,8 @@ pub record IsDecimalFormed (parts : DecimalParts) : Type 0 where
 abbrev pub is_blank : ℕ → Bool
 is_blank b = b == 32 || b == 9 || b == 10
 
--- The text spells this number of units: it is the number told, exactly, and has at most 15 whole digits.
+-- Between blanks the text spells this number of units. Its size is exactly what the digits, the
+-- point and the exponent tell, and has at most 15 whole digits.
 pub record IsDecimal (text : List ℕ) (units : ℤ) : Type 0 where
   pub before : List ℕ
   pub parts : DecimalParts
@@ -80,12 +83,15 @@ pub record IsDecimal (text : List ℕ) (units : ℤ) : Type 0 where
   pub blank_after : IsTrue (list_all is_blank after)
   pub formed : IsDecimalFormed parts
   pub size : ℕ
-  pub exact : size * 10 ^ (length (unwrap_or parts.decimals []) + (tens_of parts.exponent).down) ≡ digits_value 10 (digits_of parts) * 10 ^ (10 + (tens_of parts.exponent).up)
+  pub exact :
+      size * 10 ^ (length (unwrap_or parts.decimals []) + (tens_of parts.exponent).down)
+      ≡ digits_value 10 (digits_of parts) * 10 ^ (10 + (tens_of parts.exponent).up)
   pub small : size < 10 ^ (15 + 10)
   pub units_are : units ≡ signed (is_minus parts.sign) size
 
 -- ---- the same by reading from the left
 
+-- what follows blanks
 abbrev pub after_blanks : List ℕ → List ℕ
 after_blanks text = drop (prefix_len is_blank text) text
 
@@ -118,7 +124,9 @@ digits_in text =
 unfoldable pub tens_in : List ℕ → Option (Tens × List ℕ)
 tens_in text =
     let digits = first_digits 3 (after_sign text) in
-    if length digits == 0 then None else Some (signed_tens (has_minus text) (digits_value 10 digits), after_digits 3 (after_sign text))
+    if length digits == 0
+    then None
+    else Some (signed_tens (has_minus text) (digits_value 10 digits), after_digits 3 (after_sign text))
 
 -- the exponent, where there is one, and what follows it
 abbrev pub exponent_in : List ℕ → Option (Tens × List ℕ)
@@ -141,6 +149,7 @@ infixl 10 ◌>>=◌
 abbrev pub ◌>>=◌ : {A B : Type 0} → Option A → (A → Option B) → Option B
 o >>= f = option_and_then f o
 
+-- the whole text
 unfoldable pub decimal_in : List ℕ → Option ℤ
 decimal_in text = do
   digits ← digits_in (after_sign (after_blanks text))

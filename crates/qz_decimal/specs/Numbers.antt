@@ -1,5 +1,4 @@
--- Quotients that are rounded once, and the numbers of a quiz that they give. A mark, a max mark and a fraction are whole
--- numbers of units of 10^-7.
+-- Quotients that are rounded once, and the numbers of a quiz that they give.
 use Rattle.std.specs.Prelude.{◌≡◌, ℕ, suc, ◌+◌, ◌*◌, ◌/◌, ◌^◌, ◌≤◌, Bool, true, false, ℤ, pos, negsuc, neg_ℤ, ◌-ℤ◌, ◌*ℤ◌, ◌≤ℤ◌, unsigned_abs, int_lt, if◌then◌else◌}
 use Rattle.std.specs.Ordering.{int_eq}
 use Rattle.qz_decimal.specs.declared.tone.Tone.{Tone}
@@ -30,6 +29,7 @@ abbrev pub signed : Bool → ℕ → ℤ
 signed true size = neg_ℤ (pos size)
 signed false size = pos size
 
+-- from the least to the greatest
 abbrev pub IsWithin : ℤ → ℤ → ℤ → Type 0
 IsWithin least greatest units = (least ≤ℤ units) × (units ≤ℤ greatest)
 
@@ -73,16 +73,20 @@ share right all = nearest (pos (right * one)) all
 
 -- the fraction that a mark is of a max mark
 abbrev pub fraction_of : ℤ → ℤ → ℤ
-fraction_of mark max = if int_eq max (pos 0) then pos 0 else nearest (mark *ℤ pos one) (unsigned_abs max)
+fraction_of mark max =
+    if int_eq max (pos 0) then pos 0 else nearest (mark *ℤ pos one) (unsigned_abs max)
 
 -- a mark given out of one max mark, as a mark out of another
 abbrev pub rescale : ℤ → ℤ → ℤ → ℤ
-rescale mark given max = if int_eq given (pos 0) then pos 0 else nearest (mark *ℤ max) (unsigned_abs given)
+rescale mark given max =
+    if int_eq given (pos 0) then pos 0 else nearest (mark *ℤ max) (unsigned_abs given)
 
 -- the grade for a sum of totals and their number, where a whole total would have the quiz's grade
 abbrev pub grade_of : ℤ → ℕ → ℤ → ℤ → ℤ
-grade_of total count grade sum = if int_eq sum (pos 0) then pos 0 else nearest (total *ℤ grade) (count * unsigned_abs sum)
+grade_of total count grade sum =
+    if int_eq sum (pos 0) then pos 0 else nearest (total *ℤ grade) (count * unsigned_abs sum)
 
 -- a fraction below 0.000001 is wrong, one above 0.999999 is right, and one between is partial
 abbrev pub tone_of : ℤ → Tone
-tone_of fraction = if int_lt fraction (pos 10) then Wrong else (if int_lt (pos 9999990) fraction then Right else Partial)
+tone_of fraction =
+    if int_lt fraction (pos 10) then Wrong else (if int_lt (pos 9999990) fraction then Right else Partial)

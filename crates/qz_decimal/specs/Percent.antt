@@ -1,5 +1,5 @@
 -- What weight a text spells: a number of percent between two `%`.
-use Rattle.std.specs.Prelude.{◌≡◌, ◌≢◌, ℕ, ◌-◌, ◌*◌, Bool, true, false, ◌==◌, ◌&&◌, nat_lt, if◌then◌else◌, ℤ, pos, neg_ℤ, List, [], ◌∷◌, ◌++◌, length, take, drop, slice_index, Option, Some, None, option_and_then}
+use Rattle.std.specs.Prelude.{◌≡◌, ℕ, ◌-◌, true, ◌==◌, ◌&&◌, nat_lt, if◌then◌else◌, ℤ, pos, neg_ℤ, List, [], ◌∷◌, ◌++◌, length, take, drop, slice_index, Option, Some, None, option_and_then}
 use Rattle.std.specs.Result.{result_ok}
 use Rattle.qz_decimal.specs.declared.reading.Form.{Form}
 use Rattle.qz_decimal.specs.Numbers.{one, IsWithin}
@@ -29,5 +29,6 @@ between_percents text =
     then Some (take (length text - 2) (drop 1 text))
     else None
 
+-- the whole text
 unfoldable pub weight_in : List ℕ → Option ℤ
 weight_in text = option_and_then (λ number. result_ok (units_within percent_form (neg_ℤ (pos one)) (pos one) number)) (between_percents text)

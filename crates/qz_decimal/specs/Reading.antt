@@ -39,14 +39,15 @@ point_units places (Some decimals) = decimal_units places decimals
 
 -- the number in units of 10^-places
 abbrev pub units_of : ℕ → Parts → ℤ
-units_of places parts = signed parts.negative (digits_value 10 parts.whole * 10 ^ places + point_units places parts.decimals)
+units_of places parts =
+    signed parts.negative (digits_value 10 parts.whole * 10 ^ places + point_units places parts.decimals)
 
 -- at most so many digits
 pub record IsDigits (most : ℕ) (digits : List ℕ) : Type 0 where
   pub each : IsTrue (all_ascii_digits digits)
   pub few : length digits ≤ most
 
--- The parts are formed so: one whole digit or more, and behind a point one decimal or more, unless the point may be bare.
+-- One whole digit or more, and behind a point one decimal or more, unless the point may be bare.
 pub record IsFormed (form : Form) (parts : Parts) : Type 0 where
   pub whole : IsDigits form.whole parts.whole
   pub some_whole : 0 < length parts.whole
@@ -68,24 +69,28 @@ pub record Begins (form : Form) (front : List ℕ) : Type 0 where
   pub units : ℤ
   pub spelled : IsSpelled form (front ++ more) units
 
--- Up to the place a number's text begins. There the text ends too early, or no number's text goes on with its next byte.
+-- Up to the place a number's text begins. Then no number's text goes on with the next byte, or the
+-- text ends and is no number's.
 pub record Stuck (form : Form) (text : List ℕ) (place : ℕ) : Type 0 where
   pub so_far : Begins form (take place text)
-  pub no_further : ((place < length text) × ¬ Begins form (take (place + 1) text)) ⊎ ((place ≡ length text) × ((units : ℤ) → ¬ IsSpelled form text units))
+  pub no_further :
+      ((place < length text) × ¬ Begins form (take (place + 1) text))
+      ⊎ ((place ≡ length text) × ((units : ℤ) → ¬ IsSpelled form text units))
 
 -- ---- the texts of marks, fractions and grades
 
+-- Six whole digits, and seven decimals behind a point, or five.
 abbrev pub mark_form : Form
 mark_form = record { whole = 6; places = 7; bare_point = false }
 
 abbrev pub grade_form : Form
 grade_form = record { whole = 6; places = 5; bare_point = false }
 
--- a mark that may be written is from -100,000 to 100,000
+-- A mark that may be written is from -100,000 to 100,000
 abbrev pub IsWrittenMark : ℤ → Type 0
 IsWrittenMark = IsWithin (neg_ℤ (pos (100000 * one))) (pos (100000 * one))
 
--- and a fraction from 0 to 1
+-- a fraction from 0 to 1
 abbrev pub IsWrittenFraction : ℤ → Type 0
 IsWrittenFraction = IsWithin (pos 0) (pos one)
 
@@ -123,14 +128,20 @@ decimals_at form place text =
 -- what follows the whole digits
 unfoldable pub rest_at : Form → ℕ → ℕ → List ℕ → Result ℕ BadNumber
 rest_at form place whole [] = Ok whole
-rest_at form place whole (b ∷ rest) = if b == dot then (decimals_at form (place + 1) rest >>= λ units. Ok (whole + units)) else Err (Malformed place)
+rest_at form place whole (b ∷ rest) =
+    if b == dot
+    then (decimals_at form (place + 1) rest >>= λ units. Ok (whole + units))
+    else Err (Malformed place)
 
 -- what follows the sign
 unfoldable pub size_at : Form → ℕ → List ℕ → Result ℕ BadNumber
 size_at form place text =
     let digits = first_digits form.whole text in
-    if length digits == 0 then Err (Malformed place) else rest_at form (place + length digits) (digits_value 10 digits * 10 ^ form.places) (after_digits form.whole text)
+    if length digits == 0
+    then Err (Malformed place)
+    else rest_at form (place + length digits) (digits_value 10 digits * 10 ^ form.places) (after_digits form.whole text)
 
+-- whether a minus stands first, and what follows it
 abbrev pub has_minus : List ℕ → Bool
 has_minus [] = false
 has_minus (b ∷ rest) = b == minus
@@ -139,6 +150,7 @@ abbrev pub without_minus : List ℕ → List ℕ
 without_minus [] = []
 without_minus (b ∷ rest) = if b == minus then rest else b ∷ rest
 
+-- the units of the whole text
 unfoldable pub units_in : Form → List ℕ → Result ℤ BadNumber
 units_in form text = do
   size ← size_at form (if has_minus text then 1 else 0) (without_minus text)

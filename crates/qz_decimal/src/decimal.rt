@@ -11,10 +11,11 @@ use crate::quotient::with_sign;
 use crate::units::Decimal;
 
 impl Decimal {
-    /// Reads an optional `+` or `-`, 1 to 30 digits with at most one point among, before or after them, and optionally `e`
-    /// or `E`, an optional sign and one to three digits. Spaces, tabs and line feeds around them are dropped.
+    /// Reads an optional `+` or `-`, 1 to 30 digits with at most one point among, before or after
+    /// them, and optionally `e` or `E`, an optional sign and one to three digits. Spaces, tabs and
+    /// line feeds around all this are dropped.
     ///
-    /// The number must have at most 15 whole digits and 10 decimals, exactly: `None` is any other text.
+    /// The number has at most 15 whole digits and 10 decimals, exactly. `None` is any other text.
     pub fn read(text: &[u8]) -> Option<Decimal>
         ensures value { result ≡ decimal_in text.now }
         ensures found { (units : ℤ) → (result ≡ Some units) ↔ IsDecimal text.now units }
@@ -23,6 +24,17 @@ impl Decimal {
         read_decimal(text)
     }
 }
+
+/// At most so many digits stand before an exponent, and in one.
+const MOST_DIGITS: u32 = 30;
+
+const MOST_EXPONENT_DIGITS: u32 = 3;
+
+/// The decimals of a unit.
+const PLACES: u32 = 10;
+
+/// The digits of the greatest size: 15 whole digits and the decimals.
+const SIZE_DIGITS: u32 = 15 + PLACES;
 
 /// The digits of a number as a whole number, and how many of them stand behind the point.
 #[derive(Clone, Copy)]
@@ -48,7 +60,7 @@ fn read_decimal(text: &[u8]) -> Option<Decimal>
     if !skip_blanks(text).is_empty() {
         return None;
     }
-    let size = exact_size(digits.number, 10 + tens.up, digits.decimals + tens.down)?;
+    let size = exact_size(digits.number, PLACES + tens.up, digits.decimals + tens.down)?;
     Some(Decimal(with_sign(negative, size)))
 }
 
@@ -84,8 +96,8 @@ fn read_digits(text: &[u8]) -> Option<(Digits, &[u8])>
     ensures value { option_map (λ x. (x.0, x.1.now)) result ≡ digits_in text.now }
     ensures room { IfSome result (λ x. (x.0.number < 10 ^ 30) × (x.0.decimals ≤ 30)) }
 {
-    let (whole, rest) = split_digits(text, 30);
-    let (decimals, rest) = split_decimals(rest, 30 - whole.len() as u32);
+    let (whole, rest) = split_digits(text, MOST_DIGITS);
+    let (decimals, rest) = split_decimals(rest, MOST_DIGITS - whole.len() as u32);
     if whole.len() + decimals.len() == 0 {
         return None;
     }
@@ -138,7 +150,7 @@ fn read_tens(text: &[u8]) -> Option<(Tens, &[u8])>
     ensures room { IfSome result (λ x. (x.0.up < 1000) × (x.0.down < 1000)) }
 {
     let (negative, digits) = strip_sign(text);
-    let (digits, rest) = split_digits(digits, 3);
+    let (digits, rest) = split_digits(digits, MOST_EXPONENT_DIGITS);
     if digits.is_empty() {
         return None;
     }
@@ -178,10 +190,10 @@ fn times_tens(number: u128, tens: u32) -> Option<u128>
     ensures value { result ≡ short_size (number * 10 ^ tens) }
     ensures room { IfSome result (λ size. size < 10 ^ 25) }
 {
-    if tens > 25 {
+    if tens > SIZE_DIGITS {
         return None;
     }
-    if number >= 10u128.pow(25 - tens) {
+    if number >= 10u128.pow(SIZE_DIGITS - tens) {
         return None;
     }
     Some(number * 10u128.pow(tens))
@@ -194,12 +206,12 @@ fn over_tens(number: u128, tens: u32) -> Option<u128>
     ensures value { result ≡ short_quotient number (10 ^ tens) }
     ensures room { IfSome result (λ size. size < 10 ^ 25) }
 {
-    if tens > 30 {
+    if tens > MOST_DIGITS {
         return None;
     }
     let divisor = 10u128.pow(tens);
     let size = number / divisor;
-    if number % divisor != 0 || size >= 10u128.pow(25) {
+    if number % divisor != 0 || size >= 10u128.pow(SIZE_DIGITS) {
         return None;
     }
     Some(size)

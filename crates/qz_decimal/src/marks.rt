@@ -44,7 +44,8 @@ pub fn fraction_of(mark: Mark, max: Mark) -> Fraction
     Fraction(nearest_product(mark.0, ONE, max.0))
 }
 
-/// A mark given out of one max mark, as a mark out of another, to a unit of 10^-7; and 0 where the first max mark is 0.
+/// A mark given out of one max mark, as a mark out of another, to a unit of 10^-7. It is 0 where the
+/// first max mark is 0.
 ///
 /// The max marks are from 0 to 10,000, and the mark from 0 to the first of them.
 pub fn rescale(mark: Mark, given: Mark, max: Mark) -> Mark
@@ -60,11 +61,11 @@ pub fn rescale(mark: Mark, given: Mark, max: Mark) -> Mark
     Mark(nearest_product(mark.0, max.0, given.0))
 }
 
-/// The grade for a sum of totals and their number, to a unit of 10^-5: the quiz's grade times the mean total over the sum
-/// of the max marks. It is 0 where that sum is 0.
+/// The grade for a sum of totals and their number, to a unit of 10^-5: the quiz's grade times the
+/// mean total over the sum of the max marks. It is 0 where that last sum is 0.
 ///
-/// The total is in units of 10^-7. A mean total is from -12,000,000 to 12,000,000, the quiz's grade from 0 to 10,000 and
-/// the sum of the max marks from 0 to 2,000,000.
+/// The total is in units of 10^-7. The mean total is from -12,000,000 to 12,000,000, the quiz's
+/// grade from 0 to 10,000, and the sum of the max marks from 0 to 2,000,000.
 pub fn grade_of(total: i128, count: u32, grade: Grade, sum: Mark) -> Grade
     requires count { 0 < count }
     requires total { unsigned_abs total ≤ count * (12000000 * one) }

@@ -10,23 +10,25 @@ use crate::units::{Fraction, Grade, Mark};
 /// Why a text is no number.
 #[derive(Clone, Copy, PartialEq, Eq, Debug)]
 pub enum BadNumber {
-    /// No number is written so. The place is that of the first byte with which no number goes on, or the text's
-    /// length where it ends too early.
+    /// No number is written so. The place is that of the first byte with which no number goes on,
+    /// or the text's length where it ends too early.
     Malformed { place: u32 },
     /// A number is written so, but it is too small or too great.
     Range,
 }
 
 impl Mark {
-    /// Reads an optional `-`, one to six digits, and optionally a point and one to seven digits. The mark is from
-    /// -100,000 to 100,000.
+    /// Reads an optional `-`, one to six digits, and optionally a point and one to seven digits.
+    /// The mark is from -100,000 to 100,000.
     pub fn read(text: &[u8]) -> Result<Mark, BadNumber>
         ensures value { result ≡ mark_in text.now }
-        ensures found { (units : ℤ) → (result ≡ Ok units) ↔ (IsSpelled mark_form text.now units × IsWrittenMark units) }
-        ensures malformed { (place : ℕ) → (result ≡ Err (BadNumber.Malformed place)) ↔ Stuck mark_form text.now place }
+        ensures found { (units : ℤ) →
+            (result ≡ Ok units) ↔ (IsSpelled mark_form text.now units × IsWrittenMark units) }
+        ensures malformed { (place : ℕ) →
+            (result ≡ Err (BadNumber.Malformed place)) ↔ Stuck mark_form text.now place }
         ensures range { (result ≡ Err BadNumber.Range) ↔ SpellsOther mark_form IsWrittenMark text.now }
     {
-        let units = read_within(text, MARK_FORM, -1_000_000_000_000, 1_000_000_000_000)?;
+        let units = read_within(text, MARK_FORM, -GREATEST_MARK, GREATEST_MARK)?;
         Ok(Mark(units as i64))
     }
 }
@@ -35,11 +37,13 @@ impl Fraction {
     /// Reads a number in the form of a mark, from 0 to 1.
     pub fn read(text: &[u8]) -> Result<Fraction, BadNumber>
         ensures value { result ≡ fraction_in text.now }
-        ensures found { (units : ℤ) → (result ≡ Ok units) ↔ (IsSpelled mark_form text.now units × IsWrittenFraction units) }
-        ensures malformed { (place : ℕ) → (result ≡ Err (BadNumber.Malformed place)) ↔ Stuck mark_form text.now place }
+        ensures found { (units : ℤ) →
+            (result ≡ Ok units) ↔ (IsSpelled mark_form text.now units × IsWrittenFraction units) }
+        ensures malformed { (place : ℕ) →
+            (result ≡ Err (BadNumber.Malformed place)) ↔ Stuck mark_form text.now place }
         ensures range { (result ≡ Err BadNumber.Range) ↔ SpellsOther mark_form IsWrittenFraction text.now }
     {
-        let units = read_within(text, MARK_FORM, 0, 10_000_000)?;
+        let units = read_within(text, MARK_FORM, 0, WHOLE_FRACTION)?;
         Ok(Fraction(units as i64))
     }
 }
@@ -48,13 +52,24 @@ impl Grade {
     /// Reads a number in the form of a mark with at most five decimals, from 0 to 10,000.
     pub fn read(text: &[u8]) -> Result<Grade, BadNumber>
         ensures value { result ≡ grade_in text.now }
-        ensures found { (units : ℤ) → (result ≡ Ok units) ↔ (IsSpelled grade_form text.now units × IsQuizGrade units) }
-        ensures malformed { (place : ℕ) → (result ≡ Err (BadNumber.Malformed place)) ↔ Stuck grade_form text.now place }
+        ensures found { (units : ℤ) →
+            (result ≡ Ok units) ↔ (IsSpelled grade_form text.now units × IsQuizGrade units) }
+        ensures malformed { (place : ℕ) →
+            (result ≡ Err (BadNumber.Malformed place)) ↔ Stuck grade_form text.now place }
         ensures range { (result ≡ Err BadNumber.Range) ↔ SpellsOther grade_form IsQuizGrade text.now }
     {
-        Ok(Grade(read_within(text, GRADE_FORM, 0, 1_000_000_000)?))
+        Ok(Grade(read_within(text, GRADE_FORM, 0, GREATEST_GRADE)?))
     }
 }
+
+/// The units in a mark of 100,000.
+const GREATEST_MARK: i128 = 1_000_000_000_000;
+
+/// The units in a fraction of 1.
+pub(crate) const WHOLE_FRACTION: i128 = 10_000_000;
+
+/// The units in a grade of 10,000.
+const GREATEST_GRADE: i128 = 1_000_000_000;
 
 /// Six whole digits, and seven decimals behind a point.
 const MARK_FORM: Form = Form {

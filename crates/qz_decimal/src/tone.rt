@@ -4,7 +4,7 @@ ghost use Rattle.qz_decimal.specs.Numbers.{tone_of};
 
 use crate::units::Fraction;
 
-/// How right a response is.
+/// How right a response is by its fraction.
 #[derive(Clone, Copy, PartialEq, Eq, Debug)]
 pub enum Tone {
     /// The fraction is below 0.000001.
@@ -15,7 +15,7 @@ pub enum Tone {
     Right,
 }
 
-/// How right a fraction is.
+/// How right a fraction is, with the bounds of Moodle's question engine.
 pub fn tone_of(fraction: Fraction) -> Tone
     ensures { result ≡ tone_of fraction }
 {

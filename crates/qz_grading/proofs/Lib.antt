@@ -1,3 +1,4 @@
 pub mod AnswersLemmas
+pub mod DigitLemmas
 pub mod StepLemmas
 pub mod WeightLemmas

@@ -1,5 +1,5 @@
 -- What comes of a list of steps under each behaviour, as closed forms over the list.
-use Rattle.std.specs.Prelude.{ℕ, ◌+◌, ◌-◌, Bool, true, false, not, ◌&&◌, ◌||◌, ◌==◌, nat_lt, nat_le, if◌then◌else◌, List, [], ◌∷◌, ◌++◌, length, map, filter, fold, find, filter_map, Option, Some, None, is_some, unwrap_or, option_map, ℤ, pos, neg_ℤ, ◌-ℤ◌, ◌*ℤ◌, int_lt}
+use Rattle.std.specs.Prelude.{ℕ, ◌+◌, ◌-◌, Bool, true, false, not, ◌&&◌, ◌||◌, ◌==◌, nat_lt, if◌then◌else◌, List, [], ◌∷◌, ◌++◌, length, map, filter, fold, find, filter_map, Option, Some, None, is_some, unwrap_or, option_map, ℤ, pos, neg_ℤ, ◌-ℤ◌, ◌*ℤ◌, int_lt}
 use Rattle.std.specs.List.{enumerate_from}
 use Rattle.std.specs.Int.{int_max}
 use Rattle.qz_grading.specs.declared.outcome.Behaviour.{Behaviour}

@@ -1,5 +1,5 @@
 -- Which answers fit a question, which are complete, and what each is worth, by cases on the kind.
-use Rattle.std.specs.Prelude.{ℕ, ◌+◌, ◌-◌, Bool, true, false, not, ◌&&◌, ◌||◌, ◌==◌, nat_lt, nat_le, if◌then◌else◌, List, [], ◌∷◌, length, map, filter, find, zip, fold, count_by, Option, Some, None, is_some, unwrap_or, option_map, slice_get, ℤ, pos, ◌+ℤ◌, ◌-ℤ◌, int_lt, int_le, bytes_eq}
+use Rattle.std.specs.Prelude.{ℕ, ◌-◌, Bool, true, false, not, ◌&&◌, ◌||◌, ◌==◌, nat_lt, nat_le, if◌then◌else◌, List, [], ◌∷◌, length, map, filter, find, zip, fold, count_by, Option, None, is_some, unwrap_or, option_map, slice_get, ℤ, pos, ◌+ℤ◌, ◌-ℤ◌, int_lt, int_le, bytes_eq}
 use Rattle.std.specs.List.{list_any, list_all}
 use Rattle.qz_decimal.specs.Decimals.{decimal_in}
 use Rattle.qz_decimal.specs.Numbers.{one, share}

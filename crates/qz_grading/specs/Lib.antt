@@ -5,3 +5,6 @@ pub mod Behaviours
 pub mod Slots
 pub mod Words
 pub mod Examples
+pub mod Shapes
+pub mod Canonical
+pub mod ExamplesCanonical

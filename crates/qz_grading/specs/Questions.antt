@@ -53,30 +53,57 @@ least_parts k = 0
 abbrev pub are_weighed : List Choice → Bool
 are_weighed choices = list_all (λ (c : Choice). is_weight c.weight) choices
 
+abbrev pub are_weighed_shorts : List Short → Bool
+are_weighed_shorts answers = list_all (λ (a : Short). is_weight a.weight) answers
+
+abbrev pub are_weighed_extents : List Num → Bool
+are_weighed_extents answers = list_all (λ (a : Num). is_weight a.weight && is_extent a.extent) answers
+
 abbrev pub has_numbers_in_range : Kind → Bool
 has_numbers_in_range (kind.One choices) = are_weighed choices
 has_numbers_in_range (kind.Several choices) = are_weighed choices
-has_numbers_in_range (kind.ShortAnswer answers) = list_all (λ (a : Short). is_weight a.weight) answers
-has_numbers_in_range (kind.Numerical answers) = list_all (λ (a : Num). is_weight a.weight && is_extent a.extent) answers
+has_numbers_in_range (kind.ShortAnswer answers) = are_weighed_shorts answers
+has_numbers_in_range (kind.Numerical answers) = are_weighed_extents answers
 has_numbers_in_range k = true
 
--- no choice, answer or pattern is blank
+abbrev pub no_blank_choice : List Choice → Bool
+no_blank_choice choices = list_all (λ (c : Choice). not (is_blank c.text.text)) choices
+
+abbrev pub no_blank_answer : List Pair → Bool
+no_blank_answer pairs = list_all (λ (p : Pair). not (is_blank p.answer)) pairs
+
+abbrev pub no_blank_pattern : List Short → Bool
+no_blank_pattern answers = list_all (λ (a : Short). not (is_blank a.pattern)) answers
+
 abbrev pub has_no_blank : Kind → Bool
-has_no_blank (kind.One choices) = list_all (λ (c : Choice). not (is_blank c.text.text)) choices
-has_no_blank (kind.Several choices) = list_all (λ (c : Choice). not (is_blank c.text.text)) choices
-has_no_blank (kind.Matching pairs) = list_all (λ (p : Pair). not (is_blank p.answer)) pairs
-has_no_blank (kind.ShortAnswer answers) = list_all (λ (a : Short). not (is_blank a.pattern)) answers
+has_no_blank (kind.One choices) = no_blank_choice choices
+has_no_blank (kind.Several choices) = no_blank_choice choices
+has_no_blank (kind.Matching pairs) = no_blank_answer pairs
+has_no_blank (kind.ShortAnswer answers) = no_blank_pattern answers
 has_no_blank k = true
 
--- where one choice is to be picked, some choice is wholly right
+-- some choice is wholly right
+abbrev pub some_choice_right : List Choice → Bool
+some_choice_right choices = list_any (λ (c : Choice). int_eq c.weight (pos one)) choices
+
+-- which is needed where one choice is to be picked
 abbrev pub has_right_choice : Kind → Bool
-has_right_choice (kind.One choices) = list_any (λ (c : Choice). int_eq c.weight (pos one)) choices
+has_right_choice (kind.One choices) = some_choice_right choices
 has_right_choice k = true
 
 -- a matching question has a stem
 abbrev pub has_stem : Kind → Bool
 has_stem (kind.Matching pairs) = nat_lt 0 (length (stems pairs))
 has_stem k = true
+
+-- a kind has neither too many parts nor too few, and each is as it must be
+pub record IsSound (k : Kind) : Type 0 where
+  pub few : parts k ≤ 64
+  pub enough : least_parts k ≤ parts k
+  pub numbers : IsTrue (has_numbers_in_range k)
+  pub no_blank : IsTrue (has_no_blank k)
+  pub right_choice : IsTrue (has_right_choice k)
+  pub stem : IsTrue (has_stem k)
 
 -- ---- texts, whose lengths are in bytes
 
@@ -95,15 +122,10 @@ texts q = q.name ∷ q.text.text ∷ q.general.text ∷ kind_texts q.kind
 abbrev pub are_no_longer : ℕ → List (List ℕ) → Bool
 are_no_longer most ts = list_all (λ t. nat_le (length t) most) ts
 
--- ---- the condition on questions
+-- ---- the condition on questions in general
 
 pub record IsQuestion (q : Question) : Type 0 where
-  pub few : parts q.kind ≤ 64
-  pub enough : least_parts q.kind ≤ parts q.kind
-  pub numbers : IsTrue (has_numbers_in_range q.kind)
-  pub no_blank : IsTrue (has_no_blank q.kind)
-  pub right_choice : IsTrue (has_right_choice q.kind)
-  pub stem : IsTrue (has_stem q.kind)
+  pub kind : IsSound q.kind
   pub penalty : IsWrittenFraction q.penalty
   pub lengths : IsTrue (are_no_longer 65536 (texts q))
   pub few_hints : length q.hints ≤ 20

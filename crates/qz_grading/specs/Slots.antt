@@ -1,5 +1,5 @@
 -- One slot: the state and the mark that it shows, and why a step on it is refused.
-use Rattle.std.specs.Prelude.{ℕ, Bool, true, false, not, ◌&&◌, ◌||◌, nat_le, if◌then◌else◌, List, [], ◌∷◌, length, filter, filter_map, Option, Some, None, unwrap_or, option_map, ℤ, pos, int_lt}
+use Rattle.std.specs.Prelude.{ℕ, Bool, false, not, ◌&&◌, ◌||◌, nat_le, List, [], ◌∷◌, length, filter, filter_map, Option, Some, unwrap_or, option_map, ℤ, pos, int_lt}
 use Rattle.qz_decimal.specs.Numbers.{mark_of, fraction_of, rescale}
 use Rattle.qz_grading.specs.declared.outcome.Behaviour.{Behaviour}
 use Rattle.qz_grading.specs.declared.outcome.State.{State}

@@ -16,11 +16,10 @@ use qz_text::Typed;
 pub fn fits(question: &Question, response: &Response, behaviour: Behaviour) -> bool
     ensures { result ≡ fits question.now response.now behaviour }
 {
-    answer_fits(&question.kind, &response.answer)
-        && certainty_fits(behaviour, response.certainty)
+    answer_fits(&question.kind, &response.answer) && certainty_fits(behaviour, response.certainty)
 }
 
-fn answer_fits(kind: &Kind, answer: &Answer) -> bool
+pub(crate) fn answer_fits(kind: &Kind, answer: &Answer) -> bool
     ensures { result ≡ answer_fits kind.now answer.now }
 {
     match (kind, answer) {

@@ -18,11 +18,7 @@ use std::sync::ledger::Ledger;
 /// True-false is all or nothing. A single choice earns its weight, several choices the sum of their weights cut to 0 and 1, a
 /// matching question the share of right stems, and a typed answer the weight of the first answer in order that it fits, or 0.
 /// Essays and descriptions earn 0. Moodle's documentation has a page for each question type.
-pub fn grade<L: Ledger>(
-    question: &Question,
-    response: &Response,
-    steps: &mut Steps<L>,
-) -> Fraction
+pub fn grade<L: Ledger>(question: &Question, response: &Response, steps: &mut Steps<L>) -> Fraction
     requires question { IsQuestion question.now }
     requires fits { IsTrue (answer_fits question.now.kind response.now.answer) }
     ensures value { result ≡ grade question.now response.now }
@@ -33,7 +29,7 @@ pub fn grade<L: Ledger>(
     grade_answer(&question.kind, &response.answer)
 }
 
-fn grade_answer(kind: &Kind, answer: &Answer) -> Fraction
+pub(crate) fn grade_answer(kind: &Kind, answer: &Answer) -> Fraction
     requires few { parts kind.now ≤ 64 }
     requires numbers { IsTrue (has_numbers_in_range kind.now) }
     requires stem { IsTrue (has_stem kind.now) }

@@ -10,6 +10,7 @@ mod question;
 mod refusal;
 mod response;
 mod shape;
+mod sound;
 mod spelled;
 mod weights;
 mod words;
@@ -24,4 +25,8 @@ pub use question::{
 pub use refusal::{AttemptId, Refusal, Thing};
 pub use response::{Answer, Response, Step};
 pub use shape::shape_of;
+pub use sound::is_sound;
 pub use spelled::Spelled;
+
+#[cfg(test)]
+mod tests;

@@ -13,7 +13,7 @@ use crate::Pair;
 use qz_text::Text;
 
 /// Whether a text of a question is blank. Its white space is space, tab and line feed.
-fn is_blank(text: &Text) -> bool
+pub(crate) fn is_blank(text: &Text) -> bool
     ensures { result ≡ is_blank text.now }
 {
     text.as_bytes()
@@ -26,7 +26,10 @@ pub(crate) fn stem_count(pairs: &[Pair]) -> usize
     ensures value { result ≡ length (stems pairs.now) }
     ensures few { result ≤ length pairs.now }
 {
-    pairs.iter().filter(|pair| !is_blank(&pair.stem.text)).count()
+    pairs
+        .iter()
+        .filter(|pair| !is_blank(&pair.stem.text))
+        .count()
 }
 
 /// Whether one of these pairs has the answer.

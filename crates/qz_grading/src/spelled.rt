@@ -1,9 +1,10 @@
-//! How marks are spelled.
+//! How marks, grades and numbers are spelled.
 
-ghost use Rattle.std.specs.Prelude.{◌≡◌, ◌++◌, List, ℕ, OnOk, IfOk, string_bytes};
-ghost use Rattle.qz_grading.specs.Words.{mark_text, units_text};
+ghost use Rattle.std.specs.Prelude.{◌≡◌, ◌^◌, ◌<◌, ◌++◌, List, ℕ, OnOk, IfOk, string_bytes, codes};
+ghost use Rattle.qz_decimal.specs.Reading.{sign_text};
+ghost use Rattle.qz_grading.specs.Words.{mark_text, units_text, grade_text, grade_units_text, number_text, size_text, without_zeros, in_digits};
 
-use qz_decimal::Mark;
+use qz_decimal::{Decimal, Grade, Mark};
 use qz_text::{NoMemory, Text};
 use std::alloc::Global;
 
@@ -21,7 +22,22 @@ pub trait Spelled {
         ensures { IfOk result (λ text. text ≡ spelling self) };
 }
 
+/// The units in a mark, a grade and a number of 1.
 const UNITS: u64 = 10_000_000;
+
+const GRADE_UNITS: u128 = 100_000;
+
+const NUMBER_UNITS: u128 = 10_000_000_000;
+
+/// A minus before a number below 0.
+fn sign_onto(out: &mut String, negative: bool) -> Result<(), NoMemory>
+    ensures { OnOk result (string_bytes out.new ≡ string_bytes out.old ++ sign_text negative) }
+{
+    if negative {
+        out.push_str("-")?;
+    }
+    Ok(())
+}
 
 /// The whole part, a point and seven decimals.
 fn units_onto(out: &mut String, units: u64) -> Result<(), NoMemory>
@@ -38,10 +54,81 @@ impl Spelled for Mark {
     ghost spelling = { mark_text };
 
     fn spell_onto(self, out: &mut String) -> Result<(), NoMemory> {
-        if self.0 < 0 {
-            out.push_str("-")?;
-        }
+        sign_onto(out, self.0 < 0)?;
         units_onto(out, self.0.unsigned_abs())
+    }
+
+    fn text(self, alloc: Global) -> Result<Text, NoMemory> {
+        let mut items = String::new(alloc);
+        self.spell_onto(&mut items)?;
+        Ok(Text { items })
+    }
+}
+
+/// The whole part, a point and five decimals.
+fn grade_units_onto(out: &mut String, units: u128) -> Result<(), NoMemory>
+    ensures { OnOk result (string_bytes out.new ≡ string_bytes out.old ++ grade_units_text units) }
+{
+    let whole = units / GRADE_UNITS;
+    let part = (units % GRADE_UNITS) as u64;
+    write!(out, "{whole}.{part:05}")?;
+    Ok(())
+}
+
+/// An optional `-`, the whole part, a point and five decimals, as `7.25000`.
+impl Spelled for Grade {
+    ghost spelling = { grade_text };
+
+    fn spell_onto(self, out: &mut String) -> Result<(), NoMemory> {
+        sign_onto(out, self.0 < 0)?;
+        grade_units_onto(out, self.0.unsigned_abs())
+    }
+
+    fn text(self, alloc: Global) -> Result<Text, NoMemory> {
+        let mut items = String::new(alloc);
+        self.spell_onto(&mut items)?;
+        Ok(Text { items })
+    }
+}
+
+/// A point and decimals, of which the last isn't zero.
+fn decimals_onto(out: &mut String, part: u64) -> Result<(), NoMemory>
+    requires some { 0 < part }
+    requires ten { part < 10 ^ 10 }
+    ensures { OnOk result (string_bytes out.new
+        ≡ string_bytes out.old ++ (codes "." ++ without_zeros (in_digits 10 part))) }
+{
+    let mut digits = part;
+    let mut places: usize = 10;
+    while digits % 10 == 0 {
+        digits /= 10;
+        places -= 1;
+    }
+    write!(out, ".{digits:0places$}")?;
+    Ok(())
+}
+
+/// The whole part, and the decimals where there are any.
+fn size_onto(out: &mut String, units: u128) -> Result<(), NoMemory>
+    ensures { OnOk result (string_bytes out.new ≡ string_bytes out.old ++ size_text units) }
+{
+    let whole = units / NUMBER_UNITS;
+    let part = (units % NUMBER_UNITS) as u64;
+    write!(out, "{whole}")?;
+    if part == 0 {
+        return Ok(());
+    }
+    decimals_onto(out, part)
+}
+
+/// An optional `-`, the whole part, and where the rest isn't zero a point and the decimals without zeros at their end, as
+/// `-0.05`.
+impl Spelled for Decimal {
+    ghost spelling = { number_text };
+
+    fn spell_onto(self, out: &mut String) -> Result<(), NoMemory> {
+        sign_onto(out, self.0 < 0)?;
+        size_onto(out, self.0.unsigned_abs())
     }
 
     fn text(self, alloc: Global) -> Result<Text, NoMemory> {

@@ -1,12 +1,9 @@
 //! What answers are worth.
 
 ghost use Rattle.std.specs.Prelude.{◌≡◌, ◌≤◌, ◌&&◌, length, fold, map, pos, neg_ℤ, ◌+ℤ◌, ◌-ℤ◌, int_le, IsTrue, if◌then◌else◌};
-ghost use Rattle.std.specs.List.{list_all};
 ghost use Rattle.qz_decimal.specs.Numbers.{one, IsWithin};
-ghost use Rattle.qz_grading.specs.declared.question.Num.{Num};
-ghost use Rattle.qz_grading.specs.declared.question.Short.{Short};
 ghost use Rattle.qz_grading.specs.Grading.{weight_at, clamped, short_weight, takes_number, number_weight, numerical_weight};
-ghost use Rattle.qz_grading.specs.Questions.{are_weighed, is_weight, is_short_number, is_extent};
+ghost use Rattle.qz_grading.specs.Questions.{are_weighed, are_weighed_shorts, are_weighed_extents, is_short_number, is_extent};
 
 use crate::{Choice, Extent, Num, Short};
 use qz_decimal::{Decimal, Fraction};
@@ -62,7 +59,7 @@ pub(crate) fn weight_of_picked(choices: &[Choice], places: &[u8]) -> Fraction
 
 /// The weight of the first answer whose pattern the typed text fits, or 0.
 pub(crate) fn short_weight(answers: &[Short], typed: &Typed) -> Fraction
-    requires { IsTrue (list_all (λ (a : Short). is_weight a.weight) answers.now) }
+    requires { IsTrue (are_weighed_shorts answers.now) }
     ensures value { result ≡ short_weight answers.now typed.now }
     ensures within { IsWithin (neg_ℤ (pos one)) (pos one) result }
 {
@@ -100,7 +97,7 @@ fn is_within(low: i128, high: i128, number: i128) -> bool
 
 /// The weight of the first answer whose extent takes the number, or 0.
 fn number_weight(answers: &[Num], number: Decimal) -> Fraction
-    requires { IsTrue (list_all (λ (a : Num). is_weight a.weight && is_extent a.extent) answers.now) }
+    requires { IsTrue (are_weighed_extents answers.now) }
     ensures value { result ≡ number_weight answers.now number }
     ensures within { IsWithin (neg_ℤ (pos one)) (pos one) result }
 {
@@ -114,7 +111,7 @@ fn number_weight(answers: &[Num], number: Decimal) -> Fraction
 
 /// The weight of the first answer whose extent takes the number typed, or 0.
 pub(crate) fn numerical_weight(answers: &[Num], typed: &Typed) -> Fraction
-    requires { IsTrue (list_all (λ (a : Num). is_weight a.weight && is_extent a.extent) answers.now) }
+    requires { IsTrue (are_weighed_extents answers.now) }
     ensures value { result ≡ numerical_weight answers.now typed.now }
     ensures within { IsWithin (neg_ℤ (pos one)) (pos one) result }
 {

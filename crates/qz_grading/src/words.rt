@@ -1,9 +1,9 @@
-//! The words that states are told by.
+//! The words that states, behaviours and kinds are told by.
 
 ghost use Rattle.std.specs.Prelude.{◌≡◌};
-ghost use Rattle.qz_grading.specs.Words.{state_word};
+ghost use Rattle.qz_grading.specs.Words.{state_word, behaviour_word, kind_word};
 
-use crate::State;
+use crate::{Behaviour, Shape, State};
 
 impl State {
     /// The state's name in lower case without a break.
@@ -23,6 +23,43 @@ impl State {
             State::MangrWrong => "mangrwrong",
             State::MangrPartial => "mangrpartial",
             State::MangrRight => "mangrright",
+        }
+    }
+}
+
+impl Behaviour {
+    /// The behaviour's name in lower case without a break, as Moodle names its plugin.
+    pub fn word(self) -> &'static str
+        ensures { result.now ≡ behaviour_word self }
+    {
+        match self {
+            Behaviour::Deferred => "deferredfeedback",
+            Behaviour::Immediate => "immediatefeedback",
+            Behaviour::Interactive => "interactive",
+            Behaviour::Adaptive => "adaptive",
+            Behaviour::AdaptiveNoPenalty => "adaptivenopenalty",
+            Behaviour::DeferredCbm => "deferredcbm",
+            Behaviour::ImmediateCbm => "immediatecbm",
+            Behaviour::Manual => "manualgraded",
+            Behaviour::Information => "informationitem",
+        }
+    }
+}
+
+impl Shape {
+    /// The word of the kind.
+    pub fn kind_word(self) -> &'static str
+        ensures { result.now ≡ kind_word self.kind }
+    {
+        match self.kind {
+            0 => "description",
+            1 => "essay",
+            2 => "truefalse",
+            3 => "choice",
+            4 => "choices",
+            5 => "match",
+            6 => "shortanswer",
+            _ => "numerical",
         }
     }
 }

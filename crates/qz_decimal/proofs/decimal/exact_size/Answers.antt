@@ -1,4 +1,4 @@
-use Rattle.std.proofs.Common.{◌≡◌, ◌∙◌, sym, arith}
+use Rattle.std.proofs.Common.{◌∙◌, sym, arith}
 use Rattle.qz_decimal.proofs.Scales.{exact_size-up, exact_size-down}
 use Rattle.qz_decimal.proofs.decimal.exact_size.Goals as goal
 

@@ -11,7 +11,7 @@ use Rattle.qz_decimal.proofs.decimal.skip_blanks.Goals.{After-count-count}
 counted : (c : After-count-count) → c.count-count.result ≡ prefix_len is_blank c.args.text.now
 counted c =
     count_from_yields_List c.take_while.result c.count-count.result c.count-count.ensures.ran
-      (YieldsList-from_take_while _ is_blank (YieldsList-from_slice c.args.text.now (search rules)) c.take_while.ensures.closure c.take_while.ensures.done (λ x b q k. search (rules, tests)))
+    (YieldsList-from_take_while _ is_blank (YieldsList-from_slice c.args.text.now (search rules)) c.take_while.ensures.closure c.take_while.ensures.done (λ x b q k. search (rules, tests)))
     ∙ length-prefix_len is_blank c.args.text.now
 
 pub returns : goal.returns

@@ -1,4 +1,4 @@
-use Rattle.std.proofs.Common.{◌≡◌, rules}
+use Rattle.std.proofs.Common.{rules}
 use Rattle.qz_decimal.proofs.Nearest.{divided}
 use Rattle.qz_decimal.proofs.marks.fraction_of.Goals as goal
 

@@ -1,4 +1,4 @@
-use Rattle.std.proofs.Common.{◌≡◌, FitsSigned, rules, arith}
+use Rattle.std.proofs.Common.{rules, arith}
 use Rattle.std.specs.Int.{w64}
 use Rattle.std.proofs.lemmas.Int.{ints, fits_signed_from_abs}
 use Rattle.qz_decimal.proofs.Nearest.{divided, shown, rescale-room}

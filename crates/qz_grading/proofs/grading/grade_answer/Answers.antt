@@ -1,4 +1,4 @@
-use Rattle.std.proofs.Common.{◌≡◌, ◌≤◌, Bool, true, List, ℕ, length, ap, ◌∙◌, arith}
+use Rattle.std.proofs.Common.{◌≡◌, ◌≤◌, true, List, ℕ, length, ap, ◌∙◌, arith}
 use Rattle.qz_grading.specs.declared.question.Pair.{Pair}
 use Rattle.qz_grading.specs.declared.question.Kind.TheVariants as kind
 use Rattle.qz_grading.specs.declared.response.Answer.TheVariants as answer
@@ -15,6 +15,6 @@ weight_of_picked-requires-clause-few c =
 pub returns-in-Matching-Match-clause-value : goal.returns-in-Matching-Match-clause-value
 returns-in-Matching-Match-clause-value c =
     rw (c.in-Matching-Match.is-0, c.in-Matching-Match.is-1) (
-        c.share_of_right.ensures.value
-        ∙ ap (λ (pairs : List Pair). grade_answer (kind.Matching pairs) (answer.Match c.as_slice-in-Matching-Match-2.result.now)) c.as_slice-in-Matching-Match.ensures
-        ∙ ap (λ (chosen : List ℕ). grade_answer (kind.Matching c.in-Matching-Match.pairs) (answer.Match chosen)) c.as_slice-in-Matching-Match-2.ensures)
+    c.share_of_right.ensures.value
+    ∙ ap (λ (pairs : List Pair). grade_answer (kind.Matching pairs) (answer.Match c.as_slice-in-Matching-Match-2.result.now)) c.as_slice-in-Matching-Match.ensures
+    ∙ ap (λ (chosen : List ℕ). grade_answer (kind.Matching c.in-Matching-Match.pairs) (answer.Match chosen)) c.as_slice-in-Matching-Match-2.ensures)

@@ -1,4 +1,4 @@
-use Rattle.std.proofs.Common.{◌<◌, ◌≤◌, length, arith}
+use Rattle.std.proofs.Common.{◌<◌, length, arith}
 use Rattle.std.proofs.lemmas.Bool.{ltb-true}
 use Rattle.qz_grading.specs.Grading.{stems}
 use Rattle.qz_grading.proofs.WeightLemmas.{share_within}

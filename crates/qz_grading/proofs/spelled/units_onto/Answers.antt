@@ -1,9 +1,9 @@
 -- Seven digits of the part, with zeros in front.
-use Rattle.std.proofs.Common.{◌≡◌, ◌++◌, ◌%◌, ◌-◌, List, ℕ, length, replicate, refl, sym, ap, append_assoc, ◌∙◌, string_bytes, ◌/◌, ◌∷◌}
+use Rattle.std.proofs.Common.{◌≡◌, ◌++◌, ◌%◌, List, ℕ, refl, sym, ap, append_assoc, ◌∙◌, string_bytes, ◌/◌, ◌∷◌}
 use Rattle.std.specs.Prelude.{codes}
 use Rattle.std.proofs.Padding.{padded_integral_zeros}
 use Rattle.std.specs.Fmt.{decimal, styled_decimal, format_spec}
-use Rattle.qz_grading.specs.Words.{units_text, in_digits}
+use Rattle.qz_grading.specs.Words.{in_digits}
 use Rattle.qz_grading.proofs.spelled.units_onto.Goals as goal
 
 seven : (n : ℕ) → styled_decimal (format_spec 32 0 4 7 18446744073709551615) n ≡ in_digits 7 n

@@ -1,5 +1,5 @@
-use Rattle.std.proofs.Common.{◌≡◌, true, false, Some, None, Option, ℤ, pos, ap, sym, ◌∙◌}
-use Rattle.std.specs.Prelude.{find, unwrap_or, option_map}
+use Rattle.std.proofs.Common.{◌≡◌, true, false, Option, pos, ap, sym}
+use Rattle.std.specs.Prelude.{unwrap_or, option_map}
 use Rattle.qz_grading.specs.declared.question.Num.{Num}
 use Rattle.qz_grading.specs.Grading.{takes_number}
 use Rattle.qz_grading.proofs.WeightLemmas.{find_more, find_here}

@@ -1,4 +1,4 @@
-use Rattle.std.proofs.Common.{◌≡◌, take, Option, None}
+use Rattle.std.proofs.Common.{◌≡◌, take, None}
 use Rattle.std.specs.Prelude.{find}
 use Rattle.qz_grading.specs.declared.question.Num.{Num}
 use Rattle.qz_grading.specs.Grading.{takes_number}

@@ -1,4 +1,4 @@
-use Rattle.std.proofs.Common.{◌≡◌, ◌+◌, ◌≤ℤ◌, pos, neg_ℤ, arith}
+use Rattle.std.proofs.Common.{arith}
 use Rattle.std.proofs.lemmas.Int.{ints, to_z-of_z}
 use Rattle.qz_grading.proofs.WeightLemmas.{sum_more}
 use Rattle.qz_grading.proofs.weights.sum_of_weights.Goals as goal

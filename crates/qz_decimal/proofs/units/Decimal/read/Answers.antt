@@ -1,4 +1,3 @@
-use Rattle.qz_decimal.specs.Decimals.{IsDecimal}
 use Rattle.qz_decimal.proofs.DecimalTexts.{decimal-found, decimal-none}
 use Rattle.qz_decimal.proofs.units.Decimal.read.Goals as goal
 

@@ -1,4 +1,3 @@
-use Rattle.qz_decimal.specs.Percent.{IsWeight}
 use Rattle.qz_decimal.proofs.Weights.{weight-found, weight-none}
 use Rattle.qz_decimal.proofs.units.Fraction.of_percent.Goals as goal
 

@@ -1,0 +1,4 @@
+pub mod Passing
+pub mod Breaks
+pub mod Fronts
+pub mod GatherLemmas

@@ -1,0 +1,12 @@
+use Rattle.std.proofs.Common.{eqb, refl, ap, ◌∙◌}
+use Rattle.std.specs.Prelude.{codes}
+use Rattle.std.specs.List.{starts_with}
+use Rattle.std.proofs.lemmas.Str.Pattern.{starts_text}
+use Rattle.gift_lex.proofs.Fronts.{starts_with-chars}
+use Rattle.gift_lex.proofs.lines.is_category.Goals as goal
+
+pub returns : goal.returns
+returns c =
+    starts_text c.starts_with.result (codes "$CATEGORY:") c.unindented.result.now c.starts_with.ensures.cases
+    ∙ starts_with-chars c.unindented.result.now (codes "$CATEGORY:") c.unindented.utf8 refl
+    ∙ ap (λ cs. starts_with eqb cs (codes "$CATEGORY:")) c.unindented.ensures

@@ -1,0 +1,15 @@
+//! The lexer of GIFT, Moodle's text format for question banks: the blocks of a text, and the marks of each.
+#![tactic(auto)]
+
+mod block;
+mod characters;
+mod gathering;
+mod lexer;
+mod lines;
+mod marks;
+
+pub use block::{Block, Piece};
+pub use lexer::{LexFault, blocks};
+
+#[cfg(test)]
+mod tests;

@@ -1,0 +1,3 @@
+pub mod MoreSteps
+pub mod OneMore
+pub mod MachineLemmas

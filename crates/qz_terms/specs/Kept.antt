@@ -1,0 +1,104 @@
+-- What every record keeps: the ranges of its numbers, the lengths of its texts, and the conditions on its questions. Names,
+-- tokens, keys and the max marks that are asked for have no test here. Bytes of anything else spell no record.
+use Rattle.std.specs.List.{list_all}
+use Rattle.std.specs.Prelude.{◌≡◌, ℕ, ◌*◌, Bool, true, ◌&&◌, List, map, length, ℤ, pos, nat_le, int_le, Option, unwrap_or, option_map, All}
+use Rattle.qz_decimal.specs.Numbers.{grade_one, one}
+use Rattle.qz_grading.specs.declared.question.Item.{Item}
+use Rattle.qz_grading.specs.declared.question.Question.{Question}
+use Rattle.qz_grading.specs.declared.response.Answer.{Answer}
+use Rattle.qz_grading.specs.declared.response.Answer.TheVariants as answer
+use Rattle.qz_grading.specs.declared.response.Response.{Response}
+use Rattle.qz_grading.specs.declared.response.Step.{Step}
+use Rattle.qz_grading.specs.declared.response.Step.TheVariants as step
+use Rattle.qz_grading.specs.Grading.{is_place}
+use Rattle.qz_grading.specs.Questions.{IsQuestion, are_no_longer}
+use Rattle.qz_terms.specs.declared.access.Settings.{Settings}
+use Rattle.qz_terms.specs.declared.plan.Bound.{Bound}
+use Rattle.qz_terms.specs.declared.record.Event.{Event}
+use Rattle.qz_terms.specs.declared.record.Event.TheVariants as event
+use Rattle.qz_terms.specs.declared.record.Learned.{Learned}
+use Rattle.qz_terms.specs.declared.record.Record.{Record}
+use Rattle.qz_terms.specs.declared.record.Terms.{Terms}
+use Rattle.qz_terms.specs.declared.request.Request.{Request}
+use Rattle.qz_terms.specs.declared.request.Request.TheVariants as request
+
+-- ---- numbers
+
+abbrev pub is_moment : ℕ → Bool
+is_moment n = nat_le n 4102444799
+
+abbrev pub is_duration : ℕ → Bool
+is_duration n = nat_le n 31536000
+
+abbrev pub is_allowed : ℕ → Bool
+is_allowed n = nat_le n 1000
+
+abbrev pub if_there : (ℕ → Bool) → Option ℕ → Bool
+if_there p o = unwrap_or (option_map p o) true
+
+abbrev pub are_settings : Settings → Bool
+are_settings s = is_moment s.opens && (is_moment s.closes && (is_duration s.limit && (is_allowed s.allowed && is_duration s.grace)))
+
+abbrev pub is_quiz_grade : ℤ → Bool
+is_quiz_grade g = int_le (pos 0) g && int_le g (pos (10000 * grade_one))
+
+abbrev pub is_bound : Bound → Bool
+is_bound b = int_le (pos 0) b.max && int_le b.max (pos (10000 * one))
+
+-- ---- responses
+
+abbrev pub is_answer : Answer → Bool
+is_answer answer.Blank = true
+is_answer (answer.Pick n) = is_place 64 n
+is_answer (answer.Picks ns) = list_all (is_place 64) ns
+is_answer (answer.Match ns) = list_all (λ n. nat_le n 64) ns
+is_answer (answer.Words text) = nat_le (length text) 65536
+
+abbrev pub is_response : Response → Bool
+is_response r = is_answer r.answer && nat_le r.certainty 3
+
+abbrev pub is_step : Step → Bool
+is_step (step.Save r) = is_response r
+is_step (step.Submit r) = is_response r
+is_step x = true
+
+-- ---- questions
+
+abbrev pub are_hints : List (List ℕ) → Bool
+are_hints hints = nat_le (length hints) 20 && are_no_longer 4096 hints
+
+abbrev pub is_penalty : ℤ → Bool
+is_penalty p = int_le (pos 0) p && int_le p (pos one)
+
+abbrev pub AreQuestions : List Question → Type 0
+AreQuestions qs = All IsQuestion qs
+
+abbrev pub AreLearned : List Learned → Type 0
+AreLearned ls = AreQuestions (map (λ (l : Learned). l.question) ls)
+
+-- ---- records
+
+abbrev pub KeepsRequest : Request → Type 0
+KeepsRequest (request.Import gift) = AreQuestions (map (λ (i : Item). i.question) gift.items)
+KeepsRequest (request.Edit entry gift) = IsQuestion gift
+KeepsRequest (request.Tune entry penalty hints) = is_penalty penalty && are_hints hints ≡ true
+KeepsRequest (request.Policy quiz method grade) = is_quiz_grade grade ≡ true
+KeepsRequest (request.Times quiz opens closes limit allowed handling grace review) = are_settings (record { opens = opens; closes = closes; limit = limit; allowed = allowed; handling = handling; grace = grace; review = review }) ≡ true
+KeepsRequest (request.Override quiz whom number opens closes limit allowed) = if_there is_moment opens && (if_there is_moment closes && (if_there is_duration limit && if_there is_allowed allowed)) ≡ true
+KeepsRequest x = Unit {0}
+
+abbrev pub KeepsEvent : Event → Type 0
+KeepsEvent (event.Founded shards token) = nat_le 1 shards && nat_le shards 64 ≡ true
+KeepsEvent (event.Asked x) = KeepsRequest x
+KeepsEvent (event.Started quiz nth behaviour bounds learned) = (nat_le (length bounds) 200 && list_all is_bound bounds ≡ true) × AreLearned learned
+KeepsEvent (event.Acted a k x) = is_step x ≡ true
+KeepsEvent (event.Noted a k x) = is_step x ≡ true
+KeepsEvent (event.Ended a how) = Unit {0}
+KeepsEvent (event.Rebound job a k bound learned) = (is_bound bound ≡ true) × AreLearned learned
+KeepsEvent (event.Skipped job a k bound newer) = Unit {0}
+KeepsEvent (event.JobDone job quiz position) = Unit {0}
+
+pub record IsKept (r : Record) : Type 0 where
+  pub moment : is_moment r.moment ≡ true
+  pub settings : unwrap_or (option_map (λ (t : Terms). are_settings t.settings) r.terms) true ≡ true
+  pub event : KeepsEvent r.event

@@ -1,0 +1,116 @@
+-- What one caller may see of a school, request by request.
+use Rattle.std.specs.List.{AllZip, list_all}
+use Rattle.std.specs.Prelude.{◌≡◌, ℕ, Bool, true, false, ◌&&◌, ◌||◌, List, [], ◌∷◌, ◌++◌, map, length, drop, is_some, is_none, if◌then◌else◌, slice_get, Some, None, Option, unwrap_or, option_map, option_to_list, slice_set}
+use Rattle.qz_grading.specs.declared.refusal.Refusal.TheVariants as refusal
+use Rattle.qz_grading.specs.Questions.{parts}
+use Rattle.qz_terms.specs.declared.ask.Ask.{Ask}
+use Rattle.qz_terms.specs.declared.record.Record.{Record}
+use Rattle.qz_terms.specs.declared.reply.Reply.{Reply}
+use Rattle.qz_terms.specs.declared.reply.Reply.TheVariants as reply
+use Rattle.qz_terms.specs.declared.request.Request.{Request}
+use Rattle.qz_terms.specs.declared.request.Request.TheVariants as request
+use Rattle.qz_terms.specs.Answer.{asked_part, catalog_list, school_answer, shard_list}
+use Rattle.qz_terms.specs.Lists.{first_of}
+
+-- a list of records, and the record in doubt behind it, if any
+pub record Held : Type 0 where
+  pub list : List Record
+  pub doubt : Option Record
+
+-- those of the catalogue and of each shard
+pub record Lists : Type 0 where
+  pub records : Held
+  pub parts : List Held
+
+-- a line of a script that has no reading, or a request at a moment
+pub data Line : Type 0 where
+  Unread : (place rule : ℕ) → Line
+  Asking : (moment : ℕ) → Ask → Line
+
+-- Before a list is read it is mended: a record in doubt is dropped or adopted. A list that isn't read stays.
+pub data Mended : (old new : Held) → Type 0 where
+  stays : (k : Held) → Mended k k
+  dropped : (l : List Record) (x : Record) → Mended (record { list = l; doubt = Some x }) (record { list = l; doubt = None })
+  adopted : (l : List Record) (x : Record) → Mended (record { list = l; doubt = Some x }) (record { list = l ++ x ∷ []; doubt = None })
+
+pub record AllMended (old new : Lists) : Type 0 where
+  pub records : Mended old.records new.records
+  pub parts : AllZip Mended old.parts new.parts
+
+abbrev pub lists_of : List Held → List (List Record)
+lists_of parts = map (λ (k : Held). k.list) parts
+
+abbrev pub holds_no_doubt : Held → Bool
+holds_no_doubt k = is_none k.doubt
+
+abbrev pub asked_parts : Lists → Ask → List Held
+asked_parts a ask = unwrap_or (option_map (λ k. option_to_list (slice_get a.parts k)) (asked_part a.records.list ask)) []
+
+abbrev pub is_report : Request → Bool
+is_report (request.Report quiz) = true
+is_report x = false
+
+-- the lists that a request reads aren't in doubt
+abbrev pub is_settled : Lists → Ask → Bool
+is_settled a ask = holds_no_doubt a.records && list_all holds_no_doubt (if is_report ask.request then a.parts else asked_parts a ask)
+
+abbrev pub reply_over : Lists → ℕ → Ask → Reply
+reply_over a now ask = school_answer a.records.list (lists_of a.parts) now ask
+
+abbrev pub with_list : List Record → Held
+with_list l = record { list = l; doubt = None }
+
+abbrev pub part_list : Lists → ℕ → List Record
+part_list a k = unwrap_or (option_map (λ (h : Held). h.list) (slice_get a.parts k)) []
+
+abbrev pub parts_over : Lists → ℕ → Ask → Option ℕ → List Held
+parts_over a now ask None = a.parts
+parts_over a now ask (Some k) = slice_set a.parts k (with_list (shard_list a.records.list (part_list a k) now ask))
+
+-- the lists with the record that the request puts
+abbrev pub lists_over : Lists → ℕ → Ask → Lists
+lists_over a now ask = record { records = with_list (catalog_list a.records.list now ask); parts = parts_over a now ask (asked_part a.records.list ask) }
+
+-- the record that a longer list has behind the first
+abbrev pub added : List Record → List Record → Option Record
+added old new = first_of (drop (length old) new)
+
+abbrev pub doubted : List Record → List Record → Held
+doubted old new = record { list = old; doubt = added old new }
+
+abbrev pub doubted_parts : Lists → ℕ → Ask → Option ℕ → List Held
+doubted_parts a now ask None = a.parts
+doubted_parts a now ask (Some k) = slice_set a.parts k (doubted (part_list a k) (shard_list a.records.list (part_list a k) now ask))
+
+-- the lists with that record in doubt
+abbrev pub doubt_over : Lists → ℕ → Ask → Lists
+doubt_over a now ask = record { records = doubted a.records.list (catalog_list a.records.list now ask); parts = doubted_parts a now ask (asked_part a.records.list ask) }
+
+abbrev pub added_to_part : Lists → ℕ → Ask → Option ℕ → Option Record
+added_to_part a now ask None = None
+added_to_part a now ask (Some k) = added (part_list a k) (shard_list a.records.list (part_list a k) now ask)
+
+-- whether the request puts a record
+abbrev pub puts_record : Lists → ℕ → Ask → Bool
+puts_record a now ask = is_some (added a.records.list (catalog_list a.records.list now ask)) || is_some (added_to_part a now ask (asked_part a.records.list ask))
+
+-- one request: it is answered, or the record that it puts is in doubt, or a list stays in doubt, or memory was wanting
+pub data Turn : (a b : Lists) (now : ℕ) (ask : Ask) (r : Reply) → Type 0 where
+  answered : (m : Lists) (now : ℕ) (ask : Ask) → is_settled m ask ≡ true → Turn m (lists_over m now ask) now ask (reply_over m now ask)
+  put_in_doubt : (m : Lists) (now : ℕ) (ask : Ask) → is_settled m ask ≡ true → puts_record m now ask ≡ true → Turn m (doubt_over m now ask) now ask (reply.Refused refusal.KeepFault)
+  stayed_in_doubt : (m : Lists) (now : ℕ) (ask : Ask) → is_settled m ask ≡ false → Turn m m now ask (reply.Refused refusal.KeepFault)
+  no_memory : (m : Lists) (now : ℕ) (ask : Ask) → Turn m m now ask (reply.Refused refusal.Memory)
+
+pub record Asks (a b : Lists) (now : ℕ) (ask : Ask) (r : Reply) : Type 0 where
+  pub mended : Lists
+  pub mends : AllMended a mended
+  pub turn : Turn mended b now ask r
+
+abbrev pub Goes : Lists → Lists → Line → Reply → Type 0
+Goes a b (Unread place rule) r = (r ≡ reply.Refused (refusal.Malformed place rule)) × (b ≡ a)
+Goes a b (Asking now ask) r = Asks a b now ask r
+
+-- the replies to these lines in turn, and the lists at the end
+pub data Serial : (a : Lists) (lines : List Line) (replies : List Reply) (b : Lists) → Type 0 where
+  ended : (a : Lists) → Serial a [] [] a
+  next : (a b c : Lists) (i : Line) (r : Reply) (is : List Line) (rs : List Reply) → Goes a b i r → Serial b is rs c → Serial a (i ∷ is) (r ∷ rs) c

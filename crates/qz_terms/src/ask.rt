@@ -1,0 +1,36 @@
+//! One request of one caller.
+
+ghost use Rattle.std.specs.Prelude.{◌≡◌, IfOk};
+
+use crate::{Caller, Request};
+use qz_text::{NoMemory, Text, TryCopy};
+use std::alloc::Global;
+
+/// A request with its caller, and the key by which the caller may ask it again. Requests that only look have no
+/// key, nor have those of workers.
+#[derive(Drop)]
+pub struct Ask {
+    pub caller: Caller,
+    pub key: Option<Text>,
+    pub request: Request,
+}
+
+/// A copy of a text, if there is one.
+pub(crate) fn copy_of_text(key: &Option<Text>, alloc: Global) -> Result<Option<Text>, NoMemory>
+    ensures { IfOk result (λ copy. copy ≡ key.now) }
+{
+    match key {
+        None => Ok(None),
+        Some(text) => Ok(Some(text.try_copy(alloc)?)),
+    }
+}
+
+impl TryCopy for Ask {
+    fn try_copy(&self, alloc: Global) -> Result<Ask, NoMemory> {
+        Ok(Ask {
+            caller: self.caller.try_copy(alloc)?,
+            key: copy_of_text(&self.key, alloc)?,
+            request: self.request.try_copy(alloc)?,
+        })
+    }
+}
