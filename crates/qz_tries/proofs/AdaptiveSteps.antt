@@ -1,6 +1,6 @@
 -- The outcome of an adaptive slot after one more step.
-use Rattle.std.proofs.Common.{◌≡◌, ℕ, ◌+◌, ◌-◌, ◌<◌, Bool, true, false, cond, not, ◌&&◌, ◌||◌, ltb, List, [], ◌∷◌, ◌++◌, length, Option, Some, None, ℤ, pos, ◌-ℤ◌, ◌*ℤ◌, refl, ap, sym, ◌∙◌, arith, length-append, append-nil, add-zero, bytes_eq, Decides}
-use Rattle.std.specs.Prelude.{find, fold, map, unwrap_or, option_map, is_some, if◌then◌else◌, ◌==◌, IsTrue, nat_lt}
+use Rattle.std.proofs.Common.{◌≡◌, ℕ, ◌+◌, Bool, true, false, not, ◌&&◌, ◌||◌, List, [], ◌∷◌, ◌++◌, length, Option, Some, None, ℤ, pos, ◌-ℤ◌, ◌*ℤ◌, refl, ap, sym, ◌∙◌, arith, length-append, append-nil, bytes_eq}
+use Rattle.std.specs.Prelude.{find, fold, map, unwrap_or, is_some, if◌then◌else◌, ◌==◌, nat_lt}
 use Rattle.std.specs.List.{enumerate_from, last_or}
 use Rattle.std.specs.Int.{int_max}
 use Rattle.std.specs.Option.{option_or}
@@ -20,12 +20,12 @@ use Rattle.qz_grading.specs.declared.response.Response.{Response}
 use Rattle.qz_grading.specs.declared.response.Step.{Step}
 use Rattle.qz_grading.specs.declared.response.Step.TheVariants as step
 use Rattle.qz_grading.specs.Grading.{same, same_answer, gradable, grade}
-use Rattle.qz_grading.specs.Steps.{is_finish, has_finish, before, last, last_of, submitted}
-use Rattle.qz_grading.specs.Behaviours.{complete_under, handed_in, ends_complete, ends_incomplete, is_right, graded, changed, changed_after, further, submitted_tries, adaptive_tries, best_try, penalty_under, without_last, adaptive_state, adaptive, outcome}
-use Rattle.qz_grading.proofs.StepLemmas.{last_of-push, has_finish-push, has_finish-finished, before-open, before-finished, last-finished}
+use Rattle.qz_grading.specs.Steps.{is_finish, has_finish, last, last_of}
+use Rattle.qz_grading.specs.Behaviours.{complete_under, handed_in, ends_complete, ends_incomplete, is_right, graded, changed, changed_after, further, submitted_tries, adaptive_tries, best_try, penalty_under, adaptive_state, adaptive, outcome}
+use Rattle.qz_grading.proofs.StepLemmas.{has_finish-push, has_finish-finished, before-finished}
 use Rattle.qz_tries.specs.Progress.{is_adaptive}
 use Rattle.qz_tries.specs.Parts.{is_new, gradable_last}
-use Rattle.qz_tries.proofs.MoreSteps.{gradable_last-none, gradable_last-some, has_finish-closed, before-closed, last-closed, handed_in-closed, handed_in-finished, handed_in-complete, ends_in_submit-push, without_last-push, enumerate_from-append, and-false, and-true}
+use Rattle.qz_tries.proofs.MoreSteps.{gradable_last-none, gradable_last-some, has_finish-closed, before-closed, handed_in-complete, ends_in_submit-push, without_last-push, enumerate_from-append, and-false}
 
 -- ---- responses that are the same are equal
 

@@ -1,6 +1,6 @@
 -- A machine stands after one more step.
-use Rattle.std.proofs.Common.{◌≡◌, ℕ, ◌+◌, ◌<◌, ◌≤◌, Bool, true, false, cond, not, ◌&&◌, ◌||◌, List, [], ◌∷◌, ◌++◌, length, Option, Some, None, IfSome, pos, ◌-ℤ◌, ◌*ℤ◌, refl, ap, sym, ◌∙◌, subst, arith, append-nil, length-append}
-use Rattle.std.specs.Prelude.{find, unwrap_or, option_and_then, slice_get, is_some, if◌then◌else◌}
+use Rattle.std.proofs.Common.{◌≡◌, ℕ, ◌+◌, ◌<◌, ◌≤◌, Bool, true, false, not, ◌||◌, List, [], ◌∷◌, ◌++◌, length, Option, Some, None, IfSome, pos, ◌-ℤ◌, ◌*ℤ◌, refl, ap, sym, ◌∙◌, subst, arith, append-nil, length-append}
+use Rattle.std.specs.Prelude.{find, unwrap_or, option_and_then, is_some, if◌then◌else◌}
 use Rattle.std.specs.Int.{int_max}
 use Rattle.qz_decimal.specs.Numbers.{IsEarnedFraction}
 use Rattle.qz_grading.specs.declared.outcome.Behaviour.{Behaviour}
@@ -12,11 +12,11 @@ use Rattle.qz_grading.specs.declared.response.Response.{Response}
 use Rattle.qz_grading.specs.declared.response.Step.{Step}
 use Rattle.qz_grading.specs.declared.response.Step.TheVariants as step
 use Rattle.qz_grading.specs.Grading.{blank, fits, complete, gradable, grade}
-use Rattle.qz_grading.specs.Steps.{is_finish, has_finish, before, last, last_of, response_of, submitted}
+use Rattle.qz_grading.specs.Steps.{is_finish, has_finish, last, last_of, response_of, submitted}
 use Rattle.qz_grading.specs.Behaviours.{ending_try, complete_under, handed_in, ends_complete, ends_incomplete, is_right, changed, submitted_tries, penalty_under, outcome}
 use Rattle.qz_grading.proofs.StepLemmas.{last_of-push, has_finish-push, has_finish-finished, last-finished}
 use Rattle.qz_tries.specs.Progress.{Progress, is_adaptive, has_tries}
-use Rattle.qz_tries.specs.After.{step_at, response_at, submitted_at, has_right_try, IsAfter}
+use Rattle.qz_tries.specs.After.{response_at, submitted_at, has_right_try, IsAfter}
 use Rattle.qz_tries.specs.Parts.{is_new, gradable_last}
 use Rattle.qz_tries.proofs.MoreSteps.{gradable_last-some, has_finish-closed, last-closed, last-response, last-other, handed_in-closed, handed_in-finished, handed_in-complete, handed_in-other, handed_in-incomplete, ends_in_submit-push, slice_get-push, inside-more, step_at-kept, and-true}
 use Rattle.qz_tries.proofs.InteractiveSteps as interactive

@@ -1,9 +1,8 @@
 -- The outcome of an interactive slot after one more step.
-use Rattle.std.proofs.Common.{◌≡◌, ℕ, ◌+◌, ◌-◌, Bool, true, false, cond, not, ◌&&◌, ◌||◌, List, [], ◌∷◌, ◌++◌, length, Option, Some, None, pos, refl, ap, sym, ◌∙◌, arith, length-append}
-use Rattle.std.specs.Prelude.{find, unwrap_or, option_map, is_some, if◌then◌else◌, ◌==◌}
+use Rattle.std.proofs.Common.{◌≡◌, ℕ, ◌+◌, ◌-◌, Bool, true, false, not, ◌&&◌, ◌||◌, List, [], ◌∷◌, ◌++◌, length, Option, Some, None, refl, ap, sym, ◌∙◌, arith, length-append}
+use Rattle.std.specs.Prelude.{find, if◌then◌else◌, ◌==◌}
 use Rattle.std.specs.List.{enumerate_from}
 use Rattle.std.specs.Option.{option_or}
-use Rattle.std.proofs.lemmas.Bool.{false_from_ne_true, true_from_ne_false}
 use Rattle.std.proofs.lemmas.List.Folds.{find-append}
 use Rattle.qz_grading.specs.declared.outcome.Behaviour.TheVariants.{Interactive}
 use Rattle.qz_grading.specs.declared.outcome.Outcome.{Outcome}
@@ -13,11 +12,11 @@ use Rattle.qz_grading.specs.declared.response.Response.{Response}
 use Rattle.qz_grading.specs.declared.response.Step.{Step}
 use Rattle.qz_grading.specs.declared.response.Step.TheVariants as step
 use Rattle.qz_grading.specs.Grading.{complete, gradable, grade}
-use Rattle.qz_grading.specs.Steps.{is_finish, has_finish, before, last, submitted}
-use Rattle.qz_grading.specs.Behaviours.{complete_under, handed_in, ends_complete, ends_incomplete, ending_try, tries_allowed, is_right, graded, penalised, tried, unfinished, outcome}
-use Rattle.qz_grading.proofs.StepLemmas.{has_finish-push, has_finish-finished, before-open, before-finished, last-finished}
+use Rattle.qz_grading.specs.Steps.{is_finish, has_finish, before, last}
+use Rattle.qz_grading.specs.Behaviours.{complete_under, handed_in, ends_complete, ends_incomplete, ending_try, tries_allowed, is_right, graded, penalised, outcome}
+use Rattle.qz_grading.proofs.StepLemmas.{has_finish-push, has_finish-finished, before-open, before-finished}
 use Rattle.qz_tries.specs.Parts.{gradable_last}
-use Rattle.qz_tries.proofs.MoreSteps.{gradable_last-none, gradable_last-some, has_finish-closed, before-closed, last-closed, handed_in-closed, handed_in-finished, handed_in-complete, ends_in_submit-push, enumerate_from-append, and-false, and-true}
+use Rattle.qz_tries.proofs.MoreSteps.{gradable_last-none, gradable_last-some, has_finish-closed, before-closed, handed_in-complete, ends_in_submit-push, enumerate_from-append, and-false}
 
 -- a try, with its number, that ends the slot
 abbrev pub ends : Question → ℕ × Response → Bool

@@ -1,7 +1,7 @@
 -- Readings of a list of steps with one more step at its end.
-use Rattle.std.proofs.Common.{◌≡◌, ℕ, zero, suc, ◌+◌, ◌-◌, ◌<◌, ◌≤◌, Bool, true, false, cond, not, ◌&&◌, ◌||◌, List, [], ◌∷◌, ◌++◌, length, Option, Some, None, IfSome, refl, ap, sym, ◌∙◌, arith, append-nil, length-append, add-zero}
-use Rattle.std.specs.Prelude.{filter, filter_map, unwrap_or, option_map, option_and_then, slice_get, find, fold, is_some}
-use Rattle.std.specs.List.{list_any, last_or, enumerate_from}
+use Rattle.std.proofs.Common.{◌≡◌, ℕ, zero, suc, ◌+◌, ◌-◌, ◌<◌, Bool, true, false, ◌&&◌, List, [], ◌∷◌, ◌++◌, length, Option, Some, None, IfSome, refl, ap, sym, ◌∙◌, arith, append-nil, length-append, add-zero}
+use Rattle.std.specs.Prelude.{filter, filter_map, unwrap_or, option_map, option_and_then, slice_get}
+use Rattle.std.specs.List.{last_or, enumerate_from}
 use Rattle.std.proofs.lemmas.Bool.{false_from_ne_true, true_from_ne_false}
 use Rattle.std.proofs.lemmas.List.Folds.{list_any-append}
 use Rattle.std.proofs.lemmas.List.Elements.{filter-append, filter_map-append}

@@ -20,10 +20,10 @@ use qz_grading::{
 use std::marker::Model;
 use std::sync::ledger::Ledger;
 
-/// Follows the steps of one slot under a behaviour with tries: interactive, or adaptive with or without penalties.
+/// What comes of one slot's steps under a behaviour with tries: interactive, or adaptive with or without penalties.
 ///
-/// It keeps no steps. The caller keeps them and lends the list of those before each new one, always the same list with the same
-/// question. No call takes memory.
+/// It is told the steps one at a time and keeps none: the caller keeps their list, and lends it with each further step. It takes
+/// no memory. Moodle's manual page "Question behaviours" describes the three.
 #[derive(Drop)]
 pub struct TryMachine {
     behaviour: Behaviour,
@@ -71,7 +71,7 @@ fn is_wrong_action(behaviour: Behaviour, question: &Question, before: &[Step], s
 }
 
 impl TryMachine {
-    /// Before the first step.
+    /// A machine that has followed no step yet. The behaviour is interactive or one of the two adaptive ones.
     pub fn start(behaviour: Behaviour) -> TryMachine
         requires { has_tries behaviour ≡ true }
         ensures { Starts result behaviour }
@@ -92,14 +92,14 @@ impl TryMachine {
         }
     }
 
-    /// What the steps came to.
+    /// What came of the steps that it followed.
     pub fn outcome(&self) -> Outcome
         ensures { result ≡ self.now.outcome }
     {
         self.outcome
     }
 
-    /// The behaviour that it follows.
+    /// How the slot behaves.
     pub fn behaviour(&self) -> Behaviour
         ensures { result ≡ self.now.behaviour }
     {
@@ -108,8 +108,8 @@ impl TryMachine {
 
     /// Follows one more step, whether or not it would be refused. After a Finish no step changes anything.
     ///
-    /// `before` are the steps so far. A response in the step fits the question. It counts at most one step of grading, and none
-    /// for a Save.
+    /// `before` are the steps that it followed, under this question, and a response in the step fits the question. It counts at
+    /// most one step of grading, and none for a Save.
     pub fn feed<L: Ledger>(
         &mut self,
         question: &Question,
@@ -137,12 +137,12 @@ impl TryMachine {
         }
     }
 
-    /// Follows one more step, or refuses it and stays as it is: "again" anywhere but after a complete Submit of an interactive
-    /// slot (`WrongAction`), a step of a student after the end (`SlotEnded`, with the state), or a response where "try again" is
-    /// needed first (`NeedsTryAgain`), in this order.
+    /// Follows one more step, or refuses it and stays as it is. It refuses an Again anywhere but after a complete Submit of an
+    /// interactive slot (`WrongAction`), a step of a student after the end (`SlotEnded`, with the outcome's state), and a
+    /// response where "try again" is needed first (`NeedsTryAgain`), for the first of these causes.
     ///
-    /// A response that is the same as the last one adds no step: it is answered `Same`, and the machine stays as it is. A Save
-    /// and a refused step count no step of grading, and any other at most one.
+    /// A Save of the last response, and a Submit again of the Submit right before, add no step: they are answered `Same`, and the
+    /// machine stays as it is. A Save and a refused step count no step of grading, and any other counts at most one.
     pub fn act<L: Ledger>(
         &mut self,
         question: &Question,
@@ -218,7 +218,7 @@ impl TryMachine {
         }
     }
 
-    /// Goes on with a response, at this place, that is no try.
+    /// Goes on with a response, at this place, that isn't handed in.
     fn save(&mut self, place: usize)
         ensures { self.new ≡ record self.old { outcome = (if self.old.outcome.ended then self.old.outcome else record self.old.outcome { state = State.Todo; needs_again = false }); last = Some place } }
     {
@@ -226,6 +226,7 @@ impl TryMachine {
         self.last = Some(place);
     }
 
+    /// A Submit. An incomplete one is no try.
     fn submit<L: Ledger>(
         &mut self,
         question: &Question,
@@ -308,6 +309,7 @@ impl TryMachine {
         self.handed_in = Some(before.len());
     }
 
+    /// The first Finish.
     fn finish<L: Ledger>(&mut self, question: &Question, before: &[Step], steps: &mut Steps<L>)
         requires question { IsQuestion question.now }
         requires after { IsAfter self.old question.now before.now }
@@ -321,6 +323,7 @@ impl TryMachine {
         self.finished = true;
     }
 
+    /// What the steps and a Finish come to.
     fn outcome_at_finish<L: Ledger>(
         &self,
         question: &Question,

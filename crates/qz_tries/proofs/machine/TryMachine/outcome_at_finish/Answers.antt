@@ -1,15 +1,8 @@
-use Rattle.std.proofs.Common.{◌≡◌, ◌+◌, ◌≤◌, ◌++◌, ◌∷◌, [], List, length, true, false, Bool, Some, None, Option, IfSome, ap, sym, refl, ◌∙◌, subst, arith}
+use Rattle.std.proofs.Common.{ap, sym, ◌∙◌}
 use Rattle.qz_grading.specs.declared.outcome.Behaviour.{Behaviour}
 use Rattle.qz_grading.specs.declared.outcome.Behaviour.TheVariants as behaviour
-use Rattle.qz_grading.specs.declared.question.Question.{Question}
-use Rattle.qz_grading.specs.declared.response.Response.{Response}
-use Rattle.qz_grading.specs.declared.response.Step.{Step}
-use Rattle.qz_grading.specs.declared.response.Step.TheVariants as step
 use Rattle.qz_grading.specs.Grading.{fits}
-use Rattle.qz_grading.specs.Steps.{has_finish, last}
-use Rattle.qz_grading.specs.Behaviours.{outcome}
-use Rattle.qz_tries.specs.Progress.{Progress, is_adaptive}
-use Rattle.qz_tries.specs.After.{IsAfter}
+use Rattle.qz_grading.specs.Steps.{last}
 use Rattle.qz_tries.specs.Parts.{if_gradable}
 use Rattle.qz_tries.proofs.AfterSteps as steps
 use Rattle.qz_tries.proofs.machine.TryMachine.outcome_at_finish.Goals as goal

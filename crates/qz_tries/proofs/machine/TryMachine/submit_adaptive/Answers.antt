@@ -1,13 +1,6 @@
-use Rattle.std.proofs.Common.{◌≡◌, ◌+◌, ◌≤◌, ◌++◌, ◌∷◌, [], List, length, true, false, ◌||◌, Bool, Some, None, Option, IfSome, ap, sym, refl, ◌∙◌, subst, arith}
-use Rattle.qz_grading.specs.declared.outcome.Behaviour.{Behaviour}
-use Rattle.qz_grading.specs.declared.outcome.Behaviour.TheVariants as behaviour
-use Rattle.qz_grading.specs.declared.question.Question.{Question}
+use Rattle.std.proofs.Common.{◌≡◌, true, false, ◌||◌, Bool, Option, ap, sym, refl, ◌∙◌}
 use Rattle.qz_grading.specs.declared.response.Response.{Response}
-use Rattle.qz_grading.specs.declared.response.Step.{Step}
-use Rattle.qz_grading.specs.declared.response.Step.TheVariants as step
-use Rattle.qz_grading.specs.Grading.{fits}
-use Rattle.qz_grading.specs.Steps.{has_finish}
-use Rattle.qz_grading.specs.Behaviours.{outcome, is_right}
+use Rattle.qz_grading.specs.Behaviours.{is_right}
 use Rattle.qz_tries.specs.Progress.{Progress, is_adaptive}
 use Rattle.qz_tries.specs.After.{submitted_at}
 use Rattle.qz_tries.specs.Parts.{is_new}
