@@ -43,10 +43,6 @@ first-chosen : (o : Option Response) (f : Response → Standing) (c d : Standing
 first-chosen None f c d some = absurd cc
 first-chosen (Some r) f c d some = refl
 
-first-absent : (o : Option Response) (f : Response → Standing) (d : Standing) → is_some o ≡ false → unwrap_or (option_map f o) d ≡ d
-first-absent None f d none = refl
-first-absent (Some r) f d none = absurd cc
-
 -- a standing, and whether the slot ended
 abbrev unnumbered : Standing → Bool → Outcome
 unnumbered p e = record { state = p.0; fraction = p.1; ended = e; needs_again = false; tries = 0 }
