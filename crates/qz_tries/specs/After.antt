@@ -1,4 +1,4 @@
--- A machine of tries stands where a list of steps leads.
+-- What a machine of tries knows of the steps that it followed.
 use Rattle.std.specs.Prelude.{◌≡◌, ℕ, ◌<◌, ◌≤◌, Bool, true, false, List, [], length, Option, IfSome, is_some, find, unwrap_or, option_and_then, slice_get}
 use Rattle.qz_decimal.specs.Numbers.{IsEarnedFraction}
 use Rattle.qz_grading.specs.declared.outcome.Behaviour.{Behaviour}
@@ -29,6 +29,8 @@ abbrev pub has_right_try : Behaviour → Question → List Step → Bool
 has_right_try Interactive q s = false
 has_right_try b q s = is_some (find (λ r. is_right (grade q r)) (submitted_tries b q s))
 
+-- a machine that has followed these steps of this question knows what comes of them. It keeps places of responses and not the
+-- responses, and the last one fits where it can be graded.
 pub record IsAfter (m : Progress) (q : Question) (s : List Step) : Type 0 where
   pub plays : has_tries m.behaviour ≡ true
   pub outcome : m.outcome ≡ outcome m.behaviour q s
@@ -42,7 +44,7 @@ pub record IsAfter (m : Progress) (q : Question) (s : List Step) : Type 0 where
   pub earned : IfSome m.outcome.fraction IsEarnedFraction
   pub few : m.outcome.tries ≤ length s
 
--- a machine before the first step
+-- a machine that has followed no step yet, whatever the question
 pub record Starts (m : Progress) (b : Behaviour) : Type 0 where
   pub behaviour : m.behaviour ≡ b
   pub after : (q : Question) → IsAfter m q []

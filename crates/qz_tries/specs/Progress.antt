@@ -1,4 +1,4 @@
--- What a machine of tries tells, and which behaviours it plays.
+-- What a machine of tries is seen as, and which behaviours it plays.
 use Rattle.std.specs.Prelude.{ℕ, Bool, true, false, Option}
 use Rattle.qz_grading.specs.declared.outcome.Behaviour.{Behaviour}
 use Rattle.qz_grading.specs.declared.outcome.Behaviour.TheVariants.{Interactive, Adaptive, AdaptiveNoPenalty}

@@ -5,32 +5,24 @@ ghost use Rattle.qz_decimal.specs.Numbers.{one, IsWithin};
 ghost use Rattle.qz_decimal.specs.Reading.{IsWrittenFraction};
 ghost use Rattle.qz_grading.specs.Behaviours.{is_right, graded};
 
-use qz_decimal::Fraction;
+use qz_decimal::{Fraction, Tone, tone_of};
 use qz_grading::State;
-
-/// A fraction below 0.000001 is wrong.
-const LEAST_PARTIAL: i64 = 10;
-
-/// A fraction above 0.999999 is right.
-const GREATEST_PARTIAL: i64 = 9_999_990;
 
 /// Whether a fraction is that of a right answer.
 pub(crate) fn is_right(fraction: Fraction) -> bool
     ensures { result ≡ is_right fraction }
 {
-    fraction.0 > GREATEST_PARTIAL
+    tone_of(fraction) == Tone::Right
 }
 
 /// The state of an answer with this fraction.
 pub(crate) fn graded(fraction: Fraction) -> State
     ensures { result ≡ graded fraction }
 {
-    if fraction.0 < LEAST_PARTIAL {
-        State::GradedWrong
-    } else if is_right(fraction) {
-        State::GradedRight
-    } else {
-        State::GradedPartial
+    match tone_of(fraction) {
+        Tone::Wrong => State::GradedWrong,
+        Tone::Partial => State::GradedPartial,
+        Tone::Right => State::GradedRight,
     }
 }
 
