@@ -1,4 +1,5 @@
 pub mod LineLemmas
 pub mod NumberLemmas
+pub mod NarrowLemmas
 pub mod TrackedLemmas
 pub mod ReplayLemmas

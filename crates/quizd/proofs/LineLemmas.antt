@@ -1,5 +1,5 @@
 -- The first line of a text ends at its first line feed.
-use Rattle.std.proofs.Common.{◌≡◌, ℕ, suc, zero, ◌+◌, ◌<◌, Bool, true, false, cond, ◌==◌, List, [], ◌∷◌, length, take, drop, Option, Some, None, refl, ap, subst, arith}
+use Rattle.std.proofs.Common.{◌≡◌, ℕ, suc, ◌+◌, ◌<◌, Bool, true, false, ◌==◌, List, [], ◌∷◌, length, take, drop, Some, None, refl, ap, subst, arith}
 use Rattle.std.specs.List.{position_from, onto_first}
 use Rattle.quizd.specs.Lines.{lines_of}
 

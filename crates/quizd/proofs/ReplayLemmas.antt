@@ -1,8 +1,8 @@
 -- A replay that goes on by one line.
-use Rattle.std.proofs.Common.{◌≡◌, ℕ, ◌+◌, List, [], ◌∷◌, ◌++◌, Option, Some, None, Result, Ok, Err, refl, sym, ap, ◌∙◌, append-nil, append_assoc}
+use Rattle.std.proofs.Common.{◌≡◌, ℕ, ◌+◌, List, [], ◌∷◌, ◌++◌, Some, None, Result, Ok, Err, refl, sym, ap, ◌∙◌, append-nil, append_assoc}
 use Rattle.qz_grading.specs.declared.response.Step.{Step}
 use Rattle.quizd.specs.declared.slot.Slot.{Slot}
-use Rattle.quizd.specs.Replay.{◌>>=◌, or_line, step_line, fate, with_step, told, line_of, with_front, steps_told}
+use Rattle.quizd.specs.Replay.{◌>>=◌, step_line, fate, with_step, told, line_of, with_front, steps_told}
 
 with_front-more : (front line : List ℕ) (reading : Result (List ℕ) ℕ) → with_front front (reading >>= λ others. Ok (line ++ others)) ≡ with_front (front ++ line) reading
 with_front-more front line (Ok more) = ap (λ (t : List ℕ). Ok t) (sym (append_assoc front line more))

@@ -1,17 +1,17 @@
 -- What is kept beside the steps after one more step.
 use Rattle.std.proofs.Common.{◌≡◌, ℕ, zero, suc, ◌+◌, ◌<◌, false, true, List, [], ◌∷◌, ◌++◌, length, Option, Some, None, IfSome, Vec, refl, ap, sym, ◌∙◌, arith}
 use Rattle.std.proofs.lemmas.List.{length-append}
-use Rattle.std.specs.Prelude.{filter, filter_map, unwrap_or, option_and_then, slice_get}
+use Rattle.std.specs.Prelude.{slice_get, IsTrue}
 use Rattle.std.specs.declared.alloc.Global.{Global}
 use Rattle.std.proofs.lemmas.List.Elements.{filter_map-append}
 use Rattle.qz_grading.specs.declared.response.Response.{Response}
 use Rattle.qz_grading.specs.declared.response.Step.{Step}
 use Rattle.qz_grading.specs.declared.response.Step.TheVariants as step
-use Rattle.qz_grading.specs.Grading.{blank}
-use Rattle.qz_grading.specs.Steps.{has_finish, last, response_of, given, is_answering}
+use Rattle.qz_grading.specs.Steps.{has_finish, last, given, is_answering}
 use Rattle.qz_grading.specs.Slots.{most_answering}
 use Rattle.qz_grading.proofs.StepLemmas.{last-saved, last-finished, has_finish-push, has_finish-finished, count-push, count-other}
 use Rattle.quizd.specs.declared.taken.Taken.TheInside.{Inside}
+use Rattle.quizd.specs.Narrow.{answers_truth}
 use Rattle.quizd.specs.Tracked.{response_at, IsTracked}
 
 pub slice_get-push : {A : Type 0} (xs : List A) (x : A) → slice_get (xs ++ x ∷ []) (length xs) ≡ Some x
@@ -32,10 +32,10 @@ pub kept-place : (items : List Step) (x : Step) (place : Option ℕ) → respons
 kept-place items x None is inside = is
 kept-place items x (Some i) is inside = rw (slice_get-kept items x i inside) is
 
-pub tracked-saved : (t : Inside) (steps : Vec Step Global) (place : ℕ) (r : Response) → IsTracked t → has_finish t.steps.items ≡ false → t.answering < most_answering
+pub tracked-saved : (t : Inside) (steps : Vec Step Global) (place : ℕ) (r : Response) → IsTracked t → has_finish t.steps.items ≡ false → t.answering < most_answering → IsTrue (answers_truth r)
     → steps.items ≡ t.steps.items ++ step.Save r ∷ [] → place ≡ length t.steps.items
     → IsTracked (record { steps = steps; last = Some place; answering = t.answering + 1; finished = t.finished })
-tracked-saved t steps place r tracked unfinished room longer at_end =
+tracked-saved t steps place r tracked unfinished room truth longer at_end =
     let here : slice_get (t.steps.items ++ step.Save r ∷ []) place ≡ Some (step.Save r) = rw at_end (slice_get-push t.steps.items (step.Save r)) in
     record {
       last = rw (longer, here) (sym (last-saved t.steps.items r unfinished));
@@ -43,6 +43,7 @@ tracked-saved t steps place r tracked unfinished room longer at_end =
       answering = rw longer (omega (arith, tracked.answering, count-push is_answering t.steps.items (step.Save r) refl));
       few = omega arith;
       finished = rw longer (tracked.finished ∙ sym (has_finish-push t.steps.items (step.Save r) refl));
+      truth = rw (longer, last-saved t.steps.items r unfinished) truth;
       unmarked = rw (longer, filter_map-append given t.steps.items (step.Save r ∷ []), tracked.unmarked) refl;
     }
 
@@ -54,5 +55,6 @@ tracked-finished t steps tracked longer = record {
   answering = rw longer (omega (arith, tracked.answering, count-other is_answering t.steps.items step.Finish refl));
   few = tracked.few;
   finished = rw longer (sym (has_finish-finished t.steps.items));
+  truth = rw (longer, last-finished t.steps.items) tracked.truth;
   unmarked = rw (longer, filter_map-append given t.steps.items (step.Finish ∷ []), tracked.unmarked) refl;
 }

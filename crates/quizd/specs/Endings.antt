@@ -1,5 +1,5 @@
 -- How a command ends: its status, and what it has read and written then.
-use Rattle.std.specs.Prelude.{◌≡◌, ◌⊎◌, ℕ, ◌<◌, ◌≤◌, Bool, true, false, IsTrue, MatchBool, List, [], ◌∷◌, ◌++◌, length, Option, Some, None, Result, Ok, Err, bytes_eq, codes}
+use Rattle.std.specs.Prelude.{◌≡◌, ◌⊎◌, ℕ, ◌<◌, ◌≤◌, Bool, false, IsTrue, MatchBool, List, [], ◌∷◌, ◌++◌, length, Option, Some, None, Ok, Err, bytes_eq, codes}
 use Rattle.std.specs.Io.KnownBytes.{Appends, Consumes, Keeps, IsAtEnd}
 use Rattle.qz_outside.specs.declared.read.ReadStop.{ReadStop}
 use Rattle.qz_outside.specs.declared.read.ReadStop.TheVariants as reading

@@ -34,7 +34,8 @@ pub fn after<'a>(line: &'a [u8], front: &[u8]) -> Option<&'a [u8]>
 
 /// The number from `low` to `high` that a word spells in decimal digits without a leading zero.
 pub fn number(word: &[u8], low: u32, high: u32) -> Option<u32>
-    ensures { result ≡ number_within low high word.now }
+    ensures value { result ≡ number_within low high word.now }
+    ensures most { IfSome result (λ n. n ≤ high) }
 {
     if let [] | [b'0', _, ..] = word {
         return None;
@@ -45,7 +46,8 @@ pub fn number(word: &[u8], low: u32, high: u32) -> Option<u32>
 
 /// The number up to `most` that digits write.
 fn digits_within(word: &[u8], most: u32) -> Option<u32>
-    ensures { result ≡ digits_up_to most word.now }
+    ensures value { result ≡ digits_up_to most word.now }
+    ensures most { IfSome result (λ n. n ≤ most) }
 {
     let mut value = 0u64;
     for digit in word {

@@ -11,7 +11,6 @@ mod stop;
 mod taken;
 #[cfg(test)]
 mod tests;
-mod true_false;
 
 use qz_outside::{StdSink, StdSource};
 use qz_text::{NoMemory, Text};

@@ -2,6 +2,8 @@
 
 ghost use Rattle.std.specs.Prelude.{◌≡◌, ◌≤◌, [], List, length, replicate, Some, IfSome, IfOk};
 ghost use Rattle.qz_decimal.specs.Numbers.{IsMaxMark};
+ghost use Rattle.qz_decimal.specs.Reading.{IsWrittenFraction};
+ghost use Rattle.qz_grading.specs.Questions.{IsQuestion};
 ghost use Rattle.quizd.specs.Lines.{lines_of, after};
 ghost use Rattle.quizd.specs.Narrow.{IsPlayable, IsPlayed};
 ghost use Rattle.quizd.specs.Readings.{Gives};
@@ -49,13 +51,15 @@ fn max_on(line: &[u8]) -> Option<Mark>
 }
 
 fn penalty_on(line: &[u8]) -> Option<Fraction>
-    ensures { result ≡ penalty_line line.now }
+    ensures value { result ≡ penalty_line line.now }
+    ensures range { IfSome result IsWrittenFraction }
 {
     Fraction::read(after(line, b"penalty ")?).ok()
 }
 
 fn hints_on(line: &[u8]) -> Option<u32>
-    ensures { result ≡ hints_line line.now }
+    ensures value { result ≡ hints_line line.now }
+    ensures range { IfSome result (λ n. n ≤ 20) }
 {
     number(after(line, b"hints ")?, 0, 20)
 }
@@ -130,7 +134,10 @@ fn empty_hints(alloc: Global, count: u32) -> Result<Listed<Text>, NoMemory>
 
 /// A true-false question without texts.
 fn question(alloc: Global, right: bool, penalty: Fraction, hints: u32) -> Result<Question, NoMemory>
-    ensures { IfOk result (λ made. made ≡ true_false right penalty hints) }
+    requires penalty { IsWrittenFraction penalty }
+    requires hints { hints ≤ 20 }
+    ensures value { IfOk result (λ made. made ≡ true_false right penalty hints) }
+    ensures question { IfOk result IsQuestion }
 {
     Ok(Question {
         name: Text::of(alloc, "Question")?,
@@ -165,6 +172,7 @@ fn max_at(rest: &mut &[u8]) -> Result<Mark, Stop>
 
 fn penalty_at(rest: &mut &[u8]) -> Result<Fraction, Stop>
     ensures value { Gives (λ x. (x, lines_of rest.new.now)) result (line_at penalty_line 3 (lines_of rest.old.now)) }
+    ensures range { IfOk result IsWrittenFraction }
     ensures shorter { length rest.new.now ≤ length rest.old.now }
 {
     penalty_on(first_line(rest, 3)?).ok_or(Stop::Malformed { line: 3 })
@@ -172,6 +180,7 @@ fn penalty_at(rest: &mut &[u8]) -> Result<Fraction, Stop>
 
 fn hints_at(rest: &mut &[u8]) -> Result<u32, Stop>
     ensures value { Gives (λ x. (x, lines_of rest.new.now)) result (line_at hints_line 4 (lines_of rest.old.now)) }
+    ensures range { IfOk result (λ n. n ≤ 20) }
     ensures shorter { length rest.new.now ≤ length rest.old.now }
 {
     hints_on(first_line(rest, 4)?).ok_or(Stop::Malformed { line: 4 })

@@ -1,20 +1,23 @@
 //! The steps taken of one slot under deferred feedback.
 
-ghost use Rattle.std.specs.Prelude.{◌≡◌, ◌⊎◌, ◌<◌, ◌++◌, ◌∷◌, [], length, filter, true, false, pos, None, unwrap_or, option_copied, if◌then◌else◌, IfSome, IfNone, IfOk, OnOk, OnErr};
-ghost use Rattle.qz_decimal.specs.Numbers.{one};
-ghost use Rattle.qz_grading.specs.Grading.{blank, same};
+ghost use Rattle.std.specs.Prelude.{◌≡◌, ◌⊎◌, ◌<◌, ◌++◌, ◌∷◌, [], length, filter, true, false, pos, neg_ℤ, None, unwrap_or, option_copied, if◌then◌else◌, IsTrue, IfSome, IfNone, IfOk, OnOk, OnErr};
+ghost use Rattle.qz_decimal.specs.Numbers.{one, IsWithin};
+ghost use Rattle.qz_grading.specs.Grading.{blank, grade, same};
+ghost use Rattle.qz_grading.specs.Questions.{IsQuestion};
 ghost use Rattle.qz_grading.specs.Steps.{has_finish, is_answering, last};
-ghost use Rattle.qz_grading.specs.Behaviours.{moved, deferred};
+ghost use Rattle.qz_grading.specs.Behaviours.{moved, deferred, graded};
 ghost use Rattle.qz_grading.specs.Slots.{slot_state, slot_mark, last_given, step_cause, most_answering};
-ghost use Rattle.quizd.specs.Narrow.{IsPlayable, IsPlayed};
+ghost use Rattle.quizd.specs.Narrow.{answers_truth, AnswersTruth, IsPlayable, IsPlayed, IsTrueFalse};
 
 use crate::slot::Slot;
-use crate::true_false::grade;
-use qz_decimal::{Fraction, Mark, mark_of};
-use qz_grading::{Answer, Moved, Refusal, Response, State, Step, complete, fits, same};
+use qz_decimal::{Fraction, Mark, Tone, mark_of, tone_of};
+use qz_grading::{
+    Answer, Moved, Question, Refusal, Response, State, Step, Steps, complete, fits, grade, same,
+};
 use qz_text::NoMemory;
 use std::alloc::Global;
-use std::marker::Model;
+use std::marker::{Brand, Model};
+use std::sync::ledger::{Blank, Ledger};
 
 /// What comes of a step: it is kept, the same as the one before, or refused.
 pub type Fate = Result<Moved, Refusal>;
@@ -52,6 +55,43 @@ fn unanswered(finished: bool) -> State
     if finished { State::GaveUp } else { State::Todo }
 }
 
+/// The state of a graded response.
+fn graded(fraction: Fraction) -> State
+    ensures { result ≡ graded fraction }
+{
+    match tone_of(fraction) {
+        Tone::Wrong => State::GradedWrong,
+        Tone::Partial => State::GradedPartial,
+        Tone::Right => State::GradedRight,
+    }
+}
+
+/// What a response earns, in steps that are opened for it alone.
+fn counted<L: Ledger>(blank: Blank, question: &Question, response: &Response) -> Fraction
+    requires name { blank.name ≡ L.name }
+    requires parts { blank.parts ≡ L.parts }
+    requires some_part { 0 < blank.parts }
+    requires question { IsQuestion question.now }
+    requires true_false { IsTrueFalse question.now.kind }
+    requires truth { IsTrue (answers_truth response.now) }
+    ensures value { result ≡ grade question.now response.now }
+    ensures within { IsWithin (neg_ℤ (pos one)) (pos one) result }
+{
+    let mut steps = Steps::<L>::open(blank);
+    grade(question, response, &mut steps)
+}
+
+/// What a response earns, counted by nobody.
+fn earned(question: &Question, response: &Response) -> Fraction
+    requires question { IsQuestion question.now }
+    requires true_false { IsTrueFalse question.now.kind }
+    requires truth { IsTrue (answers_truth response.now) }
+    ensures value { result ≡ grade question.now response.now }
+    ensures within { IsWithin (neg_ℤ (pos one)) (pos one) result }
+{
+    counted::<Brand>(Blank::new(1), question, response)
+}
+
 impl Taken {
     ghost use Rattle.quizd.specs.Replay.{fate, with_step};
 
@@ -69,7 +109,8 @@ impl Taken {
 
     /// The last response before a Finish. None stands for the blank one.
     fn last(&self) -> Option<&Response>
-        ensures { unwrap_or (option_copied result) blank ≡ last self.now }
+        ensures value { unwrap_or (option_copied result) blank ≡ last self.now }
+        ensures truth { IsTrue (answers_truth (last self.now)) }
     {
         match self.steps.get(self.last?)? {
             Step::Save(response) | Step::Submit(response) => Some(response),
@@ -102,7 +143,7 @@ impl Taken {
     fn standing(&self, slot: &Slot) -> (State, Option<Fraction>)
         requires { IsPlayable slot.now }
         ensures value { result ≡ deferred slot.now.behaviour slot.now.question self.now }
-        ensures whole { IfSome result.1 (λ f. (f ≡ pos 0) ⊎ (f ≡ pos one)) }
+        ensures within { IfSome result.1 (IsWithin (neg_ℤ (pos one)) (pos one)) }
         ensures unmarked { last_given self.now ≡ None }
     {
         let Some(last) = self.last() else {
@@ -114,13 +155,8 @@ impl Taken {
         if !self.finished {
             return (State::Complete, None);
         }
-        let fraction = grade(&slot.question, last);
-        let state = if fraction.0 == 0 {
-            State::GradedWrong
-        } else {
-            State::GradedRight
-        };
-        (state, Some(fraction))
+        let fraction = earned(&slot.question, last);
+        (graded(fraction), Some(fraction))
     }
 
     /// The state that the slot shows.
@@ -146,6 +182,7 @@ impl Taken {
         requires played { IsPlayed step.now }
         ensures first { result ≡ step_cause slot.now.behaviour slot.now.question slot.now.max self.now step.now }
         ensures unfinished { IfNone result (has_finish self.now ≡ false) }
+        ensures truth { IfNone result (AnswersTruth step.now) }
         ensures room { IfNone result (is_answering step.now ≡ true → length (filter is_answering self.now) < most_answering) }
     {
         if self.finished {
@@ -188,6 +225,7 @@ impl Taken {
     /// Puts a step at the end.
     fn keep(&mut self, step: Step) -> Result<(), NoMemory>
         requires played { IsPlayed step }
+        requires truth { AnswersTruth step }
         requires unfinished { has_finish self.old ≡ false }
         requires room { is_answering step ≡ true → length (filter is_answering self.old) < most_answering }
         ensures kept { OnOk result (self.new ≡ self.old ++ step ∷ []) }
@@ -200,6 +238,7 @@ impl Taken {
     }
 
     fn save(&mut self, response: Response) -> Result<(), NoMemory>
+        requires truth { IsTrue (answers_truth response) }
         requires unfinished { has_finish self.old ≡ false }
         requires room { length (filter is_answering self.old) < most_answering }
         ensures kept { OnOk result (self.new ≡ self.old ++ Step.Save response ∷ []) }

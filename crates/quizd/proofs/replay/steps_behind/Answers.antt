@@ -1,6 +1,6 @@
-use Rattle.std.proofs.Common.{◌≡◌, ◌+◌, refl, sym, ap, ◌∙◌, string_bytes, ◌++◌, List, ℕ, arith}
+use Rattle.std.proofs.Common.{◌≡◌, refl, sym, ap, ◌∙◌, string_bytes, ◌++◌, List, ℕ, arith}
 use Rattle.quizd.specs.Lines.{lines_of}
-use Rattle.quizd.specs.Replay.{told, line_of, steps_told}
+use Rattle.quizd.specs.Replay.{told, line_of}
 use Rattle.quizd.proofs.ReplayLemmas.{said, says_more, stops_at, says_all}
 use Rattle.quizd.proofs.replay.steps_behind.Goals as goal
 

@@ -10,4 +10,5 @@ invariant_of-self-2 c =
     tracked-saved c.self.inside c.push.new.self c.len-place.result c.args.response c.self.invariant
     (ap has_finish c.self.view_is ∙ c.requires.unfinished)
     (omega (arith, c.self.invariant.answering, ap (λ s. length (filter is_answering s)) c.self.view_is, c.requires.room))
+    c.requires.truth
     c.in_ok-push.ensures.items at_end
