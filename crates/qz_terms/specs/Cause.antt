@@ -1,6 +1,6 @@
 -- Why a request is refused: the first of the causes, in their order, that holds.
 use Rattle.std.specs.Ordering.{int_eq}
-use Rattle.std.specs.Prelude.{ℕ, ◌+◌, ◌*◌, max, Bool, true, false, not, ◌&&◌, ◌||◌, List, [], ◌∷◌, length, ℤ, pos, is_none, if◌then◌else◌, nat_lt, nat_le, ◌==◌, int_lt, Some, None, bytes_eq, filter, filter_map, Option, unwrap_or, option_map, option_and_then}
+use Rattle.std.specs.Prelude.{ℕ, ◌+◌, ◌*◌, max, Bool, true, false, not, ◌&&◌, ◌||◌, List, [], ◌∷◌, length, ℤ, pos, is_none, is_some, if◌then◌else◌, nat_lt, nat_le, ◌==◌, int_lt, Some, None, bytes_eq, filter, filter_map, Option, unwrap_or, option_map, option_and_then}
 use Rattle.qz_decimal.specs.Numbers.{one}
 use Rattle.qz_grading.specs.declared.question.Bank.{Bank}
 use Rattle.qz_grading.specs.declared.question.Kind.{Kind}
@@ -173,6 +173,23 @@ said_at l r = place_by l r r.event
 abbrev pub repeated_or_reused : Bool → List Record → Record → Verdict
 repeated_or_reused true l r = Repeated l r
 repeated_or_reused false l r = Denied (refusal.KeyReused (said_at l r))
+
+-- a request that only looks has no key, nor has a settling, or a worker's work
+abbrev pub is_keyless : Request → Bool
+is_keyless (request.Work job shard) = true
+is_keyless (request.Settle attempt) = true
+is_keyless (request.Live shard attempt) = true
+is_keyless request.Jobs = true
+is_keyless (request.View attempt slot) = true
+is_keyless (request.Total attempt) = true
+is_keyless (request.Page attempt) = true
+is_keyless (request.Grade quiz owner) = true
+is_keyless (request.Report quiz) = true
+is_keyless (request.Bank entry version) = true
+is_keyless x = false
+
+abbrev pub is_keyed : Ask → Bool
+is_keyed ask = if is_keyless ask.request then is_none ask.key else is_some ask.key
 
 -- a key that stands in the list with the same request is answered again; with another it is refused
 abbrev pub by_key : (Record → Bool) → ℕ → Option (List ℕ) → List Record → Option Verdict

@@ -19,6 +19,7 @@ use Rattle.qz_terms.specs.declared.record.Terms.{Terms}
 use Rattle.qz_terms.specs.declared.request.Request.TheVariants as request
 use Rattle.qz_terms.specs.Access.{default_settings}
 use Rattle.qz_terms.specs.Catalog as catalog
+use Rattle.qz_terms.specs.Cause.{is_keyed}
 use Rattle.qz_terms.specs.ExamplesSchool.{School, asked_with, first_attempt, school, then_has, true_false}
 use Rattle.qz_terms.specs.Legal.{Agrees, IsAllowed}
 
@@ -90,7 +91,7 @@ start_is_allowed = record {
   moment = refl;
   key = refl;
   event = record {
-    is_put = record { user = ann; plan = plan_at_7; ask = start; by_caller = refl; under_terms = refl; of_quiz = refl; when_ready = refl; granted = refl; put = refl };
+    is_put = record { user = ann; plan = plan_at_7; ask = start; keyed = refl; by_caller = refl; under_terms = refl; of_quiz = refl; when_ready = refl; granted = refl; put = refl };
     learns = refl;
     above_floor = refl;
     at_terms = refl;
@@ -102,7 +103,7 @@ save_is_allowed = record {
   owner = refl;
   moment = refl;
   key = refl;
-  event = record { user = ann; plan = plan_at_7; ask = save; by_caller = refl; under_terms = refl; of_quiz = refl; when_ready = refl; granted = refl; put = refl };
+  event = record { user = ann; plan = plan_at_7; ask = save; keyed = refl; by_caller = refl; under_terms = refl; of_quiz = refl; when_ready = refl; granted = refl; put = refl };
 }
 
 pub finish_is_allowed : IsAllowed 0 1 (start_record ∷ save_record ∷ []) finish_record
@@ -110,7 +111,7 @@ finish_is_allowed = record {
   owner = refl;
   moment = refl;
   key = refl;
-  event = record { user = ann; plan = plan_at_7; ask = finish; by_caller = refl; under_terms = refl; of_quiz = refl; when_ready = refl; granted = refl; put = refl };
+  event = record { user = ann; plan = plan_at_7; ask = finish; keyed = refl; by_caller = refl; under_terms = refl; of_quiz = refl; when_ready = refl; granted = refl; put = refl };
 }
 
 pub rebind_is_allowed : IsAllowed 0 1 (start_record ∷ save_record ∷ finish_record ∷ []) rebind_record
@@ -166,3 +167,10 @@ rebind_agrees = record { caller = refl; event = record { quiz = 1; of_quiz = ref
 
 pub done_agrees : Agrees corrected.records (start_record ∷ save_record ∷ finish_record ∷ rebind_record ∷ []) done_record
 done_agrees = record { caller = refl; event = record { job = the_job; job_is = refl; quiz = refl; position_is = refl } }
+
+-- a finish has a key, and a settling has none
+pub no_keyless_finish : is_keyed (record finish { key = None }) ≡ false
+no_keyless_finish = refl
+
+pub no_settling_with_a_key : is_keyed (record finish { request = request.Settle first_attempt }) ≡ false
+no_settling_with_a_key = refl

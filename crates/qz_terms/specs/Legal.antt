@@ -22,7 +22,7 @@ use Rattle.qz_terms.specs.declared.request.Request.{Request}
 use Rattle.qz_terms.specs.declared.request.Request.TheVariants as request
 use Rattle.qz_terms.specs.Answer.{attempt_named, bind, keeps_record, moment_in, put_here}
 use Rattle.qz_terms.specs.Catalog as catalog
-use Rattle.qz_terms.specs.Cause.{Granted, has_key, verdict_here, verdict_in}
+use Rattle.qz_terms.specs.Cause.{Granted, has_key, is_keyed, verdict_here, verdict_in}
 use Rattle.qz_terms.specs.History as history
 use Rattle.qz_terms.specs.Lists.{first_of, once}
 
@@ -80,11 +80,12 @@ is_plan_for l plan (request.Start quiz) = plan.quiz == quiz
 is_plan_for l plan (request.Grade quiz owner) = plan.quiz == quiz
 is_plan_for l plan x = unwrap_or (option_map (λ q. plan.quiz == q) (option_and_then (history.quiz l) (attempt_named x))) true
 
--- A request put it: for some user and plan that its caller and terms tell, of a quiz that is ready.
+-- A request put it, with a key exactly where it has one: for some user and plan that its caller and terms tell, of a quiz that is ready.
 pub record IsPut (l : List Record) (r : Record) : Type 0 where
   pub user : User
   pub plan : Plan
   pub ask : Ask
+  pub keyed : is_keyed ask ≡ true
   pub by_caller : user.number ≡ r.caller
   pub under_terms : r.terms ≡ Some (record { at = plan.at; settings = plan.settings })
   pub of_quiz : is_plan_for l plan ask.request ≡ true

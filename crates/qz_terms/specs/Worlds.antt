@@ -1,6 +1,6 @@
 -- Every schedule: what turns, mendings and stops, in any order, make of the lists of a school. No thread stands in it.
 use Rattle.std.specs.List.{range_with_len}
-use Rattle.std.specs.Prelude.{◌≡◌, ℕ, ◌+◌, ◌-◌, ◌%◌, Bool, true, false, not, ◌&&◌, ◌||◌, ◌⊎◌, List, [], ◌∷◌, ◌++◌, map, length, drop, replicate, pos, is_some, is_none, if◌then◌else◌, nat_lt, nat_le, ◌==◌, slice_get, Some, None, fold, Option, unwrap_or, option_map, option_to_list, slice_set}
+use Rattle.std.specs.Prelude.{◌≡◌, ℕ, ◌+◌, ◌-◌, ◌%◌, Bool, true, false, not, ◌&&◌, ◌||◌, ◌⊎◌, List, [], ◌∷◌, ◌++◌, map, length, drop, replicate, pos, if◌then◌else◌, nat_lt, nat_le, ◌==◌, slice_get, Some, None, fold, Option, unwrap_or, option_map, option_to_list, slice_set}
 use Rattle.qz_grading.specs.declared.refusal.AttemptId.{AttemptId}
 use Rattle.qz_grading.specs.declared.refusal.Refusal.{Refusal}
 use Rattle.qz_grading.specs.declared.refusal.Refusal.TheVariants as refusal
@@ -25,7 +25,7 @@ use Rattle.qz_terms.specs.declared.request.Request.{Request}
 use Rattle.qz_terms.specs.declared.request.Request.TheVariants as request
 use Rattle.qz_terms.specs.Answer.{answer_here, asks_catalog, attempt_named, catalog_after, catalog_answer, list_after, live_answer, named_user, work_after, work_answer}
 use Rattle.qz_terms.specs.Catalog as catalog
-use Rattle.qz_terms.specs.Cause.{forbidden, missing_attempt, missing_in, rule_of}
+use Rattle.qz_terms.specs.Cause.{forbidden, is_keyed, missing_attempt, missing_in, rule_of}
 use Rattle.qz_terms.specs.History as history
 use Rattle.qz_terms.specs.Lists.{first_of, in_order}
 use Rattle.qz_terms.specs.Parts.{part}
@@ -336,26 +336,13 @@ loaded c parts callers = record {
 
 -- ---- which events are possible
 
-abbrev pub is_keyless : Request → Bool
-is_keyless (request.Work job shard) = true
-is_keyless (request.Settle attempt) = true
-is_keyless (request.Live shard attempt) = true
-is_keyless request.Jobs = true
-is_keyless (request.View attempt slot) = true
-is_keyless (request.Total attempt) = true
-is_keyless (request.Page attempt) = true
-is_keyless (request.Grade quiz owner) = true
-is_keyless (request.Report quiz) = true
-is_keyless (request.Bank entry version) = true
-is_keyless x = false
-
 abbrev pub is_worker : Caller → Bool
 is_worker (caller.Token token) = false
 is_worker caller.Worker = true
 
 -- an ask has a key exactly where its request has one, and a worker asks only what workers may
 abbrev pub is_formed : Ask → Bool
-is_formed ask = (if is_keyless ask.request then is_none ask.key else is_some ask.key) && (not (is_worker ask.caller) || (rule_of ask.request == 4))
+is_formed ask = is_keyed ask && (not (is_worker ask.caller) || (rule_of ask.request == 4))
 
 abbrev pub is_keep_or_memory : Refusal → Bool
 is_keep_or_memory refusal.KeepFault = true
