@@ -10,7 +10,6 @@ use Rattle.qz_grading.specs.declared.response.Answer.TheVariants as answer
 use Rattle.qz_grading.specs.declared.response.Response.{Response}
 use Rattle.qz_grading.specs.declared.response.Step.{Step}
 use Rattle.qz_grading.specs.declared.response.Step.TheVariants as step
-use Rattle.qz_grading.specs.Grading.{is_place}
 use Rattle.qz_grading.specs.Questions.{IsQuestion, are_no_longer}
 use Rattle.qz_terms.specs.declared.access.Settings.{Settings}
 use Rattle.qz_terms.specs.declared.plan.Bound.{Bound}
@@ -21,6 +20,7 @@ use Rattle.qz_terms.specs.declared.record.Record.{Record}
 use Rattle.qz_terms.specs.declared.record.Terms.{Terms}
 use Rattle.qz_terms.specs.declared.request.Request.{Request}
 use Rattle.qz_terms.specs.declared.request.Request.TheVariants as request
+use Rattle.qz_terms.specs.Answer.{keeps_record}
 
 -- ---- numbers
 
@@ -47,15 +47,13 @@ is_bound b = int_le (pos 0) b.max && int_le b.max (pos (10000 * one))
 
 -- ---- responses
 
+-- of a response only the length of its text is kept
 abbrev pub is_answer : Answer → Bool
-is_answer answer.Blank = true
-is_answer (answer.Pick n) = is_place 64 n
-is_answer (answer.Picks ns) = list_all (is_place 64) ns
-is_answer (answer.Match ns) = list_all (λ n. nat_le n 64) ns
 is_answer (answer.Words text) = nat_le (length text) 65536
+is_answer a = true
 
 abbrev pub is_response : Response → Bool
-is_response r = is_answer r.answer && nat_le r.certainty 3
+is_response r = is_answer r.answer
 
 abbrev pub is_step : Step → Bool
 is_step (step.Save r) = is_response r
@@ -78,6 +76,7 @@ AreLearned ls = AreQuestions (map (λ (l : Learned). l.question) ls)
 
 -- ---- records
 
+-- what a request to the catalogue keeps beside; any other has no record of its own
 abbrev pub KeepsRequest : Request → Type 0
 KeepsRequest (request.Import gift) = AreQuestions (map (λ (i : Item). i.question) gift.items)
 KeepsRequest (request.Edit entry gift) = IsQuestion gift
@@ -89,7 +88,7 @@ KeepsRequest x = Unit {0}
 
 abbrev pub KeepsEvent : Event → Type 0
 KeepsEvent (event.Founded shards token) = nat_le 1 shards && nat_le shards 64 ≡ true
-KeepsEvent (event.Asked x) = KeepsRequest x
+KeepsEvent (event.Asked x) = (keeps_record x ≡ true) × KeepsRequest x
 KeepsEvent (event.Started quiz nth behaviour bounds learned) = (nat_le (length bounds) 200 && list_all is_bound bounds ≡ true) × AreLearned learned
 KeepsEvent (event.Acted a k x) = is_step x ≡ true
 KeepsEvent (event.Noted a k x) = is_step x ≡ true

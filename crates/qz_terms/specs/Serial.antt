@@ -1,6 +1,6 @@
 -- What one caller may see of a school, request by request.
-use Rattle.std.specs.List.{AllZip, list_all}
-use Rattle.std.specs.Prelude.{◌≡◌, ℕ, Bool, true, false, ◌&&◌, ◌||◌, List, [], ◌∷◌, ◌++◌, map, length, drop, is_some, is_none, if◌then◌else◌, slice_get, Some, None, Option, unwrap_or, option_map, option_to_list, slice_set}
+use Rattle.std.specs.List.{AllZip, enumerate_from, list_all}
+use Rattle.std.specs.Prelude.{◌≡◌, ℕ, Bool, true, false, ◌&&◌, ◌||◌, List, [], ◌∷◌, ◌++◌, map, length, drop, is_some, is_none, if◌then◌else◌, ◌==◌, filter, slice_get, Some, None, Option, unwrap_or, option_map, slice_set}
 use Rattle.qz_grading.specs.declared.refusal.Refusal.TheVariants as refusal
 use Rattle.qz_grading.specs.Questions.{parts}
 use Rattle.qz_terms.specs.declared.ask.Ask.{Ask}
@@ -9,7 +9,8 @@ use Rattle.qz_terms.specs.declared.reply.Reply.{Reply}
 use Rattle.qz_terms.specs.declared.reply.Reply.TheVariants as reply
 use Rattle.qz_terms.specs.declared.request.Request.{Request}
 use Rattle.qz_terms.specs.declared.request.Request.TheVariants as request
-use Rattle.qz_terms.specs.Answer.{asked_part, catalog_list, school_answer, shard_list}
+use Rattle.qz_terms.specs.Answer.{asked_part, catalog_list, first_refusal, school_answer, shard_list}
+use Rattle.qz_terms.specs.Catalog.{user_of}
 use Rattle.qz_terms.specs.Lists.{first_of}
 
 -- a list of records, and the record in doubt behind it, if any
@@ -43,16 +44,28 @@ lists_of parts = map (λ (k : Held). k.list) parts
 abbrev pub holds_no_doubt : Held → Bool
 holds_no_doubt k = is_none k.doubt
 
-abbrev pub asked_parts : Lists → Ask → List Held
-asked_parts a ask = unwrap_or (option_map (λ k. option_to_list (slice_get a.parts k)) (asked_part a.records.list ask)) []
+-- a request of a user that the catalogue doesn't refuse goes on to the shards
+abbrev pub goes_on : Lists → Ask → Bool
+goes_on a ask = unwrap_or (option_map (λ user. is_none (first_refusal a.records.list user ask.request)) (user_of a.records.list ask.caller)) false
+
+-- the shard whose list it reads, where it reads one
+abbrev pub part_read : Lists → Ask → Option ℕ
+part_read a ask = if goes_on a ask then asked_part a.records.list ask else None
 
 abbrev pub is_report : Request → Bool
 is_report (request.Report quiz) = true
 is_report x = false
 
+-- a report reads the list of each shard
+abbrev pub reads_part : Lists → Ask → ℕ → Bool
+reads_part a ask k = if is_report ask.request then goes_on a ask else unwrap_or (option_map (λ n. n == k) (part_read a ask)) false
+
+abbrev pub parts_read : Lists → Ask → List Held
+parts_read a ask = map (λ (x : ℕ × Held). x.1) (filter (λ (x : ℕ × Held). reads_part a ask x.0) (enumerate_from 0 a.parts))
+
 -- the lists that a request reads aren't in doubt
 abbrev pub is_settled : Lists → Ask → Bool
-is_settled a ask = holds_no_doubt a.records && list_all holds_no_doubt (if is_report ask.request then a.parts else asked_parts a ask)
+is_settled a ask = holds_no_doubt a.records && list_all holds_no_doubt (parts_read a ask)
 
 abbrev pub reply_over : Lists → ℕ → Ask → Reply
 reply_over a now ask = school_answer a.records.list (lists_of a.parts) now ask
@@ -69,7 +82,7 @@ parts_over a now ask (Some k) = slice_set a.parts k (with_list (shard_list a.rec
 
 -- the lists with the record that the request puts
 abbrev pub lists_over : Lists → ℕ → Ask → Lists
-lists_over a now ask = record { records = with_list (catalog_list a.records.list now ask); parts = parts_over a now ask (asked_part a.records.list ask) }
+lists_over a now ask = record { records = with_list (catalog_list a.records.list now ask); parts = parts_over a now ask (part_read a ask) }
 
 -- the record that a longer list has behind the first
 abbrev pub added : List Record → List Record → Option Record
@@ -84,7 +97,7 @@ doubted_parts a now ask (Some k) = slice_set a.parts k (doubted (part_list a k) 
 
 -- the lists with that record in doubt
 abbrev pub doubt_over : Lists → ℕ → Ask → Lists
-doubt_over a now ask = record { records = doubted a.records.list (catalog_list a.records.list now ask); parts = doubted_parts a now ask (asked_part a.records.list ask) }
+doubt_over a now ask = record { records = doubted a.records.list (catalog_list a.records.list now ask); parts = doubted_parts a now ask (part_read a ask) }
 
 abbrev pub added_to_part : Lists → ℕ → Ask → Option ℕ → Option Record
 added_to_part a now ask None = None
@@ -92,7 +105,7 @@ added_to_part a now ask (Some k) = added (part_list a k) (shard_list a.records.l
 
 -- whether the request puts a record
 abbrev pub puts_record : Lists → ℕ → Ask → Bool
-puts_record a now ask = is_some (added a.records.list (catalog_list a.records.list now ask)) || is_some (added_to_part a now ask (asked_part a.records.list ask))
+puts_record a now ask = is_some (added a.records.list (catalog_list a.records.list now ask)) || is_some (added_to_part a now ask (part_read a ask))
 
 -- one request: it is answered, or the record that it puts is in doubt, or a list stays in doubt, or memory was wanting
 pub data Turn : (a b : Lists) (now : ℕ) (ask : Ask) (r : Reply) → Type 0 where
@@ -101,9 +114,14 @@ pub data Turn : (a b : Lists) (now : ℕ) (ask : Ask) (r : Reply) → Type 0 whe
   stayed_in_doubt : (m : Lists) (now : ℕ) (ask : Ask) → is_settled m ask ≡ false → Turn m m now ask (reply.Refused refusal.KeepFault)
   no_memory : (m : Lists) (now : ℕ) (ask : Ask) → Turn m m now ask (reply.Refused refusal.Memory)
 
+-- a shard's list that the request doesn't read stays as it is, with its doubt
+pub record KeepsUnread (old new : Lists) (ask : Ask) : Type 0 where
+  pub same : (k : ℕ) → reads_part new ask k ≡ false → slice_get new.parts k ≡ slice_get old.parts k
+
 pub record Asks (a b : Lists) (now : ℕ) (ask : Ask) (r : Reply) : Type 0 where
   pub mended : Lists
   pub mends : AllMended a mended
+  pub keeps : KeepsUnread a mended ask
   pub turn : Turn mended b now ask r
 
 abbrev pub Goes : Lists → Lists → Line → Reply → Type 0
