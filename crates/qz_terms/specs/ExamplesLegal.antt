@@ -18,9 +18,11 @@ use Rattle.qz_terms.specs.declared.record.Record.{Record}
 use Rattle.qz_terms.specs.declared.record.Terms.{Terms}
 use Rattle.qz_terms.specs.declared.request.Request.TheVariants as request
 use Rattle.qz_terms.specs.Access.{default_settings}
+use Rattle.qz_terms.specs.Answer.{keeps_record}
 use Rattle.qz_terms.specs.Catalog as catalog
 use Rattle.qz_terms.specs.Cause.{is_keyed}
 use Rattle.qz_terms.specs.ExamplesSchool.{School, asked_with, first_attempt, school, then_has, true_false}
+use Rattle.qz_terms.specs.Kept.{IsKept}
 use Rattle.qz_terms.specs.Legal.{Agrees, IsAllowed}
 
 -- the plan of the quiz before and after the correction
@@ -174,3 +176,10 @@ no_keyless_finish = refl
 
 pub no_settling_with_a_key : is_keyed (record finish { request = request.Settle first_attempt }) ≡ false
 no_settling_with_a_key = refl
+
+-- what a save's record keeps, and a start is no request to the catalogue
+pub save_is_kept : IsKept save_record
+save_is_kept = record { moment = refl; settings = refl; event = refl }
+
+pub start_is_no_record_of_the_catalogue : keeps_record (request.Start 1) ≡ false
+start_is_no_record_of_the_catalogue = refl
