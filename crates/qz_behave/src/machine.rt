@@ -163,8 +163,8 @@ impl Machine {
         Ok(moved)
     }
 
-    /// The first cause for which a step is refused.
-    fn barred(&self, step: &Step) -> Option<Refusal>
+    /// The first cause for which a step is refused, whether or not its response fits.
+    pub fn barred(&self, step: &Step) -> Option<Refusal>
         requires { is_played self.now.behaviour ≡ true }
         ensures { (q : Question) (s : List Step) → IsAfter self.now q s → result ≡ barred self.now.behaviour q s step.now }
     {

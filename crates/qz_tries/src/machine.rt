@@ -174,8 +174,8 @@ impl TryMachine {
         Ok(Moved::Kept)
     }
 
-    /// The first cause for which a step is refused.
-    fn barred(&self, question: &Question, before: &[Step], step: &Step) -> Option<Refusal>
+    /// The first cause for which a step is refused, whether or not its response fits.
+    pub fn barred(&self, question: &Question, before: &[Step], step: &Step) -> Option<Refusal>
         requires { IsAfter self.now question.now before.now }
         ensures { result ≡ barred self.now.behaviour question.now before.now step.now }
     {
