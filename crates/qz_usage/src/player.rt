@@ -3,14 +3,14 @@
 ghost use Rattle.std.specs.Prelude.{◌≡◌, ◌+◌, ◌-◌, ◌^◌, ◌<◌, ◌≤◌, ◌++◌, ◌∷◌, [], length, true, false, None, Some, Ok, IfOk, IfErr, OnErr, IfSome, take};
 ghost use Rattle.qz_decimal.specs.Numbers.{IsEarnedFraction};
 ghost use Rattle.qz_grading.specs.Questions.{IsQuestion};
-ghost use Rattle.qz_grading.specs.Behaviours.{barred, moved};
+ghost use Rattle.qz_grading.specs.Behaviours.{barred, barred_showing, moved};
 ghost use Rattle.qz_grading.specs.Slots.{is_misfit};
 ghost use Rattle.qz_behave.specs.Machines.{is_save};
 ghost use Rattle.qz_usage.specs.Players.{played_behaviour, played_outcome, HasPlayed};
 ghost use Rattle.qz_usage.specs.Runs.{has_misfit};
 
 use qz_behave::Machine;
-use qz_grading::{Behaviour, Moved, Outcome, Question, Refusal, Step, Steps};
+use qz_grading::{Behaviour, Moved, Outcome, Question, Refusal, State, Step, Steps};
 use qz_tries::TryMachine;
 use std::sync::ledger::Ledger;
 
@@ -55,19 +55,21 @@ impl Player {
         }
     }
 
-    /// The first cause for which the machine refuses a step, whether or not its response fits.
+    /// The first cause for which the machine refuses a step, whether or not its response fits. A refusal after the end carries
+    /// the state that is shown.
     pub(crate) fn barred(
         &self,
         question: &Question,
         before: &[Step],
         step: &Step,
+        shown: State,
     ) -> Option<Refusal>
         requires { HasPlayed self.now question.now before.now }
-        ensures { result ≡ barred (played_behaviour self.now) question.now before.now step.now }
+        ensures { result ≡ barred_showing shown (played_behaviour self.now) question.now before.now step.now }
     {
         match self {
-            Player::Once(machine) => machine.barred(step),
-            Player::Tries(machine) => machine.barred(question, before, step),
+            Player::Once(machine) => machine.barred(step, shown),
+            Player::Tries(machine) => machine.barred(question, before, step, shown),
         }
     }
 

@@ -90,10 +90,33 @@ fn same_shape(one: Shape, other: Shape) -> bool
     one.kind == other.kind && one.first == other.first && one.second == other.second
 }
 
+/// Whether a step is a Save, a Submit or an Again.
+fn is_answering(step: &Step) -> bool
+    ensures { result ≡ is_answering step.now }
+{
+    matches!(step, Step::Save(_) | Step::Submit(_) | Step::Again)
+}
+
 fn is_mark(step: &Step) -> bool
     ensures { result ≡ is_mark step.now }
 {
     matches!(step, Step::Mark { .. })
+}
+
+fn is_finish(step: &Step) -> bool
+    ensures { result ≡ is_finish step.now }
+{
+    matches!(step, Step::Finish)
+}
+
+/// The mark of a Mark step, and the max mark of that moment.
+fn given(step: &Step) -> Option<(Mark, Mark)>
+    ensures { result ≡ given step.now }
+{
+    match step {
+        Step::Mark { mark, max } => Some((*mark, *max)),
+        _ => None,
+    }
 }
 
 impl SlotRun {
@@ -283,8 +306,9 @@ impl SlotRun {
         requires { IsBound self.now question.now }
         ensures { result ≡ step_cause (behaviour_of self.now) question.now self.now.bound.max self.now.steps step.now }
     {
-        if let Some(refusal) = self.barred(question, step) {
-            return Some(refusal);
+        let barred = self.player.barred(question, &self.steps, step, self.state());
+        if barred.is_some() {
+            return barred;
         }
         if self.is_misfit(question, step) {
             return Some(Refusal::Misfit);
@@ -298,19 +322,6 @@ impl SlotRun {
             return Some(Refusal::NotFinished);
         }
         self.full_for(step)
-    }
-
-    /// The first cause that lies with the behaviour. It carries the state that the slot shows.
-    fn barred(&self, question: &Question, step: &Step) -> Option<Refusal>
-        requires { IsBound self.now question.now }
-        ensures { result ≡ barred_showing (slot_state (behaviour_of self.now) question.now self.now.steps) (behaviour_of self.now) question.now self.now.steps step.now }
-    {
-        match self.player.barred(question, &self.steps, step) {
-            Some(Refusal::SlotEnded { .. }) => Some(Refusal::SlotEnded {
-                state: self.state(),
-            }),
-            refusal => refusal,
-        }
     }
 
     /// Whether the step's response, if it has one, doesn't fit.
@@ -360,14 +371,10 @@ impl SlotRun {
         ensures adds { Adds self.old self.new step }
         ensures player { self.new.player ≡ self.old.player }
     {
-        match &step {
-            Step::Save(_) | Step::Submit(_) | Step::Again => self.answering += 1,
-            Step::Mark { mark, max } => {
-                self.marks += 1;
-                self.given = Some((*mark, *max));
-            }
-            Step::Finish => self.finished = true,
-        }
+        self.answering += u32::from(is_answering(&step));
+        self.marks += u32::from(is_mark(&step));
+        self.finished |= is_finish(&step);
+        self.given = given(&step).or(self.given);
         // Room was made before, so this takes no memory.
         self.steps.push(step).unwrap();
     }

@@ -1,0 +1,4 @@
+pub mod StepCounts
+pub mod MarkRanges
+pub mod Shapes
+pub mod RunLemmas
