@@ -192,7 +192,7 @@ impl Machine {
     }
 
     /// Whether a step would be kept, or is the same as the one before.
-    fn moved(&self, before: &[Step], step: &Step) -> Moved
+    pub fn moved(&self, before: &[Step], step: &Step) -> Moved
         requires { response_at before.now self.now.last ≡ last before.now }
         ensures { result ≡ moved before.now step.now }
     {

@@ -212,7 +212,7 @@ impl TryMachine {
     }
 
     /// Whether a step adds something to those before it.
-    fn moved(&self, before: &[Step], step: &Step) -> Moved
+    pub fn moved(&self, before: &[Step], step: &Step) -> Moved
         requires { response_at before.now self.now.last ≡ last before.now }
         ensures { result ≡ moved before.now step.now }
     {

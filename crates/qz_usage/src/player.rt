@@ -73,6 +73,17 @@ impl Player {
         }
     }
 
+    /// Whether a step adds something to those that it followed.
+    pub(crate) fn moved(&self, before: &[Step], step: &Step) -> Moved
+        requires { (q : Question) × HasPlayed self.now q before.now }
+        ensures { result ≡ moved before.now step.now }
+    {
+        match self {
+            Player::Once(machine) => machine.moved(before, step),
+            Player::Tries(machine) => machine.moved(before, step),
+        }
+    }
+
     /// Follows one more step, whether or not it is barred.
     pub(crate) fn feed<L: Ledger>(
         &mut self,
@@ -93,34 +104,6 @@ impl Player {
         match self {
             Player::Once(machine) => machine.feed(question, before, step, steps),
             Player::Tries(machine) => machine.feed(question, before, step, steps),
-        }
-    }
-
-    /// Takes one more step, or refuses it and stays as it was.
-    pub(crate) fn act<L: Ledger>(
-        &mut self,
-        question: &Question,
-        before: &[Step],
-        step: &Step,
-        steps: &mut Steps<L>,
-    ) -> Result<Moved, Refusal>
-        requires question { IsQuestion question.now }
-        requires played { HasPlayed self.old question.now before.now }
-        requires fits { is_misfit (played_behaviour self.old) question.now step.now ≡ false }
-        requires few { length before.now < 2 ^ 32 - 1 }
-        ensures refused { IfErr result (λ r. barred (played_behaviour self.old) question.now before.now step.now ≡ Some r) }
-        ensures taken { IfOk result (λ m. m ≡ moved before.now step.now) }
-        ensures played { result ≡ Ok Moved.Kept → HasPlayed self.new question.now (before.now ++ step.now ∷ []) }
-        ensures same { result ≡ Ok Moved.Same → self.new ≡ self.old }
-        ensures unchanged { OnErr result (self.new ≡ self.old) }
-        ensures behaviour { played_behaviour self.new ≡ played_behaviour self.old }
-        ensures count { steps.new ≤ steps.old + 1 }
-        ensures save { is_save step.now ≡ true → steps.new ≡ steps.old }
-        ensures refused_count { OnErr result (steps.new ≡ steps.old) }
-    {
-        match self {
-            Player::Once(machine) => machine.act(question, before, step, steps),
-            Player::Tries(machine) => machine.act(question, before, step, steps),
         }
     }
 

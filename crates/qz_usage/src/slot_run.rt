@@ -187,11 +187,11 @@ impl SlotRun {
         if let Some(refusal) = self.cause(question, &step) {
             return Err(refusal);
         }
-        let moved = self.player.act(question, &self.steps, &step, steps)?;
-        if moved == Moved::Kept {
-            self.keep(step);
+        if self.player.moved(&self.steps, &step) == Moved::Same {
+            return Ok(Moved::Same);
         }
-        Ok(moved)
+        self.feed(question, step, steps);
+        Ok(Moved::Kept)
     }
 
     /// Follows a step that was taken before, and asks no cause. It takes no memory. A Save counts no grading, and any other step

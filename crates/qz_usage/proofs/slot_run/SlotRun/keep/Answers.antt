@@ -1,16 +1,24 @@
-use Rattle.std.proofs.Common.{rules, refl, ◌≡◌, ◌+◌, ◌<◌, ◌≤◌, ◌++◌, ◌∷◌, [], length, filter, ℤ, Bool, true, false, Some, None, Ok, not, ◌&&◌, IfSome, IfNone, IfOk, IfErr, OnOk, OnErr, MatchResult, if◌then◌else◌, ℕ, ◌-◌, ◌*◌, ◌/◌, ◌%◌, nat_eq, nat_lt, List, slice_index_or, slice_set, bit_and, bit_or, Fits, w8, w32, w64, Bor, MutBor}
-use Rattle.std.specs.List.{list_any}
-use Rattle.qz_decimal.specs.Numbers.{IsMaxMark, IsSlotMark, IsEarnedFraction}
-use Rattle.qz_grading.specs.Grading.{shape}
-use Rattle.qz_grading.specs.Shapes.{same_shape}
-use Rattle.qz_grading.specs.Questions.{IsQuestion}
-use Rattle.qz_grading.specs.Steps.{given, is_answering, is_mark, is_finish, has_finish}
-use Rattle.qz_grading.specs.Behaviours.{behaviour_for, barred_showing, moved, outcome, marked}
-use Rattle.qz_grading.specs.Slots.{slot_state, slot_mark, step_cause, last_given, is_misfit, is_out_of_range, is_full_for}
-use Rattle.qz_behave.specs.Machines.{is_save}
-use Rattle.qz_usage.specs.Runs.{behaviour_of, outcome_of, IsBound, IsGiven, IsWithinLimits, Adds}
+use Rattle.std.proofs.Common.{◌≡◌, ◌++◌, ◌∷◌, [], List, sym, subst, rules}
+use Rattle.std.specs.Prelude.{IfSome}
+use Rattle.std.specs.Option.{option_or}
+use Rattle.qz_grading.specs.declared.response.Step.{Step}
+use Rattle.qz_grading.specs.Steps.{is_answering, is_mark}
+use Rattle.qz_usage.specs.Runs.{IsGiven, IsWithinLimits}
+use Rattle.qz_usage.proofs.StepCounts.{counted_more, finished_more, given_more, given_in_range}
 use Rattle.qz_usage.proofs.slot_run.SlotRun.keep.Goals as goal
-use Rattle.qz_usage.proofs.StepCounts.{count-push, last_given-push}
 
 pub invariant_of-self : goal.invariant_of-self
-invariant_of-self c = ?
+invariant_of-self c =
+    let items = c.push.new.self.items in
+    let before = c.self.inside.steps.items in
+    let longer : items ≡ before ++ c.args.step ∷ [] = rw c.unwrap.ensures at c.push.ensures.items in
+    record {
+      answering = counted_more is_answering items before c.args.step _ _ _ longer c.self.invariant.answering c.is_answering.ensures c.from.ensures;
+      marks = counted_more is_mark items before c.args.step _ _ _ longer c.self.invariant.marks c.is_mark.ensures c.from-2.ensures;
+      finished = finished_more items before c.args.step _ _ longer c.self.invariant.finished c.is_finish.ensures;
+      given = given_more items before c.args.step _ _ _ longer c.self.invariant.given c.given.ensures c.or-self-inside.ensures;
+      in_range = rw (c.or-self-inside.ensures, c.given.ensures) (given_in_range _ _ c.requires.given c.self.invariant.in_range);
+      limits = rw longer (search rules);
+      max = c.self.invariant.max;
+      earned = c.self.invariant.earned;
+    }
