@@ -1,6 +1,6 @@
 -- The mark of a slot is in range.
-use Rattle.std.proofs.Common.{◌≡◌, ℕ, zero, suc, ◌*◌, ◌<◌, ◌≤◌, ◌^◌, zero-le, ℤ, pos, negsuc, neg_ℤ, ◌*ℤ◌, refl, arith, inl, inr}
-use Rattle.std.specs.Prelude.{unsigned_abs, if◌then◌else◌, Bool, true, false}
+use Rattle.std.proofs.Common.{◌≡◌, ℕ, zero, suc, ◌*◌, ◌≤◌, ℤ, pos, negsuc, ◌*ℤ◌, arith}
+use Rattle.std.specs.Prelude.{unsigned_abs, false}
 use Rattle.std.specs.Ordering.{int_eq}
 use Rattle.std.proofs.lemmas.Int.{ints, unsigned_abs-mul}
 use Rattle.std.proofs.lemmas.Nat.{mul-le}

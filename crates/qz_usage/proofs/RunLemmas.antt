@@ -1,23 +1,20 @@
 -- A slot with one more step.
-use Rattle.std.proofs.Common.{◌≡◌, ◌≢◌, ℕ, ◌+◌, ◌<◌, ◌≤◌, Bool, true, false, not, ◌&&◌, ◌||◌, List, [], ◌∷◌, ◌++◌, length, Option, Some, None, refl, ap, subst, ◌∙◌, sym, arith, take, rules}
-use Rattle.std.specs.Prelude.{if◌then◌else◌, filter, IfSome, ℤ, pos, int_lt, slice_index_or}
+use Rattle.std.proofs.Common.{◌≡◌, ℕ, ◌+◌, ◌<◌, true, false, not, ◌&&◌, ◌||◌, List, [], ◌∷◌, ◌++◌, length, None, ap, subst, ◌∙◌, sym, arith, take, rules}
+use Rattle.std.specs.Prelude.{IfSome, ℤ, pos, int_lt, slice_index_or}
 use Rattle.std.proofs.lemmas.Int.{ints}
 use Rattle.std.proofs.lemmas.Bool.{false_from_ne_true}
 use Rattle.std.proofs.lemmas.List.{take_more}
 use Rattle.std.proofs.lemmas.List.Folds.{list_any_at}
-use Rattle.std.proofs.lemmas.Bool.Decides.{nat_tests}
 use Rattle.qz_decimal.specs.Numbers.{IsEarnedFraction, IsMaxMark, IsWithin}
 use Rattle.qz_grading.specs.declared.outcome.Behaviour.{Behaviour}
-use Rattle.qz_grading.specs.declared.outcome.Outcome.{Outcome}
 use Rattle.qz_grading.specs.declared.outcome.State.{State}
 use Rattle.qz_grading.specs.declared.question.Question.{Question}
-use Rattle.qz_grading.specs.declared.refusal.Refusal.{Refusal}
 use Rattle.qz_grading.specs.declared.refusal.Refusal.TheVariants as refusal
 use Rattle.qz_grading.specs.declared.response.Step.{Step}
 use Rattle.qz_grading.specs.declared.response.Step.TheVariants as step
 use Rattle.qz_grading.specs.Steps.{given, is_finish, is_mark, has_finish}
-use Rattle.qz_grading.specs.Behaviours.{barred, barred_showing, comes_late, first_some, is_response, is_wrong_action, needs_again, outcome, when}
-use Rattle.qz_grading.specs.Slots.{is_full_for, is_misfit, is_out_of_range, most_answering, most_marks, slot_state, step_cause}
+use Rattle.qz_grading.specs.Behaviours.{barred_showing, when}
+use Rattle.qz_grading.specs.Slots.{is_full_for, is_misfit, is_out_of_range, slot_state, step_cause}
 use Rattle.qz_usage.specs.declared.player.Player.{Player}
 use Rattle.qz_usage.specs.declared.player.Player.TheVariants as player
 use Rattle.qz_usage.specs.Players.{played_outcome, HasPlayed}
@@ -39,7 +36,7 @@ played_more p q s i x inside is h =
 pub fits_at : (b : Behaviour) (q : Question) (s : List Step) (i : ℕ) (x : Step) → has_misfit b q s ≡ false → i < length s → x ≡ slice_index_or s i x → is_misfit b q x ≡ false
 fits_at b q s i x none inside is =
     false_from_ne_true (is_misfit b q x) (λ t.
-        let some : has_misfit b q s ≡ true = list_any_at (is_misfit b q) s i x inside (ap (is_misfit b q) (sym is) ∙ t) in cc)
+    let some : has_misfit b q s ≡ true = list_any_at (is_misfit b q) s i x inside (ap (is_misfit b q) (sym is) ∙ t) in cc)
 
 -- ---- a step that is taken
 

@@ -306,7 +306,9 @@ impl SlotRun {
         requires { IsBound self.now question.now }
         ensures { result ≡ step_cause (behaviour_of self.now) question.now self.now.bound.max self.now.steps step.now }
     {
-        let barred = self.player.barred(question, &self.steps, step, self.state());
+        let barred = self
+            .player
+            .barred(question, &self.steps, step, self.state());
         if barred.is_some() {
             return barred;
         }

@@ -1,15 +1,14 @@
 //! The slots of an attempt.
 
-ghost use Rattle.std.specs.Prelude.{◌≡◌, ◌+◌, ◌-◌, ◌≤◌, List, [], length, map, zip, All, IfOk, IfSome, pos, true};
+ghost use Rattle.std.specs.Prelude.{◌≡◌, ◌≤◌, List, length, map, zip, unwrap_or, All, IfOk, IfSome, pos};
 ghost use Rattle.std.specs.Option.{option_copied};
-ghost use Rattle.qz_decimal.specs.Numbers.{IsMaxMark};
+ghost use Rattle.qz_decimal.specs.Numbers.{IsMaxMark, IsSlotMark};
 ghost use Rattle.qz_grading.specs.Grading.{at_place};
 ghost use Rattle.qz_grading.specs.Questions.{IsQuestion};
-ghost use Rattle.qz_grading.specs.Behaviours.{behaviour_for};
 ghost use Rattle.qz_terms.specs.Answer.{bind};
-ghost use Rattle.qz_terms.specs.Rows.{total_of};
-ghost use Rattle.qz_usage.specs.Runs.{behaviour_of, bound_of, steps_of, IsBound};
-ghost use Rattle.qz_usage.specs.Usages.{AreBound, scored, most_slots, IsTotal};
+ghost use Rattle.qz_terms.specs.Rows.{awaits_mark, total_of};
+ghost use Rattle.qz_usage.specs.Runs.{IsBound};
+ghost use Rattle.qz_usage.specs.Usages.{AreBound, AreOpened, scored, most_slots, IsTotal};
 
 use crate::SlotRun;
 use qz_decimal::Mark;
@@ -48,6 +47,21 @@ fn bind(at: u64, planned: Planned) -> Bound
     }
 }
 
+/// Whether a teacher's mark is missing that would count.
+fn awaits_mark(slot: &SlotRun) -> bool
+    ensures { (q : Question) → IsBound slot.now q → result ≡ awaits_mark (scored (slot.now, q)) }
+{
+    matches!(slot.state(), State::NeedsGrading) && slot.bound().max.0 > 0
+}
+
+/// What a slot adds to the total (in 10^-7): its mark, or nothing where there is none.
+fn counted(slot: &SlotRun) -> i64
+    ensures value { (q : Question) → IsBound slot.now q → result ≡ unwrap_or (scored (slot.now, q)).mark (pos 0) }
+    ensures range { IsSlotMark result }
+{
+    slot.mark().unwrap_or(Mark(0)).0
+}
+
 impl Usage {
     /// The slots of a plan, which has one question for each, without a step. Every max mark is from 0 to 10,000.
     pub fn new(alloc: Global, preferred: Behaviour, plan: &Plan) -> Result<Usage, NoMemory>
@@ -55,15 +69,13 @@ impl Usage {
         requires few { length plan.now.slots ≤ most_slots }
         requires questions { All IsQuestion plan.now.questions }
         requires maxes { All (λ s. IsMaxMark s.max) plan.now.slots }
-        ensures questions { IfOk result (λ u. AreBound u plan.now.questions) }
-        ensures behaviours { IfOk result (λ u. map behaviour_of u ≡ map (λ q. behaviour_for q.kind preferred) plan.now.questions) }
-        ensures bounds { IfOk result (λ u. map bound_of u ≡ map (bind plan.now.at) plan.now.slots) }
-        ensures steps { IfOk result (λ u. map steps_of u ≡ map (λ _. []) plan.now.questions) }
+        ensures { IfOk result (AreOpened preferred plan.now.at plan.now.slots plan.now.questions) }
     {
-        let mut slots = Vec::with_capacity(alloc, plan.slots.as_slice().len())?;
-        for (planned, question) in plan.slots.as_slice().iter().zip(plan.questions.as_slice()) {
+        let questions = plan.questions.as_slice();
+        let mut slots = Vec::with_capacity(alloc, questions.len())?;
+        for (place, planned) in plan.slots.as_slice().iter().enumerate() {
             let bound = bind(plan.at, *planned);
-            slots.push(SlotRun::new(alloc, preferred, question, bound)?)?;
+            slots.push(SlotRun::new(alloc, preferred, &questions[place], bound)?)?;
         }
         Ok(Usage { slots })
     }
@@ -89,12 +101,12 @@ impl Usage {
         ensures value { (qs : List Question) → AreBound self.now qs → result ≡ total_of (map scored (zip self.now qs)) }
         ensures range { IfSome result IsTotal }
     {
-        let mut total = 0i64;
+        let mut total = 0;
         for slot in &self.slots {
-            if slot.state() == State::NeedsGrading && slot.bound().max.0 > 0 {
+            if awaits_mark(slot) {
                 return None;
             }
-            total += slot.mark().unwrap_or(Mark(0)).0;
+            total += counted(slot);
         }
         Some(Mark(total))
     }

@@ -1,4 +1,4 @@
-use Rattle.std.proofs.Common.{◌≡◌, rules, arith}
+use Rattle.std.proofs.Common.{rules, arith}
 use Rattle.qz_usage.proofs.RunLemmas.{played_more, fits_at}
 use Rattle.qz_usage.proofs.player.Player.after.Goals as goal
 

@@ -1,4 +1,4 @@
-use Rattle.std.proofs.Common.{◌≡◌, ◌∙◌, ◌<◌, ap, sym, arith, rules, true, length}
+use Rattle.std.proofs.Common.{◌≡◌, ◌∙◌, ap, sym, arith, rules, true}
 use Rattle.qz_grading.specs.Grading.{shape}
 use Rattle.qz_grading.specs.Shapes.{same_shape}
 use Rattle.qz_usage.specs.Runs.{behaviour_of, steps_of}

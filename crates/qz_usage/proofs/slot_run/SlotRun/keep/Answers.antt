@@ -1,9 +1,5 @@
-use Rattle.std.proofs.Common.{◌≡◌, ◌++◌, ◌∷◌, [], List, sym, subst, rules}
-use Rattle.std.specs.Prelude.{IfSome}
-use Rattle.std.specs.Option.{option_or}
-use Rattle.qz_grading.specs.declared.response.Step.{Step}
+use Rattle.std.proofs.Common.{◌≡◌, ◌++◌, ◌∷◌, [], rules}
 use Rattle.qz_grading.specs.Steps.{is_answering, is_mark}
-use Rattle.qz_usage.specs.Runs.{IsGiven, IsWithinLimits}
 use Rattle.qz_usage.proofs.StepCounts.{counted_more, finished_more, given_more, given_in_range}
 use Rattle.qz_usage.proofs.slot_run.SlotRun.keep.Goals as goal
 

@@ -1,14 +1,9 @@
-use Rattle.std.proofs.Common.{◌≡◌, ◌+◌, ◌-◌, ◌≤◌, List, [], length, map, zip, All, IfOk, IfSome, pos, true, ℕ, ◌*◌, ◌<◌}
-use Rattle.std.specs.Option.{option_copied}
-use Rattle.qz_decimal.specs.Numbers.{IsMaxMark}
-use Rattle.qz_grading.specs.Grading.{at_place}
-use Rattle.qz_grading.specs.Questions.{IsQuestion}
-use Rattle.qz_grading.specs.Behaviours.{behaviour_for}
-use Rattle.qz_terms.specs.Answer.{bind}
-use Rattle.qz_terms.specs.Rows.{total_of}
-use Rattle.qz_usage.specs.Runs.{behaviour_of, bound_of, steps_of, IsBound}
-use Rattle.qz_usage.specs.Usages.{AreBound, scored, most_slots, IsTotal}
+use Rattle.std.proofs.Common.{◌≡◌, length, take}
+use Rattle.qz_usage.specs.Usages.{AreOpened}
 use Rattle.qz_usage.proofs.usage.Usage.new.Given as goal
 
-abbrev pub invariant-loop-planned : goal.invariant-loop-planned
-invariant-loop-planned l = ?
+abbrev pub invariant-loop-place : goal.invariant-loop-place
+invariant-loop-place l = record {
+  opened : AreOpened l.preferred l.plan.at (take l.place l.planned-items) (take l.place l.questions) l.slots.items;
+  count : length l.slots.items ≡ l.place;
+}
