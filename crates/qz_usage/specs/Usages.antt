@@ -1,5 +1,5 @@
 -- The slots of an attempt, in order.
-use Rattle.std.specs.Prelude.{◌≡◌, ℕ, ◌*◌, List, [], ◌∷◌, map, ℤ, pos, neg_ℤ}
+use Rattle.std.specs.Prelude.{◌≡◌, ℕ, ◌-◌, ◌*◌, ◌==◌, if◌then◌else◌, slice_set, List, [], ◌∷◌, map, ℤ, pos, neg_ℤ}
 use Rattle.qz_decimal.specs.Numbers.{IsWithin, one}
 use Rattle.qz_grading.specs.declared.outcome.Behaviour.{Behaviour}
 use Rattle.qz_grading.specs.declared.question.Question.{Question}
@@ -27,6 +27,10 @@ pub record AreOpened (preferred : Behaviour) (at : ℕ) (planned : List Planned)
 -- what a slot adds to the total
 abbrev pub scored : Run × Question → Scored
 scored s = record { state = slot_state (behaviour_of s.0) s.1 s.0.steps; max = s.0.bound.max; mark = slot_mark (behaviour_of s.0) s.1 s.0.bound.max s.0.steps }
+
+-- with another slot at a place, from 1, if there is one
+abbrev pub with_slot : List Run → ℕ → Run → List Run
+with_slot slots k r = if k == 0 then slots else slice_set slots (k - 1) r
 
 -- so many slots a quiz has
 abbrev pub most_slots : ℕ

@@ -1,14 +1,17 @@
 //! The slots of an attempt.
 
-ghost use Rattle.std.specs.Prelude.{◌≡◌, ◌≤◌, List, length, map, zip, unwrap_or, All, IfOk, IfSome, pos};
+ghost use Rattle.std.specs.Prelude.{◌≡◌, ◌≤◌, List, length, map, zip, unwrap_or, option_map, All, IfOk, IfSome, pos};
 ghost use Rattle.std.specs.Option.{option_copied};
+ghost use Rattle.std.specs.Borrow.{LendsIf, sem};
+ghost use Rattle.qz_usage.specs.contracts.usage.Usage.{the_row as usage_row};
+ghost use Rattle.qz_usage.specs.contracts.slot_run.SlotRun.{the_row as run_row};
 ghost use Rattle.qz_decimal.specs.Numbers.{IsMaxMark, IsSlotMark};
 ghost use Rattle.qz_grading.specs.Grading.{at_place};
 ghost use Rattle.qz_grading.specs.Questions.{IsQuestion};
 ghost use Rattle.qz_terms.specs.Answer.{bind};
 ghost use Rattle.qz_terms.specs.Rows.{awaits_mark, total_of};
 ghost use Rattle.qz_usage.specs.Runs.{IsBound};
-ghost use Rattle.qz_usage.specs.Usages.{AreBound, AreOpened, scored, most_slots, IsTotal};
+ghost use Rattle.qz_usage.specs.Usages.{AreBound, AreOpened, scored, with_slot, most_slots, IsTotal};
 
 use crate::SlotRun;
 use qz_decimal::Mark;
@@ -93,6 +96,14 @@ impl Usage {
         ensures { option_copied result ≡ at_place self.now k }
     {
         self.slots.get(usize::from(k).checked_sub(1)?)
+    }
+
+    /// The slot with this number, from 1, to be changed. No other slot changes.
+    pub fn slot_mut(&mut self, k: u16) -> Option<&mut SlotRun>
+        ensures* writes_back { sem 𝓛 (LendsIf usage_row run_row self.entry result (λ r. with_slot self.old k r) self.old) }
+        ensures value { option_map (λ r. r.now) result ≡ at_place self.old k }
+    {
+        self.slots.get_mut(usize::from(k).wrapping_sub(1))
     }
 
     /// The sum of the slots' marks (in 10^-7), where one that is missing counts 0. None while a slot of a max mark above 0 needs
