@@ -1,5 +1,6 @@
 -- Worked replays: what each line of the replay of one slot says. The questions are as GIFT would read them.
-use Rattle.std.specs.Prelude.{◌≡◌, ℕ, Bool, true, false, if◌then◌else◌, List, [], ◌∷◌, ◌++◌, replicate, Option, Some, None, ℤ, pos, negsuc, codes, refl}
+use Rattle.std.specs.Prelude.{◌≡◌, ℕ, Bool, true, false, if◌then◌else◌, List, [], ◌∷◌, ◌++◌, nat_le, length, filter, replicate, Option, Some, None, ℤ, pos, negsuc, codes, refl}
+use Rattle.std.proofs.Common.{ap}
 use Rattle.qz_decimal.specs.Decimals.{decimal_in, digits_in, tens_in, exact_size}
 use Rattle.qz_text.specs.Computing.{patterns}
 use Rattle.qz_grading.specs.declared.outcome.Behaviour.{Behaviour}
@@ -23,9 +24,10 @@ use Rattle.qz_grading.specs.declared.response.Answer.TheVariants as answer
 use Rattle.qz_grading.specs.declared.response.Response.{Response}
 use Rattle.qz_grading.specs.declared.response.Step.{Step}
 use Rattle.qz_grading.specs.declared.response.Step.TheVariants as step
-use Rattle.qz_grading.specs.Behaviours.{moved}
+use Rattle.qz_grading.specs.Behaviours.{first_some, moved, when}
 use Rattle.qz_grading.specs.Shapes.{same_shape, shape}
-use Rattle.qz_grading.specs.Slots.{slot_mark, slot_state, step_cause}
+use Rattle.qz_grading.specs.Slots.{is_full_for, slot_mark, slot_state, step_cause}
+use Rattle.qz_grading.specs.Steps.{is_answering, is_mark}
 use Rattle.qz_grading.specs.Words.{behaviour_word, kind_word, state_word}
 
 -- ---- what a line says
@@ -520,6 +522,29 @@ nothing_to_grade = refl
 
 pub read_to_its_end : line described [] step.Finish ≡ Shows state.Finished None
 read_to_its_end = refl
+
+-- ---- limits: what comes of so many steps
+
+abbrev when_full : ℕ → List (Option Refusal) → ℕ → Option Refusal
+when_full most others count = first_some (when (nat_le most count) (refusal.TooMany most) ∷ others)
+
+pub last_answering : (s : List Step) → length (filter is_answering s) ≡ 9999 → is_full_for s (save (pick 1)) ≡ None
+last_answering s e = ap (when_full 10000 (None ∷ [])) e
+
+pub no_more_answering : (s : List Step) → length (filter is_answering s) ≡ 10000 → is_full_for s (save (pick 1)) ≡ Some (refusal.TooMany 10000)
+no_more_answering s e = ap (when_full 10000 (None ∷ [])) e
+
+pub nor_again : (s : List Step) → length (filter is_answering s) ≡ 10000 → is_full_for s step.Again ≡ Some (refusal.TooMany 10000)
+nor_again s e = ap (when_full 10000 (None ∷ [])) e
+
+pub last_mark : (s : List Step) → length (filter is_mark s) ≡ 999 → is_full_for s (give (pos 0)) ≡ None
+last_mark s e = ap (when_full 1000 []) e
+
+pub no_more_marks : (s : List Step) → length (filter is_mark s) ≡ 1000 → is_full_for s (give (pos 0)) ≡ Some (refusal.TooMany 1000)
+no_more_marks s e = ap (when_full 1000 []) e
+
+pub a_finish_is_never_too_many : (s : List Step) → is_full_for s step.Finish ≡ None
+a_finish_is_never_too_many s = refl
 
 -- ---- the words of states
 
