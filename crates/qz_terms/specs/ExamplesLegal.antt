@@ -72,10 +72,10 @@ bound_at_7 = record { entry = 1; version = 1; max = pos 20000000; at = 7 }
 abbrev bound_at_9 : Bound
 bound_at_9 = record { entry = 1; version = 2; max = pos 20000000; at = 9 }
 
-abbrev start_record : Record
+abbrev pub start_record : Record
 start_record = anns 110 (codes "k1") (event.Started 1 1 Deferred (bound_at_7 ∷ []) (sky_1 ∷ []))
 
-abbrev save_record : Record
+abbrev pub save_record : Record
 save_record = anns 120 (codes "k2") (event.Acted first_attempt 1 (step.Save (record { answer = answer.Pick 1; certainty = 0 })))
 
 abbrev finish_record : Record
