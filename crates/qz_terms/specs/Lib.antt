@@ -28,4 +28,5 @@ pub mod ExamplesBank
 pub mod ExamplesSchedule
 pub mod ExamplesKeys
 pub mod ExamplesLegal
+pub mod ExamplesAllowed
 pub mod ExamplesSerial
