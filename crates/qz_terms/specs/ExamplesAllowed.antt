@@ -37,7 +37,7 @@ pick n = record { answer = answer.Pick n; certainty = 0 }
 abbrev save_again : Ask
 save_again = asked_with (codes "ann") (codes "k7") (request.Save first_attempt 1 0 (answer.Pick 1))
 
-abbrev noted_record : Record
+abbrev pub noted_record : Record
 noted_record = anns 125 (codes "k7") (event.Noted first_attempt 1 (step.Save (pick 1)))
 
 pub noted_is_allowed : IsAllowed 0 1 (start_record ∷ save_record ∷ []) noted_record
@@ -63,7 +63,7 @@ noted_agrees = record {
 abbrev root : User
 root = record { number = 1; name = codes "admin"; role = role.Manager; token = codes "root" }
 
-abbrev mark_record : Record
+abbrev pub mark_record : Record
 mark_record = record { moment = 140; caller = 1; owner = 2; key = Some (codes "m1"); terms = terms; event = event.Acted first_attempt 1 (step.Mark (pos 10000000) (pos 20000000)) }
 
 pub mark_is_allowed : IsAllowed 0 1 (start_record ∷ save_record ∷ finish_record ∷ []) mark_record
@@ -107,7 +107,7 @@ of_three = record { kind = 3; first = 3; second = 0 }
 abbrev of_two : Shape
 of_two = record { kind = 3; first = 2; second = 0 }
 
-abbrev skip_record : Record
+abbrev pub skip_record : Record
 skip_record = record { moment = 160; caller = 1; owner = 2; key = None; terms = None; event = event.Skipped 1 first_attempt 1 of_three of_two }
 
 pub skip_is_allowed : IsAllowed 0 1 (pick_record ∷ submit_record ∷ []) skip_record

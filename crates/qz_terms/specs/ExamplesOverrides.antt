@@ -54,7 +54,7 @@ blue_has_none = then_has ann_started 1005 (asked_with root (codes "b7") (for_gro
 abbrev red_has_500 : School
 red_has_500 = then_has blue_has_none 1006 (asked_with root (codes "b9") (for_group 1 (Some 500)))
 
-abbrev ann_has_300 : School
+abbrev pub ann_has_300 : School
 ann_has_300 = then_has red_has_500 1012 (asked_with root (codes "b8") (request.Override 1 whom.User 2 None None (Some 300) None))
 
 abbrev settled : School

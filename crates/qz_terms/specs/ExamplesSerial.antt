@@ -1,6 +1,6 @@
 -- Worked serial runs: a line without a reading and a start; then a save that the keeper fails to keep, and the same line again.
 use Rattle.std.specs.Prelude.{◌≡◌, ℕ, zero, suc, Bool, true, false, List, [], ◌∷◌, map, length, is_some, slice_get, Some, None, codes, Option, refl}
-use Rattle.std.proofs.Common.{subst}
+use Rattle.std.proofs.Common.{true≢false}
 use Rattle.qz_grading.specs.declared.outcome.State.TheVariants as state
 use Rattle.qz_grading.specs.declared.refusal.Refusal.TheVariants as refusal
 use Rattle.qz_grading.specs.declared.response.Answer.TheVariants as answer
@@ -78,17 +78,13 @@ view = look (codes "ann") (request.View first_attempt 1)
 abbrev no_part_differs : (old new : Lists) (ask : Ask) → Type 0
 no_part_differs old new ask = (k : ℕ) → reads_part new ask k ≡ false → slice_get new.parts k ≡ slice_get old.parts k
 
-abbrev IfTrue : Bool → Type 0
-IfTrue true = Unit {0}
-IfTrue false = ⊥
-
 -- the shard is read, so it may be mended
 mended_is_read : no_part_differs doubtful kept save_true
-mended_is_read zero unread = absurd (subst IfTrue unread tt)
+mended_is_read zero unread = absurd (true≢false unread)
 mended_is_read (suc k) unread = refl
 
 dropped_is_read : no_part_differs doubtful begun save_true
-dropped_is_read zero unread = absurd (subst IfTrue unread tt)
+dropped_is_read zero unread = absurd (true≢false unread)
 dropped_is_read (suc k) unread = refl
 
 keeper_fails : Asks begun doubtful 120 save_true (reply.Refused refusal.KeepFault)

@@ -29,4 +29,6 @@ pub mod ExamplesSchedule
 pub mod ExamplesKeys
 pub mod ExamplesLegal
 pub mod ExamplesAllowed
+pub mod ExamplesKept
+pub mod ExamplesLimits
 pub mod ExamplesSerial
