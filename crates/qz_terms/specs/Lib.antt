@@ -31,4 +31,6 @@ pub mod ExamplesLegal
 pub mod ExamplesAllowed
 pub mod ExamplesKept
 pub mod ExamplesLimits
+pub mod ExamplesParts
+pub mod ExamplesShards
 pub mod ExamplesSerial
