@@ -12,7 +12,7 @@ use Rattle.qz_grading.specs.declared.question.Pair.{Pair}
 use Rattle.qz_grading.specs.declared.question.Question.{Question}
 use Rattle.qz_grading.specs.declared.question.Rich.{Rich}
 use Rattle.qz_grading.specs.declared.question.Short.{Short}
-use Rattle.qz_grading.specs.Canonical.{canonical, canonical_question, canonical_size, extent_text, weight_text}
+use Rattle.qz_grading.specs.Canonical.{canonical, canonical_question, canonical_size, escaped, extent_text, weight_text}
 
 abbrev moodle : List ℕ → Rich
 moodle text = record { format = format.Moodle; text = text }
@@ -44,6 +44,10 @@ an_essay = refl
 -- a description has no answer part, and signs get a backslash
 pub a_description : canonical_question (asked (codes "a=b") kind.Description) ≡ codes "::a\\=b::a\\=b" ++ newline ++ newline
 a_description = refl
+
+-- each sign, and no other
+pub each_sign : escaped (codes "~=#{}:\\ %*>[") ≡ codes "\\~\\=\\#\\{\\}\\:\\\\ %*>["
+each_sign = refl
 
 -- one of three choices is right, one half right
 abbrev capital : Question

@@ -1,5 +1,5 @@
 -- Worked replays: what each line of the replay of one slot says. The questions are as GIFT would read them.
-use Rattle.std.specs.Prelude.{◌≡◌, ℕ, Bool, true, false, if◌then◌else◌, List, [], ◌∷◌, ◌++◌, nat_le, length, filter, replicate, Option, Some, None, ℤ, pos, negsuc, codes, refl}
+use Rattle.std.specs.Prelude.{◌≡◌, ℕ, Bool, true, false, if◌then◌else◌, List, [], ◌∷◌, ◌++◌, nat_le, length, filter, map, replicate, Option, Some, None, ℤ, pos, negsuc, codes, refl}
 use Rattle.std.proofs.Common.{ap}
 use Rattle.qz_decimal.specs.Decimals.{decimal_in, digits_in, tens_in, exact_size}
 use Rattle.qz_text.specs.Computing.{patterns}
@@ -24,7 +24,7 @@ use Rattle.qz_grading.specs.declared.response.Answer.TheVariants as answer
 use Rattle.qz_grading.specs.declared.response.Response.{Response}
 use Rattle.qz_grading.specs.declared.response.Step.{Step}
 use Rattle.qz_grading.specs.declared.response.Step.TheVariants as step
-use Rattle.qz_grading.specs.Behaviours.{first_some, moved, when}
+use Rattle.qz_grading.specs.Behaviours.{first_some, graded, marked, moved, when}
 use Rattle.qz_grading.specs.Shapes.{same_shape, shape}
 use Rattle.qz_grading.specs.Slots.{is_full_for, slot_mark, slot_state, step_cause}
 use Rattle.qz_grading.specs.Steps.{is_answering, is_mark}
@@ -409,6 +409,14 @@ finish_keeps_it = refl
 pub saved_counts_at_last : line immediate (save (pick 1) ∷ []) step.Finish ≡ Shows state.GradedRight (Some (pos 20000000))
 saved_counts_at_last = refl
 
+-- of two submits, which a newer version may have let stand, the first counts
+pub first_of_two : shown immediate (submit (pick 1) ∷ submit (pick 2) ∷ []) ≡ Shows state.GradedRight (Some (pos 20000000))
+first_of_two = refl
+
+-- and of tries behind a right one none counts
+pub first_right_of_two : shown three_tries (submit (pick 1) ∷ submit (pick 2) ∷ []) ≡ Shows state.GradedRight (Some (pos 30000000))
+first_right_of_two = refl
+
 -- ---- certainty, max mark 1
 
 abbrev certain : Behaviour → Asked
@@ -522,6 +530,17 @@ nothing_to_grade = refl
 
 pub read_to_its_end : line described [] step.Finish ≡ Shows state.Finished None
 read_to_its_end = refl
+
+-- ---- states by how right a fraction is
+
+pub least_partial : map graded (pos 9 ∷ pos 10 ∷ []) ≡ state.GradedWrong ∷ state.GradedPartial ∷ []
+least_partial = refl
+
+pub greatest_partial : map graded (pos 9999990 ∷ pos 9999991 ∷ []) ≡ state.GradedPartial ∷ state.GradedRight ∷ []
+greatest_partial = refl
+
+pub by_a_teacher : map marked (pos 9 ∷ pos 10 ∷ pos 9999990 ∷ pos 9999991 ∷ []) ≡ state.MangrWrong ∷ state.MangrPartial ∷ state.MangrPartial ∷ state.MangrRight ∷ []
+by_a_teacher = refl
 
 -- ---- limits: what comes of so many steps
 

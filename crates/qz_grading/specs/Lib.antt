@@ -6,6 +6,7 @@ pub mod Slots
 pub mod Words
 pub mod Examples
 pub mod ExamplesReplays
+pub mod ExamplesQuestions
 pub mod Shapes
 pub mod Canonical
 pub mod ExamplesCanonical
