@@ -1,23 +1,29 @@
 -- Worked ranges: what records keep, and what they don't.
-use Rattle.std.specs.Prelude.{◌≡◌, Bool, true, false, [], ◌∷◌, replicate, pos, negsuc, Some, None, codes, refl}
-use Rattle.std.proofs.Common.{leb-true, sym, true≢false}
+use Rattle.std.specs.Prelude.{◌≡◌, ℕ, Bool, true, false, ◌&&◌, nat_le, List, [], ◌∷◌, map, length, replicate, pos, negsuc, Some, None, codes, refl}
+use Rattle.std.specs.List.{list_all}
+use Rattle.std.proofs.Common.{ap, ◌∙◌, leb-true, sym, true≢false}
 use Rattle.std.proofs.lemmas.List.Elements.{All-cons, All-nil}
+use Rattle.qz_grading.specs.declared.outcome.Behaviour.TheVariants.{Deferred}
 use Rattle.qz_grading.specs.declared.response.Answer.TheVariants as answer
 use Rattle.qz_grading.specs.declared.question.Question.{Question}
+use Rattle.qz_grading.specs.declared.response.Response.{Response}
+use Rattle.qz_grading.specs.declared.response.Step.TheVariants as step
 use Rattle.qz_grading.specs.Questions.{IsQuestion}
 use Rattle.qz_terms.specs.declared.access.Handling.TheVariants as handling
 use Rattle.qz_terms.specs.declared.access.Review.TheVariants as review
 use Rattle.qz_terms.specs.declared.access.Settings.{Settings}
 use Rattle.qz_terms.specs.declared.grades.Method.TheVariants as method
+use Rattle.qz_terms.specs.declared.plan.Bound.{Bound}
 use Rattle.qz_terms.specs.declared.people.Role.TheVariants as role
 use Rattle.qz_terms.specs.declared.record.Event.TheVariants as event
+use Rattle.qz_terms.specs.declared.record.Learned.{Learned}
 use Rattle.qz_terms.specs.declared.request.Request.TheVariants as request
 use Rattle.qz_terms.specs.declared.request.Whom.TheVariants as whom
 use Rattle.qz_terms.specs.Answer.{keeps_record}
 use Rattle.qz_terms.specs.ExamplesAllowed.{mark_record, noted_record, skip_record}
 use Rattle.qz_terms.specs.ExamplesLegal.{bound_at_7, done_record, finish_record, rebind_record, save_record, start_record}
 use Rattle.qz_terms.specs.ExamplesSchool.{one_of, true_false}
-use Rattle.qz_terms.specs.Kept.{AreQuestions, IsKept, KeepsEvent, KeepsRequest, are_hints, are_settings, if_there, is_allowed, is_answer, is_bound, is_duration, is_moment, is_penalty, is_quiz_grade}
+use Rattle.qz_terms.specs.Kept.{AreQuestions, IsKept, KeepsEvent, KeepsRequest, are_hints, are_settings, if_there, is_allowed, is_answer, is_bound, is_duration, is_moment, is_penalty, is_quiz_grade, is_step}
 
 -- ---- numbers, at their greatest and past it
 
@@ -109,7 +115,27 @@ longest_hint = refl
 pub too_long_a_hint : are_hints (replicate 4097 120 ∷ []) ≡ false
 too_long_a_hint = refl
 
--- of a choice nothing is kept
+abbrev typed : List ℕ → Response
+typed text = record { answer = answer.Words text; certainty = 0 }
+
+-- of a text its length is kept
+pub longest_text : (text : List ℕ) → length text ≡ 65536 → is_answer (answer.Words text) ≡ true
+longest_text text count = ap (λ n. nat_le n 65536) count
+
+pub too_long_a_text : (text : List ℕ) → length text ≡ 65537 → is_answer (answer.Words text) ≡ false
+too_long_a_text text count = ap (λ n. nat_le n 65536) count
+
+pub of_each_step : (text : List ℕ) → length text ≡ 65537 → map is_step (step.Save (typed text) ∷ step.Submit (typed text) ∷ []) ≡ false ∷ false ∷ []
+of_each_step text count = ap (λ n. nat_le n 65536 ∷ nat_le n 65536 ∷ []) count
+
+-- a start has at most 200 slots, each with its bound
+pub too_many_slots : (quiz nth : ℕ) (bounds : List Bound) (learned : List Learned) → length bounds ≡ 201 → KeepsEvent (event.Started quiz nth Deferred bounds learned) → ⊥
+too_many_slots quiz nth bounds learned count kept = true≢false (sym kept.0 ∙ ap (λ n. nat_le n 200 && list_all is_bound bounds) count)
+
+pub a_bad_bound : KeepsEvent (event.Started 1 1 Deferred (record bound_at_7 { max = negsuc 0 } ∷ []) []) → ⊥
+a_bad_bound kept = true≢false (sym kept.0)
+
+-- nothing is kept of a choice
 pub any_choice : is_answer (answer.Pick 255) ≡ true
 any_choice = refl
 

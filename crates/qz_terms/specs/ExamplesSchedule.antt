@@ -49,6 +49,10 @@ seen_by t = (length t.records, map (λ l. length l) t.parts)
 pub what_was_seen : map seen_by (world two_callers both).told ≡ (7, 0 ∷ []) ∷ (7, 1 ∷ []) ∷ []
 what_was_seen = refl
 
+-- and with it: ann has seen her own record behind, and so has what bob has seen of it
+pub what_is_seen_now : map {B = List ℕ} (λ (v : Visit). map (λ l. length l) v.parts) (world two_callers both).visits ≡ (1 ∷ []) ∷ (1 ∷ []) ∷ []
+what_is_seen_now = refl
+
 -- ---- a turn that isn't the next one of its caller's ask changes nothing
 
 pub out_of_turn : world two_callers (goes_on 0 0 ∷ goes_on 0 1 ∷ []) ≡ two_callers
