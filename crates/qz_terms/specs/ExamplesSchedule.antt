@@ -1,10 +1,11 @@
 -- Worked schedules: callers in turn at the same lists, records in doubt, a stop, a start that reads its plan again, and a report.
 use Rattle.std.specs.Prelude.{◌≡◌, ℕ, Bool, true, false, List, [], ◌∷◌, ◌++◌, map, length, drop, is_none, Some, None, codes, pos, refl}
-use Rattle.std.proofs.Common.{inl}
+use Rattle.std.proofs.Common.{ap, inl, inr, sym, ◌∙◌}
 use Rattle.qz_grading.specs.declared.refusal.Refusal.TheVariants as refusal
 use Rattle.qz_grading.specs.declared.refusal.Thing.TheVariants as thing
 use Rattle.qz_terms.specs.declared.ask.Ask.{Ask}
 use Rattle.qz_terms.specs.declared.people.Caller.TheVariants as caller
+use Rattle.qz_terms.specs.declared.record.Record.{Record}
 use Rattle.qz_terms.specs.declared.reply.Done.TheVariants as done
 use Rattle.qz_terms.specs.declared.reply.Reply.{Reply}
 use Rattle.qz_terms.specs.declared.reply.Reply.TheVariants as reply
@@ -13,9 +14,10 @@ use Rattle.qz_terms.specs.declared.reply.Status.TheVariants as status
 use Rattle.qz_terms.specs.declared.request.Request.{Request}
 use Rattle.qz_terms.specs.declared.request.Request.TheVariants as request
 use Rattle.qz_terms.specs.ExamplesFirstAttempt.{finished}
+use Rattle.qz_terms.specs.ExamplesLegal.{start_record}
 use Rattle.qz_terms.specs.ExamplesSchool.{asked_with, first_attempt, look, school, true_false}
 use Rattle.qz_terms.specs.Serial.{Held}
-use Rattle.qz_terms.specs.Worlds.{Answers, Begins, Drops, Adopts, GoesOn, Happening, KeepIsPossible, LacksMemory, LeavesInDoubt, Mending, Mends, Stays, Stops, Told, Turns, Visit, World, held_at, is_formed, loaded, world}
+use Rattle.qz_terms.specs.Worlds.{CouldPut, after, Answers, Begins, Drops, Adopts, GoesOn, Happening, KeepIsPossible, LacksMemory, LeavesInDoubt, Mending, Mends, Stays, Stops, Told, Turns, Visit, World, held_at, is_formed, loaded, world}
 
 abbrev two_callers : World
 two_callers = loaded school.records (school.part ∷ []) 2
@@ -156,6 +158,41 @@ may_be_kept = inl refl
 
 pub two_records_stand : standing (world (world two_callers both) (Stops None ((held_at (world two_callers both) (Some 0)).doubt ∷ []) ∷ [])) ≡ (2, true) ∷ []
 two_records_stand = refl
+
+-- or one that a turn could put there now: ann's start, whose plan she holds
+abbrev about_to_start : World
+about_to_start = world two_callers (begins 0 anns_start ∷ goes_on 0 1 ∷ [])
+
+pub none_yet : (held_at about_to_start (Some 0)).list ≡ []
+none_yet = refl
+
+pub then_one : (held_at (after about_to_start (Turns 0 110 (GoesOn 2) Drops Answers)) (Some 0)).list ≡ start_record ∷ []
+then_one = refl
+
+pub could_be_put : CouldPut about_to_start (Some 0) start_record
+could_be_put = record { caller = 0; moment = 110; next = GoesOn 2; formed = refl; puts = then_one ∙ sym (ap (λ (l : List Record). l ++ start_record ∷ []) none_yet) }
+
+pub may_be_kept_too : KeepIsPossible about_to_start (Some 0) (Some start_record)
+may_be_kept_too = inr could_be_put
+
+-- the catalogue's list, too, may have a record in doubt, which a mending or a stop keeps or drops
+abbrev group_in_doubt : World
+group_in_doubt = world two_callers (begins 0 (asked_with (codes "root") (codes "g1") (request.Group (codes "red"))) ∷ Turns 0 110 (GoesOn 1) Drops LeavesInDoubt ∷ [])
+
+abbrev records_in : World → ℕ × Bool
+records_in w = (length w.records.list, is_none w.records.doubt)
+
+pub a_group_in_doubt : records_in group_in_doubt ≡ (7, false)
+a_group_in_doubt = refl
+
+pub the_group_adopted : records_in (world group_in_doubt (Mends None true ∷ [])) ≡ (8, true)
+the_group_adopted = refl
+
+pub the_group_kept : records_in (world group_in_doubt (Stops group_in_doubt.records.doubt [] ∷ [])) ≡ (8, true)
+the_group_kept = refl
+
+pub the_group_lost : records_in (world group_in_doubt (Stops None [] ∷ [])) ≡ (7, true)
+the_group_lost = refl
 
 -- ---- which asks are possible
 

@@ -118,6 +118,13 @@ three_lines =
     next doubtful kept kept (Asking 120 save_true) it_is_saved (Asking 130 view ∷ []) (reply.Ok 2 (done.SlotView state.Complete shown.None 1 1) ∷ []) adopted_then_answered (
     next kept kept kept (Asking 130 view) (reply.Ok 2 (done.SlotView state.Complete shown.None 1 1)) [] [] it_is_viewed (ended kept)))
 
+-- a report reads the list of each shard, which has to be mended, and a look at the catalogue reads none
+pub a_report_reads_it : is_settled doubtful (look (codes "root") (request.Report 1)) ≡ false
+a_report_reads_it = refl
+
+pub jobs_read_none : is_settled doubtful (look (codes "root") request.Jobs) ≡ true
+jobs_read_none = refl
+
 -- a look puts no record, so none is left in doubt
 pub a_look_puts_nothing : puts_record kept 130 view ≡ false
 a_look_puts_nothing = refl

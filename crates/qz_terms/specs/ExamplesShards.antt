@@ -1,5 +1,5 @@
 -- Worked lines of a school with two shards: each user's attempts are in one of them, and a report reads both.
-use Rattle.std.specs.Prelude.{◌≡◌, ℕ, true, false, List, [], ◌∷◌, map, length, pos, Some, None, codes, refl}
+use Rattle.std.specs.Prelude.{◌≡◌, ℕ, Bool, true, false, is_some, List, [], ◌∷◌, map, length, pos, Some, None, codes, refl}
 use Rattle.qz_grading.specs.declared.outcome.Behaviour.TheVariants.{Deferred}
 use Rattle.qz_grading.specs.declared.outcome.State.TheVariants as state
 use Rattle.qz_grading.specs.declared.refusal.AttemptId.{AttemptId}
@@ -17,7 +17,7 @@ use Rattle.qz_terms.specs.declared.request.Request.{Request}
 use Rattle.qz_terms.specs.declared.request.Request.TheVariants as request
 use Rattle.qz_terms.specs.Answer.{asked_part}
 use Rattle.qz_terms.specs.ExamplesSchool.{asked_with, first_attempt, look, one_of, true_false}
-use Rattle.qz_terms.specs.Serial.{Held, Lists, lists_over, part_list, reply_over}
+use Rattle.qz_terms.specs.Serial.{Held, Lists, doubt_over, is_settled, lists_over, part_list, reads_part, reply_over}
 use Rattle.qz_terms.specs.Worlds.{Answers, Begins, Drops, GoesOn, Told, Turns, World, loaded, world}
 
 abbrev founded : Lists
@@ -94,6 +94,38 @@ by_its_words = refl
 
 pub to_none : asked_part school.records.list (look (codes "root") request.Jobs) ≡ None
 to_none = refl
+
+-- ---- bob's start is left in doubt: his shard is mended before it is read, and the other isn't touched
+
+abbrev doubtful : Lists
+doubtful = doubt_over school 110 (start (codes "bob"))
+
+abbrev in_doubt : Lists → List Bool
+in_doubt a = map {B = Bool} (λ (h : Held). is_some h.doubt) a.parts
+
+pub one_is_in_doubt : in_doubt doubtful ≡ false ∷ true ∷ []
+one_is_in_doubt = refl
+
+abbrev read_by : Ask → List Bool
+read_by ask = map (reads_part doubtful ask) (0 ∷ 1 ∷ [])
+
+pub anns_shard_alone : read_by (start (codes "ann")) ≡ true ∷ false ∷ []
+anns_shard_alone = refl
+
+pub both_for_a_report : read_by (look (codes "root") (request.Report 1)) ≡ true ∷ true ∷ []
+both_for_a_report = refl
+
+pub none_for_a_refused_one : read_by (look (codes "ann") (request.Report 1)) ≡ false ∷ false ∷ []
+none_for_a_refused_one = refl
+
+pub ann_isnt_in_the_way : is_settled doubtful (start (codes "ann")) ≡ true
+ann_isnt_in_the_way = refl
+
+pub bob_is : is_settled doubtful (start (codes "bob")) ≡ false
+bob_is = refl
+
+pub bobs_doubt_stays : in_doubt (lists_over doubtful 111 (start (codes "ann"))) ≡ false ∷ true ∷ []
+bobs_doubt_stays = refl
 
 -- ---- both finish, ann with a right answer and bob with a wrong one
 
