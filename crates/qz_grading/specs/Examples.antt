@@ -17,6 +17,7 @@ use Rattle.qz_grading.specs.declared.question.Rich.{Rich}
 use Rattle.qz_grading.specs.declared.question.Short.{Short}
 use Rattle.qz_grading.specs.declared.response.Answer.TheVariants as answer
 use Rattle.qz_grading.specs.Grading.{answer_fits, certainty_fits, complete_answer, gradable_answer, grade_answer, shape}
+use Rattle.qz_grading.specs.Shapes.{same_shape}
 use Rattle.qz_grading.specs.Words.{mark_text, grade_text, number_text}
 
 abbrev no_text : Rich
@@ -93,11 +94,22 @@ partly_gradable = refl
 pub one_for_each_stem : answer_fits things (answer.Match (1 ∷ 1 ∷ 1 ∷ 3 ∷ [])) ≡ false
 one_for_each_stem = refl
 
+-- each answer may be chosen, also the last, and none past it
+pub the_last_answer : answer_fits things (answer.Match (3 ∷ 3 ∷ 3 ∷ [])) ≡ true
+the_last_answer = refl
+
+pub past_the_last_answer : answer_fits things (answer.Match (1 ∷ 1 ∷ 4 ∷ [])) ≡ false
+past_the_last_answer = refl
+
 abbrev asking : Kind → Question
 asking k = record { name = []; text = no_text; general = no_text; kind = k; penalty = third; hints = [] }
 
 pub shape_of_things : shape (asking things) ≡ record { kind = 5; first = 3; second = 3 }
 shape_of_things = refl
+
+-- the same stems, and an answer less to choose from
+pub another_shape : same_shape (record { kind = 5; first = 3; second = 3 }) (record { kind = 5; first = 3; second = 2 }) ≡ false
+another_shape = refl
 
 pub shape_of_tomb : shape (asking tomb) ≡ record { kind = 4; first = 4; second = 0 }
 shape_of_tomb = refl
@@ -163,6 +175,14 @@ one_to_five = kind.Numerical (num (pos 10000000) (extent.Between (pos 1000000000
 pub five_is_within : grade_answer one_to_five (answer.Words (codes "5.")) ≡ pos 10000000
 unfolding decimal_in digits_in tens_in exact_size
 five_is_within = refl
+
+pub one_is_within : grade_answer one_to_five (answer.Words (codes "1")) ≡ pos 10000000
+unfolding decimal_in digits_in tens_in exact_size
+one_is_within = refl
+
+pub less_than_one : grade_answer one_to_five (answer.Words (codes "0.9999999999")) ≡ pos 0
+unfolding decimal_in digits_in tens_in exact_size
+less_than_one = refl
 
 pub more_than_five : grade_answer one_to_five (answer.Words (codes "5.01")) ≡ pos 0
 unfolding decimal_in digits_in tens_in exact_size

@@ -144,10 +144,10 @@ abbrev short : ℤ → List ℕ → List ℕ → Short
 short weight pattern feedback = record { weight = weight; pattern = pattern; feedback = moodle feedback }
 
 -- a weight is written where it isn't 100, or where the pattern begins with a percent sign
-pub short_answers : canonical_question (asked (codes "R") (kind.ShortAnswer (short (pos 10000000) (codes "ran*") (codes "Yes") ∷ short (pos 5000000) (codes "walked") [] ∷ short (pos 10000000) (codes "%5") [] ∷ []))) ≡
+pub short_answers : canonical_question (asked (codes "R") (kind.ShortAnswer (short (pos 10000000) (codes "ran*") (codes "Yes") ∷ short (pos 5000000) (codes "a=b") [] ∷ short (pos 10000000) (codes "%5") [] ∷ []))) ≡
     codes "::R::R{" ++ newline
     ++ tab ++ codes "=ran*#Yes" ++ newline
-    ++ tab ++ codes "=%50%walked" ++ newline
+    ++ tab ++ codes "=%50%a\\=b" ++ newline
     ++ tab ++ codes "=%100%%5" ++ newline
     ++ codes "}" ++ newline ++ newline
 unfolding digits

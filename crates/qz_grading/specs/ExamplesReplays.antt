@@ -24,7 +24,7 @@ use Rattle.qz_grading.specs.declared.response.Answer.TheVariants as answer
 use Rattle.qz_grading.specs.declared.response.Response.{Response}
 use Rattle.qz_grading.specs.declared.response.Step.{Step}
 use Rattle.qz_grading.specs.declared.response.Step.TheVariants as step
-use Rattle.qz_grading.specs.Behaviours.{first_some, graded, marked, moved, when}
+use Rattle.qz_grading.specs.Behaviours.{first_some, graded, marked, moved, outcome, when}
 use Rattle.qz_grading.specs.Shapes.{same_shape, shape}
 use Rattle.qz_grading.specs.Slots.{is_full_for, slot_mark, slot_state, step_cause}
 use Rattle.qz_grading.specs.Steps.{is_answering, is_mark}
@@ -149,6 +149,10 @@ out_of_range_first = refl
 -- a last response that was taken back is given up
 pub taken_back : line deferred (save (pick 1) ∷ save answer.Blank ∷ []) step.Finish ≡ Shows state.GaveUp None
 taken_back = refl
+
+-- what stands behind a finish isn't read
+pub nothing_behind_the_finish : shown deferred (save (pick 1) ∷ step.Finish ∷ save (pick 2) ∷ []) ≡ Shows state.GradedRight (Some (pos 20000000))
+nothing_behind_the_finish = refl
 
 -- ---- bound to a newer version: the same steps are read again
 
@@ -371,6 +375,29 @@ best_and_last = refl
 pub no_try_but_a_step : line adaptive (submit (pick 1) ∷ save (pick 2) ∷ []) (submit (pick 1)) ≡ Shows state.Todo (Some (pos 20000000))
 no_try_but_a_step = refl
 
+-- nor does it count where a third response is right
+pub second_of_three : line adaptive (submit (pick 2) ∷ save (pick 1) ∷ submit (pick 2) ∷ []) (submit (pick 1)) ≡ Shows state.Complete (Some (pos 18000000))
+second_of_three = refl
+
+abbrev tries_of : Asked → List Step → ℕ
+tries_of a taken = (outcome a.behaviour a.question taken).tries
+
+-- a finish adds a try where the last response is another, and gradable
+pub a_try_more : tries_of adaptive (submit (pick 2) ∷ save (pick 1) ∷ step.Finish ∷ []) ≡ 2
+a_try_more = refl
+
+pub no_try_for_the_same : tries_of adaptive (submit (pick 1) ∷ step.Finish ∷ []) ≡ 1
+no_try_for_the_same = refl
+
+pub no_try_for_a_blank : tries_of adaptive (submit (pick 1) ∷ save answer.Blank ∷ step.Finish ∷ []) ≡ 1
+no_try_for_a_blank = refl
+
+pub tries_before_again : tries_of three_tries two_again ≡ 2
+tries_before_again = refl
+
+pub no_tries_elsewhere : tries_of deferred (save (pick 1) ∷ step.Finish ∷ []) ≡ 0
+no_tries_elsewhere = refl
+
 -- a wrong try behind a right one is complete
 pub wrong_behind_right : line adaptive (submit (pick 1) ∷ []) (submit (pick 2)) ≡ Shows state.Complete (Some (pos 20000000))
 wrong_behind_right = refl
@@ -399,6 +426,10 @@ only_saved = refl
 
 pub first_submit_ends : line immediate (save (pick 2) ∷ []) (submit (pick 1)) ≡ Shows state.GradedRight (Some (pos 20000000))
 first_submit_ends = refl
+
+-- a submit of what was saved isn't the same step
+pub saved_then_submitted : line immediate (save (pick 1) ∷ []) (submit (pick 1)) ≡ Shows state.GradedRight (Some (pos 20000000))
+saved_then_submitted = refl
 
 pub nothing_else_is_taken : line immediate (submit (pick 2) ∷ []) (submit (pick 1)) ≡ Refused (refusal.SlotEnded state.GradedWrong)
 nothing_else_is_taken = refl
