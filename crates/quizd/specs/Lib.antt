@@ -4,3 +4,5 @@ pub mod Readings
 pub mod Narrow
 pub mod Tracked
 pub mod Endings
+pub mod ReplayEndings
+pub mod Commands

@@ -1,6 +1,7 @@
 //! The quiz server's program.
 #![tactic(auto)]
 
+mod command;
 mod lines;
 mod reading;
 mod replay;

@@ -1,11 +1,12 @@
 //! Replaying the steps of one slot.
 
 ghost use Rattle.std.specs.Prelude.{◌≤◌, ◌^◌, length, string_bytes, MatchResult, Some, None};
-ghost use Rattle.quizd.specs.Endings.{Ended, ReplayEnds, ReplaysAll};
+ghost use Rattle.quizd.specs.Endings.{Ended};
 ghost use Rattle.quizd.specs.Lines.{lines_of};
 ghost use Rattle.quizd.specs.Narrow.{IsPlayable};
 ghost use Rattle.quizd.specs.Readings.{Gives};
 ghost use Rattle.quizd.specs.Replay.{with_front, replayed, steps_told};
+ghost use Rattle.quizd.specs.ReplayEndings.{ReplayEnds, ReplaysAll};
 
 use crate::lines::split_line;
 use crate::reading::{head_at, step_on};

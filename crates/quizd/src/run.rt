@@ -1,8 +1,9 @@
 //! The command line.
 
-ghost use Rattle.std.specs.Prelude.{◌≡◌};
-ghost use Rattle.quizd.specs.Endings.{Ended, UsageWritten, RunEnds, RunsAll, is_replay};
+ghost use Rattle.quizd.specs.Commands.{UsageWritten, RunEnds, RunsAll};
+ghost use Rattle.quizd.specs.Endings.{Ended};
 
+use crate::command::{Command, command_of};
 use crate::replay::replay;
 use crate::stop::Stop;
 use qz_outside::{Sink, Source, write_all};
@@ -27,19 +28,9 @@ pub fn run<S: Source, O: Sink>(alloc: Global, words: &[Text], source: &mut S, si
         (record { left = S.left source.new; source_faults = S.faults source.new; holds = O.holds sink.new; sink_faults = O.faults sink.new })
         result }
 {
-    if asks_replay(words) {
-        replay(alloc, source, sink)
-    } else {
-        show_usage(sink).status()
-    }
-}
-
-fn asks_replay(words: &[Text]) -> bool
-    ensures { result ≡ is_replay words.now }
-{
-    match words {
-        [word] => word.as_str() == "replay",
-        _ => false,
+    match command_of(words) {
+        Some(Command::Replay) => replay(alloc, source, sink),
+        None => show_usage(sink).status(),
     }
 }
 

@@ -1,0 +1,53 @@
+-- The commands of the command line, and how a run of each ends.
+use Rattle.std.specs.Prelude.{ℕ, if◌then◌else◌, List, [], ◌∷◌, ◌++◌, Option, Some, None, bytes_eq, codes}
+use Rattle.std.specs.Io.KnownBytes.{Appends, Keeps}
+use Rattle.qz_outside.specs.Causes.{HasRisen}
+use Rattle.qz_outside.specs.Sources.{AppendsFront}
+use Rattle.quizd.specs.declared.command.Command.{Command}
+use Rattle.quizd.specs.declared.command.Command.TheVariants as command
+use Rattle.quizd.specs.declared.stop.Stop.{Stop}
+use Rattle.quizd.specs.declared.stop.Stop.TheVariants as stop
+use Rattle.quizd.specs.Endings.{Outside}
+use Rattle.quizd.specs.Replay.{newline}
+use Rattle.quizd.specs.ReplayEndings.{ReplayEnds, ReplaysAll}
+
+-- the command that these words are; any others are none
+abbrev pub command_of : List (List ℕ) → Option Command
+command_of (word ∷ []) = if bytes_eq word (codes "replay") then Some command.Replay else None
+command_of words = None
+
+-- ---- words that are no command
+
+abbrev pub usage : List ℕ
+usage = codes "usage: quizd replay | gift check | gift fmt | script FOLDER | found FOLDER SHARDS TOKEN | serve FOLDER PORT WORKERS REGRADERS LINKS | bulk N" ++ newline
+
+-- the usage line was written, or the sink failed under it
+abbrev pub UsageWritten : Option (List ℕ) → Option (List ℕ) → ℕ → ℕ → Stop → Type 0
+UsageWritten old new before now stop.BadWords = Appends old new usage
+UsageWritten old new before now stop.SinkFault = AppendsFront old new usage × HasRisen before now
+UsageWritten old new before now s = ⊥
+
+-- nothing was read
+pub record UsageShown (old new : Outside) (s : Stop) : Type 0 where
+  pub unread : Keeps old.left new.left
+  pub written : UsageWritten old.holds new.holds old.sink_faults new.sink_faults s
+
+abbrev pub UsageEnds : Outside → Outside → Option Stop → Type 0
+UsageEnds old new None = ⊥
+UsageEnds old new (Some s) = UsageShown old new s
+
+-- ---- how a run ends, and what it does where nothing fails
+
+abbrev pub CommandEnds : Option Command → Outside → Outside → Option Stop → Type 0
+CommandEnds None old new s = UsageEnds old new s
+CommandEnds (Some command.Replay) old new s = ReplayEnds old new s
+
+abbrev pub RunEnds : List (List ℕ) → Outside → Outside → Option Stop → Type 0
+RunEnds words old new s = CommandEnds (command_of words) old new s
+
+abbrev pub CommandDoesAll : Option Command → Outside → Outside → ℕ → Type 0
+CommandDoesAll None old new status = Unit {0}
+CommandDoesAll (Some command.Replay) old new status = ReplaysAll old new status
+
+abbrev pub RunsAll : List (List ℕ) → Outside → Outside → ℕ → Type 0
+RunsAll words old new status = CommandDoesAll (command_of words) old new status

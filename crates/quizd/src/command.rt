@@ -1,0 +1,23 @@
+//! The commands that the words of the command line name.
+
+ghost use Rattle.std.specs.Prelude.{◌≡◌};
+ghost use Rattle.quizd.specs.Commands.{command_of};
+
+use qz_text::Text;
+
+/// A command of the program.
+#[derive(Clone, Copy, PartialEq, Eq)]
+pub enum Command {
+    /// The steps of one slot are replayed.
+    Replay,
+}
+
+/// The command that these words are. Any other words are none.
+pub fn command_of(words: &[Text]) -> Option<Command>
+    ensures { result ≡ command_of words.now }
+{
+    match words {
+        [word] if word.as_str() == "replay" => Some(Command::Replay),
+        _ => None,
+    }
+}
