@@ -6,6 +6,7 @@ mod command;
 mod lines;
 mod reading;
 mod replay;
+mod replies;
 mod run;
 mod saying;
 mod slot;
