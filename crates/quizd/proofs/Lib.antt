@@ -3,3 +3,5 @@ pub mod NumberLemmas
 pub mod NarrowLemmas
 pub mod TrackedLemmas
 pub mod ReplayLemmas
+pub mod PartLemmas
+pub mod AskingLemmas

@@ -3,6 +3,9 @@ pub mod Replay
 pub mod Readings
 pub mod Narrow
 pub mod Tracked
+pub mod Words
+pub mod Asking
+pub mod Replies
 pub mod Endings
 pub mod ReplayEndings
 pub mod Commands

@@ -77,7 +77,7 @@ fn question_on(line: &[u8]) -> Option<bool>
     None
 }
 
-fn answer_in(word: &[u8]) -> Option<Answer>
+pub fn answer_in(word: &[u8]) -> Option<Answer>
     ensures { result ≡ answer_of word.now }
 {
     if word == b"blank".as_slice() {
