@@ -47,7 +47,7 @@ fn malformed(place: u32) -> WordFault
 }
 
 /// No word is left.
-fn end(rest: &[u8], place: u32) -> Result<(), WordFault>
+pub fn end(rest: &[u8], place: u32) -> Result<(), WordFault>
     ensures { Reads (λ x. x) result (end_at place tt (words_after rest.now)) }
 {
     if rest.is_empty() { Ok(()) } else { Err(malformed(place)) }
@@ -71,14 +71,14 @@ fn slot_at(rest: &mut &[u8], place: u32) -> Result<u16, WordFault>
     slot_in(next_word(rest, place)?).ok_or(WordFault::Malformed { place })
 }
 
-fn certainty_at(rest: &mut &[u8], place: u32) -> Result<u8, WordFault>
+pub fn certainty_at(rest: &mut &[u8], place: u32) -> Result<u8, WordFault>
     ensures value { Reads (λ x. (x, words_after rest.new.now)) result (word_at certainty_of place (words_after rest.old.now)) }
     ensures range { IfOk result (λ certainty. certainty ≤ 3) }
 {
     certainty_in(next_word(rest, place)?).ok_or(WordFault::Malformed { place })
 }
 
-fn answer_at(rest: &mut &[u8], place: u32) -> Result<Answer, WordFault>
+pub fn answer_at(rest: &mut &[u8], place: u32) -> Result<Answer, WordFault>
     ensures { Reads (λ x. (x, words_after rest.new.now)) result (word_at answer_of place (words_after rest.old.now)) }
 {
     match answer_in(next_word(rest, place)?) {

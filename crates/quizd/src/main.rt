@@ -1,9 +1,11 @@
 //! The quiz server's program.
 #![tactic(auto)]
 
+mod asked;
 mod asking;
 mod command;
 mod lines;
+mod played;
 mod reading;
 mod replay;
 mod replies;
@@ -11,7 +13,6 @@ mod run;
 mod saying;
 mod slot;
 mod stop;
-mod taken;
 mod words;
 #[cfg(test)]
 mod tests;

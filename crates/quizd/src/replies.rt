@@ -128,7 +128,7 @@ fn done_onto(out: &mut String, done: &Done) -> Result<(), NoMemory>
 }
 
 /// The number of a refusal and its words.
-fn refused_onto(out: &mut String, refusal: Refusal) -> Result<(), NoMemory>
+pub fn refused_onto(out: &mut String, refusal: Refusal) -> Result<(), NoMemory>
     ensures { OnOk result (string_bytes out.new ≡ string_bytes out.old ++ refused_words refusal) }
 {
     match refusal {
