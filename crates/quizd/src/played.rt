@@ -101,14 +101,14 @@ impl Played {
         ensures next { OnOk result (self.new ≡ next self.old asked) }
         ensures unchanged { OnErr result (self.new ≡ self.old) }
     {
-        let step = match asked {
-            Asked::Step(step) => step,
+        match asked {
+            Asked::Step(step) => self.act(step, steps),
             Asked::Bind(version) => {
+                let max = version.max;
                 let newer = question(alloc, version)?;
-                return Ok(self.bind(newer, version.max, steps));
+                Ok(self.bind(newer, max, steps))
             }
-        };
-        self.act(step, steps)
+        }
     }
 
     fn act<L: Ledger>(&mut self, step: Step, steps: &mut Steps<L>) -> Result<Fate, NoMemory>

@@ -1,4 +1,0 @@
-use Rattle.quizd.proofs.played.Played.take.Statement.{statement}
-
-pub take_spec : {M : Type 1} → statement M
-take_spec 𝓤 𝓛 𝓜 𝓡 w = ?
