@@ -1,8 +1,14 @@
 -- A replay that goes on by one line.
 use Rattle.std.proofs.Common.{◌≡◌, ℕ, ◌+◌, List, [], ◌∷◌, ◌++◌, Some, None, Result, Ok, Err, refl, sym, ap, ◌∙◌, append-nil, append_assoc}
-use Rattle.qz_grading.specs.declared.response.Step.{Step}
-use Rattle.quizd.specs.declared.slot.Slot.{Slot}
-use Rattle.quizd.specs.Replay.{◌>>=◌, step_line, fate, with_step, told, line_of, with_front, steps_told}
+use Rattle.std.specs.Result.{result_ok}
+use Rattle.quizd.specs.declared.asked.Asked.{Asked}
+use Rattle.quizd.specs.declared.stop.Stop.{Stop}
+use Rattle.quizd.specs.declared.stop.Stop.TheVariants as stop
+use Rattle.quizd.specs.Readings.{Fails}
+use Rattle.quizd.specs.Plays.{Play, next, told}
+use Rattle.quizd.specs.Replay.{◌>>=◌, or_line}
+use Rattle.quizd.specs.Replayed.{asked_of, line_of, with_front, steps_told}
+use Rattle.quizd.specs.Words.{words_of}
 
 with_front-more : (front line : List ℕ) (reading : Result (List ℕ) ℕ) → with_front front (reading >>= λ others. Ok (line ++ others)) ≡ with_front (front ++ line) reading
 with_front-more front line (Ok more) = ap (λ (t : List ℕ). Ok t) (sym (append_assoc front line more))
@@ -12,33 +18,36 @@ pub with_front-nil : (reading : Result (List ℕ) ℕ) → with_front [] reading
 with_front-nil (Ok more) = refl
 with_front-nil (Err n) = refl
 
-abbrev pub next : Slot → List Step → Step → List Step
-next slot taken x = with_step (fate slot taken x) taken x
+abbrev pub said : ℕ → Play → Asked → List ℕ
+said number p a = line_of number (told p a)
 
-abbrev pub said : Slot → ℕ → List Step → Step → List ℕ
-said slot number taken x = line_of number (told slot (fate slot taken x) (next slot taken x))
+module _ (number : ℕ) (p : Play) (lines rest : List (List ℕ)) (line front : List ℕ) (all : Result (List ℕ) ℕ) (first : lines ≡ line ∷ rest) (so_far : with_front front (steps_told number p lines) ≡ all) where
+  -- one line more is read and said
+  pub says_more : (a : Asked) → or_line (number + 5) (result_ok (asked_of p.slot.max (words_of line))) ≡ Ok a → with_front (front ++ said number p a) (steps_told (number + 1) (next p a) rest) ≡ all
+  unfolding steps_told
+  says_more a reads =
+      let one : steps_told number p lines ≡ (steps_told (number + 1) (next p a) rest >>= λ others. Ok (said number p a ++ others)) = rw (first, reads) refl in
+      sym (with_front-more front (said number p a) (steps_told (number + 1) (next p a) rest)) ∙ ap (with_front front) (sym one) ∙ so_far
 
--- one line more is read and said
-pub says_more : (slot : Slot) (number : ℕ) (taken : List Step) (lines rest : List (List ℕ)) (line front : List ℕ) (x : Step) (all : Result (List ℕ) ℕ) → lines ≡ line ∷ rest → step_line line ≡ Some x
-    → with_front front (steps_told slot number taken lines) ≡ all
-    → with_front (front ++ said slot number taken x) (steps_told slot (number + 1) (next slot taken x) rest) ≡ all
-unfolding steps_told
-says_more slot number taken lines rest line front x all first reads so_far =
-    let one : steps_told slot number taken lines ≡ (steps_told slot (number + 1) (next slot taken x) rest >>= λ others. Ok (said slot number taken x ++ others)) = rw (first, reads) refl in
-    sym (with_front-more front (said slot number taken x) (steps_told slot (number + 1) (next slot taken x) rest)) ∙ ap (with_front front) (sym one) ∙ so_far
+  -- a line without a reading ends it
+  pub stops_at : (stop : ℕ) → or_line (number + 5) (result_ok (asked_of p.slot.max (words_of line))) ≡ Err stop → all ≡ Err stop
+  unfolding steps_told
+  stops_at stop reads =
+      let one : steps_told number p lines ≡ Err stop = rw (first, reads) refl in
+      sym so_far ∙ ap (with_front front) one
 
--- a line without a reading ends it
-pub stops_at : (slot : Slot) (number : ℕ) (taken : List Step) (lines rest : List (List ℕ)) (line front : List ℕ) (all : Result (List ℕ) ℕ) → lines ≡ line ∷ rest → step_line line ≡ None
-    → with_front front (steps_told slot number taken lines) ≡ all → all ≡ Err (number + 5)
-unfolding steps_told
-stops_at slot number taken lines rest line front all first reads so_far =
-    let one : steps_told slot number taken lines ≡ Err (number + 5) = rw (first, reads) refl in
-    sym so_far ∙ ap (with_front front) one
+  pub fails_more : (s : Stop) → Fails s (or_line (number + 5) (result_ok (asked_of p.slot.max (words_of line)))) → Fails s all
+  fails_more stop.Memory reads = tt
+  fails_more (stop.Malformed n) reads = stops_at n reads
+  fails_more stop.BadWords reads = absurd reads
+  fails_more stop.SourceFault reads = absurd reads
+  fails_more stop.SinkFault reads = absurd reads
+  fails_more stop.TooLong reads = absurd reads
 
 -- no line is left
-pub says_all : (slot : Slot) (number : ℕ) (taken : List Step) (lines : List (List ℕ)) (front : List ℕ) (all : Result (List ℕ) ℕ) → lines ≡ []
-    → with_front front (steps_told slot number taken lines) ≡ all → all ≡ Ok front
+pub says_all : (number : ℕ) (p : Play) (lines : List (List ℕ)) (front : List ℕ) (all : Result (List ℕ) ℕ) → lines ≡ []
+    → with_front front (steps_told number p lines) ≡ all → all ≡ Ok front
 unfolding steps_told
-says_all slot number taken lines front all none so_far =
-    let one : steps_told slot number taken lines ≡ Ok [] = rw none refl in
+says_all number p lines front all none so_far =
+    let one : steps_told number p lines ≡ Ok [] = rw none refl in
     sym so_far ∙ ap (with_front front) one ∙ ap (λ (t : List ℕ). Ok t) (append-nil front)

@@ -1,8 +1,12 @@
 pub mod Lines
 pub mod Replay
 pub mod Readings
-pub mod Narrow
-pub mod Tracked
+pub mod Words
+pub mod Asking
+pub mod Replies
+pub mod Plays
+pub mod Played
+pub mod Replayed
 pub mod Endings
 pub mod ReplayEndings
 pub mod Commands

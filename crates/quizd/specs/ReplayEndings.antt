@@ -6,7 +6,7 @@ use Rattle.qz_outside.specs.Sources.{AppendsFront}
 use Rattle.quizd.specs.declared.stop.Stop.{Stop}
 use Rattle.quizd.specs.declared.stop.Stop.TheVariants as stop
 use Rattle.quizd.specs.Endings.{Outside, Read, SourceFailed, MemoryWanted, PastLimit, text_limit}
-use Rattle.quizd.specs.Replay.{replayed, output_of, malformed}
+use Rattle.quizd.specs.Replayed.{replayed, output_of, malformed}
 
 -- what is read and written where it is done
 pub record ReplayDone (old new : Outside) : Type 0 where

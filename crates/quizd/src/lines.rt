@@ -4,11 +4,11 @@ ghost use Rattle.std.specs.Prelude.{◌≡◌, ◌+◌, ◌<◌, ◌≤◌, ◌=
 ghost use Rattle.std.specs.List.{position_from};
 ghost use Rattle.quizd.specs.Lines.{lines_of, after, digits_up_to, number_within};
 
-/// The place of the first line feed.
-fn line_end(text: &[u8]) -> Option<usize>
-    ensures { result ≡ position_from (λ c. c == 10) 0 text.now }
+/// The place of the first of these bytes.
+pub fn place_of(text: &[u8], byte: u8) -> Option<usize>
+    ensures { result ≡ position_from (λ c. c == byte) 0 text.now }
 {
-    text.iter().position(|c| *c == b'\n')
+    text.iter().position(|c| *c == byte)
 }
 
 /// The first line of a text, without its line feed, and what stands after it. None exactly for the empty text.
@@ -19,7 +19,7 @@ pub fn split_line(text: &[u8]) -> Option<(&[u8], &[u8])>
     if text.is_empty() {
         return None;
     }
-    match line_end(text) {
+    match place_of(text, b'\n') {
         None => Some((text, &[])),
         Some(end) => Some((text.split_at(end).0, text.split_at(end + 1).1)),
     }

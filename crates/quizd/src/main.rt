@@ -1,15 +1,19 @@
 //! The quiz server's program.
 #![tactic(auto)]
 
+mod asked;
+mod asking;
 mod command;
 mod lines;
+mod played;
 mod reading;
 mod replay;
+mod replies;
 mod run;
 mod saying;
 mod slot;
 mod stop;
-mod taken;
+mod words;
 #[cfg(test)]
 mod tests;
 
@@ -26,7 +30,7 @@ use std::{env, io};
 const NO_MEMORY: u8 = 8;
 
 /// The words of the command line behind the program's name. No words stand for arguments that the system doesn't give as text.
-fn words(rt: &(impl Env + Alloc<A = Global>)) -> Result<Vec<Text>, NoMemory> {
+fn arguments(rt: &(impl Env + Alloc<A = Global>)) -> Result<Vec<Text>, NoMemory> {
     let mut words = Vec::new(rt.alloc());
     let args = match env::args(rt) {
         Ok(args) => args,
@@ -40,7 +44,7 @@ fn words(rt: &(impl Env + Alloc<A = Global>)) -> Result<Vec<Text>, NoMemory> {
 }
 
 fn main(rt: HostRuntime) -> ExitCode {
-    let Ok(words) = words(&rt) else {
+    let Ok(words) = arguments(&rt) else {
         return ExitCode::from(NO_MEMORY);
     };
     let mut source = StdSource::new(rt.reader());

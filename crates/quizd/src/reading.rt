@@ -1,37 +1,56 @@
-//! Reading a replay text: the five lines of its head, and the line of a step.
+//! Reading the five lines at the head of a replay text, and words of its lines.
 
 ghost use Rattle.std.specs.Prelude.{◌≡◌, ◌≤◌, [], List, length, replicate, Some, IfSome, IfOk};
 ghost use Rattle.qz_decimal.specs.Numbers.{IsMaxMark};
 ghost use Rattle.qz_decimal.specs.Reading.{IsWrittenFraction};
 ghost use Rattle.qz_grading.specs.Questions.{IsQuestion};
 ghost use Rattle.quizd.specs.Lines.{lines_of, after};
-ghost use Rattle.quizd.specs.Narrow.{IsPlayable, IsPlayed};
+ghost use Rattle.quizd.specs.Plays.{IsPlayable};
 ghost use Rattle.quizd.specs.Readings.{Gives};
-ghost use Rattle.quizd.specs.Replay.{behaviour_line, max_of, max_line, penalty_line, hints_line, question_line, answer_of, step_line, line_at, head_of, true_false, no_text};
+ghost use Rattle.quizd.specs.Replay.{behaviour_named, behaviour_line, max_of, max_line, penalty_of, penalty_line, hints_of, hints_line, question_of, question_line, question_in, answer_of, line_at, head_of, no_text};
 
 use crate::lines::{after, number, split_line};
-use crate::slot::Slot;
+use crate::slot::{Slot, Version};
 use crate::stop::Stop;
 use qz_decimal::{Fraction, Mark};
-use qz_grading::{Answer, Behaviour, Format, Kind, Question, Response, Rich, Step};
+use qz_grading::{Answer, Behaviour, Format, Kind, Question, Rich};
 use qz_text::{Listed, NoMemory, Text};
 use std::alloc::Global;
 
 /// The greatest max mark, 10,000 in units of 10^-7.
 const MOST: i64 = 100_000_000_000;
 
-fn behaviour_on(line: &[u8]) -> Option<Behaviour>
-    ensures value { result ≡ behaviour_line line.now }
-    ensures deferred { IfSome result (λ b. b ≡ Behaviour.Deferred) }
+fn behaviour_in(word: &[u8]) -> Option<Behaviour>
+    ensures { result ≡ behaviour_named word.now }
 {
-    if line == b"behaviour deferredfeedback".as_slice() {
+    if word == b"deferredfeedback".as_slice() {
         Some(Behaviour::Deferred)
+    } else if word == b"immediatefeedback".as_slice() {
+        Some(Behaviour::Immediate)
+    } else if word == b"interactive".as_slice() {
+        Some(Behaviour::Interactive)
+    } else if word == b"adaptive".as_slice() {
+        Some(Behaviour::Adaptive)
+    } else if word == b"adaptivenopenalty".as_slice() {
+        Some(Behaviour::AdaptiveNoPenalty)
+    } else if word == b"deferredcbm".as_slice() {
+        Some(Behaviour::DeferredCbm)
+    } else if word == b"immediatecbm".as_slice() {
+        Some(Behaviour::ImmediateCbm)
+    } else if word == b"manualgraded".as_slice() {
+        Some(Behaviour::Manual)
     } else {
         None
     }
 }
 
-fn max_in(word: &[u8]) -> Option<Mark>
+fn behaviour_on(line: &[u8]) -> Option<Behaviour>
+    ensures { result ≡ behaviour_line line.now }
+{
+    behaviour_in(after(line, b"behaviour ")?)
+}
+
+pub fn max_in(word: &[u8]) -> Option<Mark>
     ensures value { result ≡ max_of word.now }
     ensures range { IfSome result IsMaxMark }
 {
@@ -50,34 +69,54 @@ fn max_on(line: &[u8]) -> Option<Mark>
     max_in(after(line, b"max ")?)
 }
 
+pub fn penalty_in(word: &[u8]) -> Option<Fraction>
+    ensures value { result ≡ penalty_of word.now }
+    ensures range { IfSome result IsWrittenFraction }
+{
+    Fraction::read(word).ok()
+}
+
 fn penalty_on(line: &[u8]) -> Option<Fraction>
     ensures value { result ≡ penalty_line line.now }
     ensures range { IfSome result IsWrittenFraction }
 {
-    Fraction::read(after(line, b"penalty ")?).ok()
+    penalty_in(after(line, b"penalty ")?)
+}
+
+pub fn hints_in(word: &[u8]) -> Option<u32>
+    ensures value { result ≡ hints_of word.now }
+    ensures range { IfSome result (λ n. n ≤ 20) }
+{
+    number(word, 0, 20)
 }
 
 fn hints_on(line: &[u8]) -> Option<u32>
     ensures value { result ≡ hints_line line.now }
     ensures range { IfSome result (λ n. n ≤ 20) }
 {
-    number(after(line, b"hints ")?, 0, 20)
+    hints_in(after(line, b"hints ")?)
 }
 
-/// Whether true is right.
-fn question_on(line: &[u8]) -> Option<bool>
-    ensures { result ≡ question_line line.now }
+/// A true-false question: whether true is right.
+pub fn question_in(word: &[u8]) -> Option<bool>
+    ensures { result ≡ question_of word.now }
 {
-    if line == b"question {T}".as_slice() {
+    if word == b"{T}".as_slice() {
         return Some(true);
     }
-    if line == b"question {F}".as_slice() {
+    if word == b"{F}".as_slice() {
         return Some(false);
     }
     None
 }
 
-fn answer_in(word: &[u8]) -> Option<Answer>
+fn question_on(line: &[u8]) -> Option<bool>
+    ensures { result ≡ question_line line.now }
+{
+    question_in(after(line, b"question ")?)
+}
+
+pub fn answer_in(word: &[u8]) -> Option<Answer>
     ensures { result ≡ answer_of word.now }
 {
     if word == b"blank".as_slice() {
@@ -85,21 +124,6 @@ fn answer_in(word: &[u8]) -> Option<Answer>
     }
     let choice = number(after(word, b"pick:")?, 1, 64)?;
     Some(Answer::Pick(choice as u8))
-}
-
-/// The step that a line asks for.
-pub fn step_on(line: &[u8]) -> Option<Step>
-    ensures value { result ≡ step_line line.now }
-    ensures played { IfSome result IsPlayed }
-{
-    if line == b"finish".as_slice() {
-        return Some(Step::Finish);
-    }
-    let answer = answer_in(after(line, b"save 0 ")?)?;
-    Some(Step::Save(Response {
-        answer,
-        certainty: 0,
-    }))
 }
 
 /// The first line, which `rest` then stands behind; this line is missing where there is none.
@@ -132,11 +156,11 @@ fn empty_hints(alloc: Global, count: u32) -> Result<Listed<Text>, NoMemory>
     Ok(Listed { items })
 }
 
-/// A true-false question without texts.
-fn question(alloc: Global, right: bool, penalty: Fraction, hints: u32) -> Result<Question, NoMemory>
-    requires penalty { IsWrittenFraction penalty }
-    requires hints { hints ≤ 20 }
-    ensures value { IfOk result (λ made. made ≡ true_false right penalty hints) }
+/// The true-false question without texts that a version spells.
+pub fn question(alloc: Global, version: Version) -> Result<Question, NoMemory>
+    requires penalty { IsWrittenFraction version.penalty }
+    requires hints { version.hints ≤ 20 }
+    ensures value { IfOk result (λ made. made ≡ question_in version) }
     ensures question { IfOk result IsQuestion }
 {
     Ok(Question {
@@ -144,12 +168,12 @@ fn question(alloc: Global, right: bool, penalty: Fraction, hints: u32) -> Result
         text: no_rich(alloc)?,
         general: no_rich(alloc)?,
         kind: Kind::TrueFalse {
-            right,
+            right: version.right,
             on_wrong: no_rich(alloc)?,
             on_right: no_rich(alloc)?,
         },
-        penalty,
-        hints: empty_hints(alloc, hints)?,
+        penalty: version.penalty,
+        hints: empty_hints(alloc, version.hints)?,
     })
 }
 
@@ -157,7 +181,6 @@ fn question(alloc: Global, right: bool, penalty: Fraction, hints: u32) -> Result
 fn behaviour_at(rest: &mut &[u8]) -> Result<Behaviour, Stop>
     ensures value { Gives (λ x. (x, lines_of rest.new.now)) result (line_at behaviour_line 1 (lines_of rest.old.now)) }
     ensures shorter { length rest.new.now ≤ length rest.old.now }
-    ensures deferred { IfOk result (λ b. b ≡ Behaviour.Deferred) }
 {
     behaviour_on(first_line(rest, 1)?).ok_or(Stop::Malformed { line: 1 })
 }
@@ -205,9 +228,15 @@ pub fn head_at(alloc: Global, rest: &mut &[u8]) -> Result<Slot, Stop>
     let penalty = penalty_at(rest)?;
     let hints = hints_at(rest)?;
     let right = question_at(rest)?;
+    let version = Version {
+        max,
+        penalty,
+        hints,
+        right,
+    };
     Ok(Slot {
         behaviour,
         max,
-        question: question(alloc, right, penalty, hints)?,
+        question: question(alloc, version)?,
     })
 }

@@ -1,21 +1,29 @@
 //! Replaying the steps of one slot.
 
-ghost use Rattle.std.specs.Prelude.{◌≤◌, ◌^◌, length, string_bytes, MatchResult, Some, None};
+ghost use Rattle.std.specs.Prelude.{◌≡◌, ◌<◌, ◌≤◌, ◌^◌, length, string_bytes, IfOk, MatchResult, Some, None};
+ghost use Rattle.std.specs.Result.{result_ok};
 ghost use Rattle.quizd.specs.Endings.{Ended};
 ghost use Rattle.quizd.specs.Lines.{lines_of};
-ghost use Rattle.quizd.specs.Narrow.{IsPlayable};
+ghost use Rattle.quizd.specs.Plays.{IsAskable};
 ghost use Rattle.quizd.specs.Readings.{Gives};
-ghost use Rattle.quizd.specs.Replay.{with_front, replayed, steps_told};
+ghost use Rattle.quizd.specs.Replay.{or_line};
+ghost use Rattle.quizd.specs.Replayed.{asked_of, with_front, replayed, steps_told};
 ghost use Rattle.quizd.specs.ReplayEndings.{ReplayEnds, ReplaysAll};
+ghost use Rattle.quizd.specs.Words.{words_of};
 
+use crate::asked::{Asked, asked_on};
 use crate::lines::split_line;
-use crate::reading::{head_at, step_on};
-use crate::saying::{first_line_onto, step_line_onto};
-use crate::slot::Slot;
+use crate::played::Played;
+use crate::reading::head_at;
+use crate::saying::{first_line_onto, told_line_onto};
 use crate::stop::Stop;
-use crate::taken::Taken;
+use crate::words::WordFault;
+use qz_decimal::Mark;
+use qz_grading::Steps;
 use qz_outside::{Sink, Source, read_all, write_all};
 use std::alloc::Global;
+use std::marker::Brand;
+use std::sync::ledger::{Blank, Ledger};
 
 /// How many lines stand before the first step.
 const HEAD: u32 = 5;
@@ -73,38 +81,61 @@ fn replay_or_stop<S: Source, O: Sink>(
     }
 }
 
-/// The output of a replay text.
-#[tactic(auto, unfolding(crate::specs::Replay::replayed))]
+/// The output of a replay text. Gradings are counted by nobody.
 fn output(alloc: Global, text: &[u8]) -> Result<String, Stop>
     requires { length text.now ≤ 2 ^ 31 }
     ensures { Gives (λ out. string_bytes out) result (replayed text.now) }
 {
-    let mut rest = text;
-    let slot = head_at(alloc, &mut rest)?;
-    let taken = Taken::new(alloc);
-    let mut out = String::new(alloc);
-    first_line_onto(&mut out, &slot, &taken)?;
-    steps_behind(out, &slot, taken, rest)
+    counted_output::<Brand>(Blank::new(1), alloc, text)
 }
 
-/// The lines of the steps, behind what was said before them.
-fn steps_behind(mut out: String, slot: &Slot, mut taken: Taken, text: &[u8]) -> Result<String, Stop>
-    requires playable { IsPlayable slot.now }
+#[tactic(auto, unfolding(crate::specs::Replayed::replayed))]
+fn counted_output<L: Ledger>(blank: Blank, alloc: Global, text: &[u8]) -> Result<String, Stop>
+    requires name { blank.name ≡ L.name }
+    requires parts { blank.parts ≡ L.parts }
+    requires some_part { 0 < blank.parts }
     requires short { length text.now ≤ 2 ^ 31 }
-    ensures { Gives (λ said. string_bytes said) result (with_front (string_bytes out) (steps_told slot.now 1 taken (lines_of text.now))) }
+    ensures { Gives (λ out. string_bytes out) result (replayed text.now) }
+{
+    let mut rest = text;
+    let slot = head_at(alloc, &mut rest)?;
+    let played = Played::new(alloc, slot)?;
+    let mut out = String::new(alloc);
+    first_line_onto(&mut out, &played)?;
+    lines_behind(alloc, out, played, rest, &mut Steps::<L>::open(blank))
+}
+
+/// The lines of what is asked, behind what was said before them.
+fn lines_behind<L: Ledger>(
+    alloc: Global,
+    mut out: String,
+    mut played: Played,
+    text: &[u8],
+    steps: &mut Steps<L>,
+) -> Result<String, Stop>
+    requires { length text.now ≤ 2 ^ 31 }
+    ensures { Gives (λ said. string_bytes said) result (with_front (string_bytes out) (steps_told 1 played (lines_of text.now))) }
 {
     let mut rest = text;
     let mut number = 1u32;
     while let Some((line, after)) = split_line(rest) {
-        let Some(step) = step_on(line) else {
-            return Err(Stop::Malformed {
-                line: number + HEAD,
-            });
-        };
-        let fate = taken.act(slot, step)?;
-        step_line_onto(&mut out, number, slot, fate, &taken)?;
+        let asked = asked_at(line, number + HEAD, played.max())?;
+        let fate = played.take(alloc, asked, steps)?;
+        told_line_onto(&mut out, number, fate, &played)?;
         rest = after;
         number += 1;
     }
     Ok(out)
+}
+
+/// What the line with this number in the text asks for, where this max mark is bound.
+fn asked_at(text: &[u8], line: u32, max: Mark) -> Result<Asked, Stop>
+    ensures value { Gives (λ x. x) result (or_line line (result_ok (asked_of max (words_of text.now)))) }
+    ensures askable { IfOk result (IsAskable max) }
+{
+    match asked_on(text, max) {
+        Ok(asked) => Ok(asked),
+        Err(WordFault::Malformed { .. }) => Err(Stop::Malformed { line }),
+        Err(WordFault::Memory) => Err(Stop::Memory),
+    }
 }

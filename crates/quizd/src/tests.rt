@@ -3,6 +3,7 @@ ghost use Rattle.std.specs.Prelude.{◌<◌};
 use super::*;
 use qz_outside::{MemorySink, MemorySource};
 use qz_text::{Bytes, Listed};
+use std::process::Abort;
 use std::test::Fail;
 
 const HEAD: &str = "behaviour deferredfeedback\nmax 2\npenalty 0.3333333\nhints 0\nquestion {T}\n";
@@ -80,6 +81,97 @@ fn steps_are_replayed(rt: HostRuntime) -> Result<(), Fail> {
     Ok(())
 }
 
+/// The head of a replay of a true-false question whose right answer is true.
+fn head(
+    alloc: Global,
+    behaviour: &str,
+    max: &str,
+    penalty: &str,
+    hints: &str,
+) -> Result<String, NoMemory> {
+    Ok(format!(in alloc; "behaviour {behaviour}\nmax {max}\npenalty {penalty}\nhints {hints}\nquestion {{T}}\n")?)
+}
+
+/// Each row has what is asked, a bar between two lines, and what is said of each.
+fn hold(rt: &impl Abort, alloc: Global, head: &str, rows: &str) -> Result<(), NoMemory> {
+    for row in rows.lines() {
+        let Some((asked, said)) = row.trim().split_once(" => ") else {
+            panic!(rt; "no arrow in {row}");
+        };
+        let mut text = String::from_str(alloc, head)?;
+        for line in asked.split(" | ") {
+            text.push_str(line)?;
+            text.push('\n')?;
+        }
+        let mut want = String::from_str(alloc, "0 todo -\n")?;
+        for (number, line) in said.split(" | ").enumerate() {
+            let number = number.wrapping_add(1);
+            write!(want, "{number} {line}\n")?;
+        }
+        let (status, written) = run_over(alloc, "replay", text.as_bytes(), WELL, WELL)?;
+        assert_eq!(rt; (status, written.as_str()), (0, want.as_str()), "{row}");
+    }
+    Ok(())
+}
+
+#[test]
+fn feedback_at_the_end_or_at_once(rt: HostRuntime) -> Result<(), Fail> {
+    let alloc = rt.alloc();
+    let rows = "submit 0 pick:1 | mark 1 => refused 11 deferredfeedback | refused 16
+        save 1 pick:1 | again => refused 14 | refused 11 deferredfeedback
+        save 0 pick:1 | finish | bind 2 0.3333333 0 {F} => complete - | gradedright 2.0000000 | gradedwrong 0.0000000
+        finish | mark 2 | mark -1 | save 0 blank => gaveup - | mangrright 2.0000000 | refused 15 2.0000000 | refused 12 mangrright";
+    let deferred = head(alloc, "deferredfeedback", "2", "0.3333333", "0")?;
+    hold(&rt, alloc, deferred.as_str(), rows)?;
+    let rows = "submit 0 blank | save 0 pick:1 => invalid - | todo -
+        submit 0 pick:2 | submit 0 pick:1 | finish => gradedwrong 0.0000000 | refused 12 gradedwrong | gradedwrong 0.0000000";
+    let immediate = head(alloc, "immediatefeedback", "2", "0.3333333", "0")?;
+    hold(&rt, alloc, immediate.as_str(), rows)?;
+    Ok(())
+}
+
+#[test]
+fn certainty_counts(rt: HostRuntime) -> Result<(), Fail> {
+    let alloc = rt.alloc();
+    let rows = "save 3 pick:2 | finish => complete - | gradedwrong -6.0000000
+        save 3 pick:1 | finish => complete - | gradedright 3.0000000
+        save 2 pick:2 | finish => complete - | gradedwrong -2.0000000
+        save 0 pick:1 | finish => todo - | gradedright 1.0000000";
+    let deferred = head(alloc, "deferredcbm", "1", "0", "0")?;
+    hold(&rt, alloc, deferred.as_str(), rows)?;
+    let rows = "submit 0 pick:1 | submit 2 pick:1 => invalid - | gradedright 2.0000000";
+    let immediate = head(alloc, "immediatecbm", "1", "0", "0")?;
+    hold(&rt, alloc, immediate.as_str(), rows)?;
+    Ok(())
+}
+
+#[test]
+fn tries_cost_penalties(rt: HostRuntime) -> Result<(), Fail> {
+    let alloc = rt.alloc();
+    let rows = "submit 0 pick:2 | again | submit 0 pick:2 | again | submit 0 pick:1 => todo - | todo - | todo - | todo - | gradedright 1.0000002
+        submit 0 pick:2 | save 0 pick:1 => todo - | refused 13
+        again => refused 11 interactive";
+    let interactive = head(alloc, "interactive", "3", "0.3333333", "2")?;
+    hold(&rt, alloc, interactive.as_str(), rows)?;
+    let rows = "submit 0 pick:2 | submit 0 pick:2 | submit 0 pick:1 | finish => todo 0.0000000 | same todo 0.0000000 | complete 1.8000000 | gradedright 1.8000000
+        finish => gaveup 0.0000000";
+    let adaptive = head(alloc, "adaptive", "2", "0.1", "0")?;
+    hold(&rt, alloc, adaptive.as_str(), rows)?;
+    let rows = "submit 0 pick:2 | submit 0 pick:1 | finish => todo 0.0000000 | complete 2.0000000 | gradedright 2.0000000";
+    let free = head(alloc, "adaptivenopenalty", "2", "0.1", "0")?;
+    hold(&rt, alloc, free.as_str(), rows)?;
+    Ok(())
+}
+
+#[test]
+fn a_teacher_marks(rt: HostRuntime) -> Result<(), Fail> {
+    let alloc = rt.alloc();
+    let rows = "save 0 pick:1 | finish | mark 4 | mark 6 | bind 3 0.3333333 0 {T} => complete - | needsgrading - | mangrpartial 4.0000000 | refused 15 5.0000000 | mangrpartial 2.4000000";
+    let manual = head(alloc, "manualgraded", "5", "0", "0")?;
+    hold(&rt, alloc, manual.as_str(), rows)?;
+    Ok(())
+}
+
 #[test]
 fn the_first_line_without_a_reading_is_told(rt: HostRuntime) -> Result<(), Fail> {
     let alloc = rt.alloc();
@@ -89,6 +181,7 @@ fn the_first_line_without_a_reading_is_told(rt: HostRuntime) -> Result<(), Fail>
         ("behaviour deferredfeedback\r\nmax 2\n", 1),
         ("behaviour  deferredfeedback\nmax 2\n", 1),
         ("behaviour deferredfeedback", 2),
+        ("behaviour informationitem\nmax 2\n", 1),
         ("behaviour deferredfeedback\nmax 10000.0000001\n", 2),
         ("behaviour deferredfeedback\nmax -1\n", 2),
         ("behaviour deferredfeedback\nmax -0\npenalty 1.1\n", 3),
@@ -118,10 +211,18 @@ fn the_first_line_without_a_reading_is_told(rt: HostRuntime) -> Result<(), Fail>
     for (lines, line) in [
         ("save 0 pick:0\n", 6),
         ("save 0 pick:65\n", 6),
-        ("finish\nsave 1 pick:1\n", 7),
+        ("finish\nsave 4 pick:1\n", 7),
         ("finish\n\nfinish\n", 7),
         ("finish \n", 6),
-        ("submit 0 pick:1\n", 6),
+        ("submit pick:1\n", 6),
+        ("save 0  pick:1\n", 6),
+        ("save 0 picks:1,2\n", 6),
+        ("again 1\n", 6),
+        ("mark\nfinish\n", 6),
+        ("mark 1 2\n", 6),
+        ("bind 2 0 0 {T}\nbind 2 0 0 {}\n", 7),
+        ("bind 10001 0 0 {T}\n", 6),
+        ("bind 2 0 21 {T}\n", 6),
     ] {
         let (status, written) = steps(alloc, lines)?;
         assert_eq!(rt; status, 3, "{lines}");
@@ -171,6 +272,14 @@ fn limits(rt: HostRuntime) -> Result<(), Fail> {
     let last =
         "10000 complete -\n10001 refused 18 10000\n10002 refused 18 10000\n10003 gradedwrong 0.0000000\n";
     assert!(rt; written.as_str().ends_with(last));
+
+    let mut lines = String::from_str(alloc, "finish\n")?;
+    for _ in 0..1001 {
+        lines.push_str("mark 1\n")?;
+    }
+    let (status, written) = steps(alloc, lines.as_str())?;
+    assert_eq!(rt; status, 0);
+    assert!(rt; written.as_str().ends_with("1001 mangrpartial 1.0000000\n1002 refused 18 1000\n"));
 
     let mut text = Vec::from_slice(alloc, HEAD.as_bytes())?;
     text.resize(8_388_609, b'\n')?;
