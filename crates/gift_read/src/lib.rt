@@ -1,0 +1,9 @@
+//! The reader of GIFT, Moodle's text format for question banks.
+#![tactic(auto)]
+
+mod fault;
+mod parts;
+mod places;
+mod read;
+
+pub use fault::GiftFault;
