@@ -5,5 +5,6 @@ mod fault;
 mod parts;
 mod places;
 mod read;
+mod texts;
 
 pub use fault::GiftFault;
