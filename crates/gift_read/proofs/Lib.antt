@@ -1,3 +1,4 @@
 pub mod PlaceLemmas
 pub mod TextLemmas
 pub mod PartLemmas
+pub mod ValueLemmas

@@ -2,9 +2,12 @@
 #![tactic(auto)]
 
 mod fault;
+mod kinds;
 mod parts;
 mod places;
+mod question;
 mod read;
 mod texts;
+mod values;
 
 pub use fault::GiftFault;
