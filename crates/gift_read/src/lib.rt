@@ -1,0 +1,4 @@
+//! The reader of GIFT, Moodle's text format for question banks: what bank a text is, or its first fault.
+#![tactic(auto)]
+
+mod utf8;
