@@ -1,2 +1,2 @@
 pub mod LineCounts
-pub mod Lengths
+pub mod WrittenNumbers

@@ -1,3 +1,12 @@
-pub mod Utf8
-pub mod ExamplesUtf8
+pub mod Places
+pub mod Texts
+pub mod Parts
+pub mod Values
+pub mod Category
+pub mod Faults
+pub mod Gift
+pub mod Computing
+pub mod Examples
+pub mod ExamplesKinds
+pub mod ExamplesFaults
 pub mod Room

@@ -1,5 +1,12 @@
-//! The reader of GIFT, Moodle's text format for question banks: what bank a text is, or its first fault.
+//! The reader of GIFT, Moodle's text format for question banks.
 #![tactic(auto)]
 
+mod fault;
+mod parts;
+mod places;
+mod read;
 mod room;
 mod utf8;
+mod written;
+
+pub use fault::GiftFault;

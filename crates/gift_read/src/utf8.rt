@@ -3,14 +3,14 @@
 ghost use Rattle.std.specs.Prelude.{◌≡◌, true, false, length, IfOk, IfErr};
 ghost use Rattle.std.specs.Str.{is_utf8};
 ghost use Rattle.gift_lex.specs.Gathering.{split_lines};
-ghost use Rattle.gift_read.specs.Utf8.{bad_byte_line};
+ghost use Rattle.gift_read.specs.Gift.{line_of_bad_byte};
 
 /// Bytes as text. Where they aren't UTF-8, the line of the first byte behind the longest front that is.
 pub(crate) fn as_text(bytes: &[u8]) -> Result<&str, usize>
     ensures text { IfOk result (λ text. text.now ≡ bytes.now) }
     ensures utf8 { IfOk result (λ text. is_utf8 bytes.now ≡ true) }
     ensures not_utf8 { IfErr result (λ line. is_utf8 bytes.now ≡ false) }
-    ensures line { IfErr result (λ line. line ≡ bad_byte_line bytes.now) }
+    ensures line { IfErr result (λ line. line ≡ line_of_bad_byte bytes.now) }
 {
     match std::str::from_utf8(bytes) {
         Ok(text) => Ok(text),

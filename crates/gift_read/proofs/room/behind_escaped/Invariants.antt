@@ -1,4 +1,4 @@
-use Rattle.std.proofs.Common.{◌≡◌, ◌+◌, ◌≤◌, length}
+use Rattle.std.proofs.Common.{◌≡◌, ◌+◌, length}
 use Rattle.qz_grading.specs.Canonical.{escaped}
 use Rattle.gift_read.proofs.room.behind_escaped.Given as goal
 

@@ -3,7 +3,7 @@ use Rattle.std.specs.Str.{is_utf8}
 use Rattle.std.proofs.lemmas.Str.{IsUtf8-from_is_utf8, is_utf8-from_IsUtf8}
 use Rattle.gift_lex.specs.Blocks.{lines_of}
 use Rattle.gift_lex.specs.Gathering.{split_lines}
-use Rattle.gift_read.specs.Utf8.{valid_front}
+use Rattle.std.specs.Str.Lossy.{utf8_valid_len}
 use Rattle.gift_read.proofs.LineCounts.{length-lines_of}
 use Rattle.gift_read.proofs.utf8.as_text.Goals as goal
 
@@ -19,7 +19,7 @@ returns-in-Err-clause-not_utf8 c = go (is_utf8 c.args.bytes.now) refl
 
 pub returns-in-Err-clause-line : goal.returns-in-Err-clause-line
 returns-in-Err-clause-line c =
-    let front : take c.valid_up_to.result c.args.bytes.now ≡ valid_front c.args.bytes.now =
+    let front : take c.valid_up_to.result c.args.bytes.now ≡ take (utf8_valid_len c.args.bytes.now) c.args.bytes.now =
     ap (λ n. take n c.args.bytes.now) (c.valid_up_to.ensures ∙ c.in-Err.ensures.valid_len) in
     let utf8 = rw (sym c.valid_up_to.ensures) at c.in-Err.ensures.cases.1.front in
     c.line_count.ensures

@@ -1,7 +1,7 @@
-use Rattle.std.proofs.Common.{◌≡◌, ◌^◌, ◌<◌, ◌≤◌, length}
+use Rattle.std.proofs.Common.{◌≡◌, ◌^◌, ◌<◌, ◌≤◌}
 use Rattle.qz_grading.specs.Canonical.{without_zeros}
 use Rattle.qz_grading.specs.Words.{in_digits}
-use Rattle.gift_read.proofs.room.decimals_len.Given as goal
+use Rattle.gift_read.proofs.written.decimals_len.Given as goal
 
 abbrev pub invariant-loop-digits : goal.invariant-loop-digits
 invariant-loop-digits l = record {

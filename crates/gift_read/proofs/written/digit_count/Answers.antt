@@ -1,7 +1,6 @@
-use Rattle.std.proofs.Common.{◌≡◌, ◌+◌, length, arith}
-use Rattle.std.specs.Fmt.{decimal}
-use Rattle.gift_read.proofs.Lengths.{length-decimal-step, length-decimal-one, length-decimal-few}
-use Rattle.gift_read.proofs.room.digit_count.Goals as goal
+use Rattle.std.proofs.Common.{arith}
+use Rattle.gift_read.proofs.WrittenNumbers.{length-decimal-step, length-decimal-one, length-decimal-few}
+use Rattle.gift_read.proofs.written.digit_count.Goals as goal
 
 pub overflow_add-count : goal.overflow_add-count
 overflow_add-count c = omega (arith, c.loop-left.invariant, length-decimal-few c.args.number (omega arith))

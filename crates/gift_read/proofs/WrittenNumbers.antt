@@ -1,12 +1,12 @@
 -- How long numbers are written.
-use Rattle.std.proofs.Common.{◌≡◌, ◌≢◌, ℕ, zero, suc, ◌+◌, ◌-◌, ◌*◌, ◌/◌, ◌%◌, ◌^◌, ◌<◌, ◌≤◌, Bool, true, false, cond, ◌&&◌, ◌==◌, List, [], ◌∷◌, ◌++◌, length, replicate, refl, sym, ap, ◌∙◌, inl, inr, arith}
+use Rattle.std.proofs.Common.{◌≡◌, ◌≢◌, ℕ, zero, suc, ◌+◌, ◌-◌, ◌/◌, ◌%◌, ◌^◌, ◌<◌, ◌≤◌, Bool, true, false, cond, ◌&&◌, ◌==◌, List, [], ◌∷◌, ◌++◌, length, replicate, refl, sym, ap, ◌∙◌, inl, inr, arith}
 use Rattle.std.specs.Fmt.{decimal}
 use Rattle.std.proofs.lemmas.Bool.{cases_lt, ne_eqb}
 use Rattle.std.proofs.lemmas.Fmt.{decimal_step_wide, decimal_digit, length-decimal-le, length-decimal-le_wide}
-use Rattle.std.proofs.lemmas.List.{length-append, length-replicate, append-nil}
+use Rattle.std.proofs.lemmas.List.{length-append, length-replicate}
 use Rattle.qz_grading.specs.Canonical.{is_nothing, without_zeros, behind_point}
 use Rattle.qz_grading.specs.Words.{in_digits}
-use Rattle.qz_grading.proofs.DigitLemmas.{tenth_fits, in_digits-step}
+use Rattle.qz_grading.proofs.DigitLemmas.{in_digits-step}
 
 -- ---- digits without the zeros at their end, from the front
 
@@ -15,8 +15,7 @@ zeros-push [] = refl
 zeros-push (d ∷ ds) = rw (zeros-push ds) refl
 
 nothing-push : (ds : List ℕ) (d : ℕ) → is_nothing (ds ++ d ∷ []) ≡ false
-nothing-push [] d = refl
-nothing-push (e ∷ ds) d = refl
+nothing-push ds d = ne_eqb (length (ds ++ d ∷ [])) 0 (λ e. omega (arith, length-append ds (d ∷ []), e))
 
 other-push : (ds : List ℕ) (d : ℕ) → (d == 48) ≡ false → without_zeros (ds ++ d ∷ []) ≡ ds ++ d ∷ []
 other-push [] d e = rw e refl
@@ -41,6 +40,10 @@ in_digits-last k n some fits = elim (cases_lt n 10) [
   | inr long ↦ record { front = in_digits (k - 1) (n / 10); split = in_digits-step k n long fits some }
 ]
 
+pub some_place : (k n : ℕ) → 0 < n → n < 10 ^ k → 0 < k
+some_place zero n some fits = absurd (omega arith)
+some_place (suc k) n some fits = omega arith
+
 -- a zero at the end goes
 pub drop_zero : (k n : ℕ) → 0 < k → 0 < n → n < 2 ^ 64 → n % 10 ≡ 0 → without_zeros (in_digits (k - 1) (n / 10)) ≡ without_zeros (in_digits k n)
 drop_zero k n places some fits ends =
@@ -64,7 +67,7 @@ no_decimals k = rw (decimal_digit 0 (omega arith)) (zeros-push (replicate (k - 1
 
 pub length-in_digits : (k n : ℕ) → 0 < k → n < 10 ^ k → n < 2 ^ 64 → length (in_digits k n) ≡ k
 length-in_digits k n places small fits =
-    omega (arith, length-append (replicate (k - length (decimal n)) 48) (decimal n), length-replicate (k - length (decimal n)) 48, length-decimal-le k n places small fits)
+    omega (arith, length-append (replicate (k - length (decimal n)) 48) (decimal n), length-replicate {A = ℕ} (k - length (decimal n)) 48, length-decimal-le k n places small fits)
 
 pub length-behind_point : (ds : List ℕ) → 0 < length ds → length (behind_point ds) ≡ 1 + length ds
 length-behind_point [] some = absurd (omega arith)

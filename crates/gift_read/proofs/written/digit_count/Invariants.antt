@@ -1,6 +1,6 @@
-use Rattle.std.proofs.Common.{◌≡◌, ◌+◌, ◌≤◌, ◌<◌, ◌^◌, length}
+use Rattle.std.proofs.Common.{◌≡◌, ◌+◌, length}
 use Rattle.std.specs.Fmt.{decimal}
-use Rattle.gift_read.proofs.room.digit_count.Given as goal
+use Rattle.gift_read.proofs.written.digit_count.Given as goal
 
 abbrev pub invariant-loop-left : goal.invariant-loop-left
 invariant-loop-left l = l.count + length (decimal l.left) ≡ 1 + length (decimal l.number)
