@@ -1,5 +1,5 @@
 -- What marks spell: a text, a text with its format, a name, a path.
-use Rattle.std.specs.Prelude.{ℕ, Bool, ◌&&◌, if◌then◌else◌, List, [], ◌∷◌, length, map, take, drop, find, unwrap_or, Option, None, Some, codes, bytes_eq, encode_utf8_all}
+use Rattle.std.specs.Prelude.{ℕ, Bool, false, ◌&&◌, if◌then◌else◌, List, [], ◌∷◌, length, map, take, drop, find, unwrap_or, Option, None, Some, codes, bytes_eq, encode_utf8_all}
 use Rattle.gift_lex.specs.Blocks.{space}
 use Rattle.qz_grading.specs.declared.question.Format.{Format}
 use Rattle.qz_grading.specs.declared.question.Format.TheVariants as format
@@ -44,13 +44,16 @@ rich_of default marks = if is_nothing (spelled (shown marks)) then record { form
 
 -- ---- a name made from a text
 
+abbrev pub begins_blank : Marks → Bool
+begins_blank [] = false
+begins_blank (m ∷ marks) = is_space m
+
 -- characters with each run of white space as one space
 abbrev pub single_spaced : Marks → List ℕ
 single_spaced [] = []
-single_spaced (m ∷ []) = (if is_space m then space else character m) ∷ []
-single_spaced (m ∷ n ∷ marks) =
-    if is_space m && is_space n then single_spaced (n ∷ marks)
-    else (if is_space m then space else character m) ∷ single_spaced (n ∷ marks)
+single_spaced (m ∷ marks) =
+    if is_space m && begins_blank marks then single_spaced marks
+    else (if is_space m then space else character m) ∷ single_spaced marks
 
 abbrev pub or_question : List ℕ → List ℕ
 or_question [] = codes "Question"
