@@ -1,6 +1,7 @@
 //! The reader of GIFT, Moodle's text format for question banks.
 #![tactic(auto)]
 
+mod category;
 mod fault;
 mod parts;
 mod places;
