@@ -1,3 +1,6 @@
+pub mod CategoryLemmas
 pub mod LineCounts
 pub mod PlaceLemmas
 pub mod WrittenNumbers
+pub mod TextLemmas
+pub mod PartLemmas

@@ -57,8 +57,8 @@ single_spaced (m ∷ marks) =
 
 abbrev pub or_question : List ℕ → List ℕ
 or_question [] = codes "Question"
-or_question (c ∷ cs) = c ∷ cs
+or_question (b ∷ name) = b ∷ name
 
 -- the first 80 characters of a text, or a word where they are blank
 abbrev pub made_name : Marks → List ℕ
-made_name marks = encode_utf8_all (or_question (single_spaced (trimmed (take 80 marks))))
+made_name marks = or_question (encode_utf8_all (single_spaced (trimmed (take 80 marks))))

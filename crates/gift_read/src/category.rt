@@ -76,7 +76,7 @@ fn is_slash(mark: Piece) -> bool
 }
 
 /// The marks of the first name on a path, and what stands behind the slash that ends it, where one does.
-fn split_name(alloc: Global, path: &[Piece]) -> Result<(Vec<Piece>, Option<&[Piece]>), NoMemory>
+fn first_name(alloc: Global, path: &[Piece]) -> Result<(Vec<Piece>, Option<&[Piece]>), NoMemory>
     ensures cases { IfOk result (λ x. MatchOption x.1 (names path.now ≡ x.0.items ∷ [])
         (λ rest. names path.now ≡ x.0.items ∷ names rest.now)) }
     ensures shorter { IfOk result (λ x. IfSome x.1 (λ rest. length rest.now < length path.now)) }
@@ -102,13 +102,15 @@ pub(crate) fn path(alloc: Global, marks: &[Piece]) -> Result<Listed<Text>, NoMem
 {
     let path = path_marks(alloc, marks)?;
     let mut items = Vec::new(alloc);
-    let mut left = Some(path.as_slice());
-    while let Some(rest) = left {
-        let (name, behind) = split_name(alloc, rest)?;
+    let mut rest = path.as_slice();
+    loop {
+        let (name, behind) = first_name(alloc, rest)?;
         items.push(text_of(alloc, &name)?)?;
-        left = behind;
+        match behind {
+            Some(behind) => rest = behind,
+            None => return Ok(Listed { items }),
+        }
     }
-    Ok(Listed { items })
 }
 
 /// Whether a name on a path is blank, or begins with a slash.

@@ -7,6 +7,7 @@ mod parts;
 mod places;
 mod read;
 mod room;
+mod texts;
 mod utf8;
 mod written;
 
