@@ -1,4 +1,8 @@
+pub mod CategoryLemmas
+pub mod LineCounts
 pub mod PlaceLemmas
+pub mod WrittenNumbers
 pub mod TextLemmas
 pub mod PartLemmas
 pub mod ValueLemmas
+pub mod ReadLemmas

@@ -1,13 +1,18 @@
 //! The reader of GIFT, Moodle's text format for question banks.
 #![tactic(auto)]
 
+mod category;
 mod fault;
 mod kinds;
 mod parts;
 mod places;
 mod question;
-mod read;
+mod reading;
+mod room;
 mod texts;
+mod utf8;
 mod values;
+mod written;
 
 pub use fault::GiftFault;
+pub use reading::read;
