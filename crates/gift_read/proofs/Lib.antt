@@ -6,3 +6,6 @@ pub mod TextLemmas
 pub mod PartLemmas
 pub mod ValueLemmas
 pub mod ReadLemmas
+pub mod SoundLemmas
+pub mod TogetherLemmas
+pub mod QuestionLemmas
