@@ -64,6 +64,7 @@ no_braces true (m ∷ marks) f e = absurd (go (is_at landmark.Hash part) (occurs
   where
     part : Marks
     part = m ∷ marks
+
     go : (hash tilde equals arrow : Bool) (right : Option Bool) → kind_in f part (cond hash sort.Numerical (cond tilde (cond equals sort.One sort.Several) (cond (equals && arrow) sort.Matching (short_unless right)))) ≡ kind.Description → ⊥
     go true tilde equals arrow right e = cc
     go false true true arrow right e = cc
@@ -109,15 +110,17 @@ sound-kind q s answers f is e =
     let others = or_parts (not (is_matching q.kind) && lacks_piece q.kind) _ pieces.1 in
     let matched = or_parts (is_matching q.kind && (lacks_piece q.kind || not (has_stem q.kind))) _ matching.1 in
     let whole = pieces-whole q.kind others.0 matched.0 in
-    let full = or_parts (nat_lt (parts q.kind) (least_parts q.kind)) (not (has_no_blank q.kind)) whole.0 in
-    (record {
-      few = ltb-false most_parts (parts q.kind) limits.1;
-      enough = ltb-false (parts q.kind) (least_parts q.kind) full.0;
-      numbers = rw is (kind_in-numbers f answers s);
-      no_blank = not-false _ full.1;
-      right_choice = not-false _ right.1;
-      stem = whole.1;
-    }, not-false _ limits.0)
+    let full = or_parts (nat_lt (parts q.kind) (least_parts q.kind)) (not (has_no_blank q.kind)) whole.0 in (
+      record {
+        few = ltb-false most_parts (parts q.kind) limits.1;
+        enough = ltb-false (parts q.kind) (least_parts q.kind) full.0;
+        numbers = rw is (kind_in-numbers f answers s);
+        no_blank = not-false _ full.1;
+        right_choice = not-false _ right.1;
+        stem = whole.1;
+      },
+      not-false _ limits.0,
+    )
 
 pub question-kept : (b : Block) → is_category b.marks ≡ false → broken b ≡ [] → IsQuestion (question b)
 question-kept b asked e =
@@ -178,6 +181,7 @@ reading-kept text bank e = go (is_utf8 text) e
     held : (items : Result (List Item) Fault) → KeptIfRead items → in_bank items ≡ Ok bank → All IsQuestion (questions bank.items)
     held (Ok items) kept e = let same : record { items = items } ≡ bank = cc in rw (← same) kept
     held (Err fault) kept e = cc
+
     go : (b : Bool) → reading_of b text ≡ Ok bank → All IsQuestion (questions bank.items)
     go true e = held (items_of (codes "Default" ∷ []) (blocks_of text)) (items_of-kept (codes "Default" ∷ []) (blocks_of text)) e
     go false e = cc

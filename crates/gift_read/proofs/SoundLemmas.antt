@@ -113,6 +113,7 @@ extent_of-extent marks = go (spells (codes "*") (trimmed marks)) (occurs (is_at 
   where
     short : (m : Marks) → short_if_some (number_of m)
     short m = number_of-short m (number_of m) refl
+
     go : (star range tolerant : Bool) → extent_if_some (cond star (Some extent.Any) (cond range (between (number_of (low_end marks)) (number_of (high_end marks)))
         (cond tolerant (near (number_of (middle marks)) (number_of (tolerance marks))) (near (number_of marks) (Some (pos 0))))))
     go true range tolerant = refl

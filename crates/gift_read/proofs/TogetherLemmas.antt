@@ -106,6 +106,7 @@ single-length d (c ∷ cs) = go (int_eq c.weight (pos one)) (single-length d cs)
   where
     whole : sum_by length (flat_map (λ (c : Choice). c.text.text ∷ c.feedback.text ∷ []) (c ∷ cs)) ≡ length c.text.text + (length c.feedback.text + sum_by length (flat_map (λ (c : Choice). c.text.text ∷ c.feedback.text ∷ []) cs))
     whole = omega (arith, sum_by-cons length c.text.text (c.feedback.text ∷ flat_map (λ (c : Choice). c.text.text ∷ c.feedback.text ∷ []) cs), sum_by-cons length c.feedback.text (flat_map (λ (c : Choice). c.text.text ∷ c.feedback.text ∷ []) cs))
+
     go : (b : Bool) → sum_by length (flat_map (λ (c : Choice). c.text.text ∷ c.feedback.text ∷ []) cs) ≤ length (single_choices d cs) → sum_by length (flat_map (λ (c : Choice). c.text.text ∷ c.feedback.text ∷ []) (c ∷ cs)) ≤ length (cond b (equals_choice d c ++ flat_map (tilde_choice d) cs) (tilde_choice d c ++ single_choices d cs))
     go true rest = omega (arith, whole, length-append (equals_choice d c) (flat_map (tilde_choice d) cs), equals_choice-length d c, choices-length d cs)
     go false rest = omega (arith, whole, length-append (tilde_choice d c) (single_choices d cs), tilde_choice-length d c)
@@ -144,6 +145,7 @@ on_wrong-length d on_wrong on_right = go (is_nothing on_wrong.text) (is_nothing 
   where
     there : length on_wrong.text ≤ length (codes "#" ++ rich_text d on_wrong)
     there = within-right (codes "#") (rich_text d on_wrong) (length on_wrong.text) (rich_text-length d on_wrong)
+
     go : (b c : Bool) → is_nothing on_wrong.text ≡ b → length on_wrong.text ≤ length (cond (b && c) [] (codes "#" ++ rich_text d on_wrong))
     go true true e = omega (arith, eqb-true (length on_wrong.text) 0 e)
     go true false e = there

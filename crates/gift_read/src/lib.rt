@@ -16,3 +16,6 @@ mod written;
 
 pub use fault::GiftFault;
 pub use reading::read;
+
+#[cfg(test)]
+mod tests;
