@@ -4,3 +4,5 @@ pub mod PlaceLemmas
 pub mod WrittenNumbers
 pub mod TextLemmas
 pub mod PartLemmas
+pub mod LimitLemmas
+pub mod PieceLemmas

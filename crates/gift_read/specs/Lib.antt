@@ -10,3 +10,4 @@ pub mod Examples
 pub mod ExamplesKinds
 pub mod ExamplesFaults
 pub mod Room
+pub mod FirstFault

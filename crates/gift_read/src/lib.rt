@@ -3,6 +3,8 @@
 
 mod category;
 mod fault;
+mod faults;
+mod limits;
 mod parts;
 mod places;
 mod read;
