@@ -1,8 +1,9 @@
 pub mod CategoryLemmas
-pub mod LineCounts
-pub mod PlaceLemmas
-pub mod WrittenNumbers
-pub mod TextLemmas
-pub mod PartLemmas
 pub mod LimitLemmas
+pub mod LineCounts
+pub mod PartLemmas
 pub mod PieceLemmas
+pub mod PlaceLemmas
+pub mod TextLemmas
+pub mod ValueLemmas
+pub mod WrittenNumbers

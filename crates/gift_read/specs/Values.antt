@@ -1,11 +1,12 @@
 -- The question that a block spells, by cases on its kind. Each block has one; whether it may be read is told by its faults.
-use Rattle.std.specs.Prelude.{ℕ, ◌+◌, Bool, not, ◌&&◌, ◌||◌, ◌==◌, if◌then◌else◌, List, [], ◌∷◌, ◌++◌, length, map, take, drop, ℤ, pos, int_le, Option, Some, None, is_some, unwrap_or, option_and_then, option_map, codes}
+use Rattle.std.specs.Prelude.{ℕ, ◌+◌, Bool, ◌&&◌, ◌||◌, ◌==◌, nat_lt, if◌then◌else◌, List, [], ◌∷◌, ◌++◌, length, map, take, drop, ℤ, pos, int_le, Option, Some, None, is_some, unwrap_or, option_and_then, option_map, codes}
 use Rattle.std.specs.Char.{is_ascii_digit}
 use Rattle.std.specs.List.{list_all}
 use Rattle.qz_decimal.specs.Decimals.{decimal_in}
 use Rattle.qz_decimal.specs.Numbers.{one}
 use Rattle.qz_decimal.specs.Percent.{weight_in}
 use Rattle.gift_lex.specs.declared.block.Block.{Block}
+use Rattle.gift_lex.specs.declared.block.Piece.{Piece}
 use Rattle.qz_grading.specs.declared.question.Choice.{Choice}
 use Rattle.qz_grading.specs.declared.question.Extent.{Extent}
 use Rattle.qz_grading.specs.declared.question.Extent.TheVariants as extent
@@ -18,7 +19,6 @@ use Rattle.qz_grading.specs.declared.question.Pair.{Pair}
 use Rattle.qz_grading.specs.declared.question.Question.{Question}
 use Rattle.qz_grading.specs.declared.question.Rich.{Rich}
 use Rattle.qz_grading.specs.declared.question.Short.{Short}
-use Rattle.qz_grading.specs.Canonical.{is_nothing}
 use Rattle.gift_read.specs.declared.places.Landmark.TheVariants as landmark
 use Rattle.gift_read.specs.declared.parts.Sort.{Sort}
 use Rattle.gift_read.specs.declared.parts.Sort.TheVariants as sort
@@ -29,16 +29,16 @@ use Rattle.gift_read.specs.Parts.{Part, pieces_of, answer_marks, feedback_marks}
 
 -- ---- weights
 
--- a minus or none, and then digits and points
-abbrev pub without_minus : List ℕ → List ℕ
+-- behind a minus or none, digits and points
+abbrev pub without_minus : Marks → Marks
 without_minus [] = []
-without_minus (c ∷ cs) = if c == 45 then cs else c ∷ cs
+without_minus (m ∷ marks) = if character m == 45 then marks else m ∷ marks
 
-abbrev pub is_figure : ℕ → Bool
-is_figure c = is_ascii_digit c || c == 46
+abbrev pub is_figure : Piece → Bool
+is_figure m = is_ascii_digit (character m) || character m == 46
 
-abbrev pub is_figures : List ℕ → Bool
-is_figures cs = not (is_nothing (without_minus cs)) && list_all is_figure (without_minus cs)
+abbrev pub is_figures : Marks → Bool
+is_figures marks = nat_lt 0 (length (without_minus marks)) && list_all is_figure (without_minus marks)
 
 -- what stands between a percent sign at the front and the next
 abbrev pub percent_marks : Marks → Marks
@@ -47,7 +47,7 @@ percent_marks answer = before (is_at landmark.Percent) (drop 1 answer)
 -- whether an answer begins with figures between two percent signs
 abbrev pub is_weighed : Marks → Bool
 is_weighed answer =
-    is_at landmark.Percent answer && (occurs (is_at landmark.Percent) (drop 1 answer) && is_figures (map character (percent_marks answer)))
+    is_at landmark.Percent answer && (occurs (is_at landmark.Percent) (drop 1 answer) && is_figures (percent_marks answer))
 
 -- them, with the signs
 abbrev pub weight_marks : Marks → Marks
@@ -171,13 +171,15 @@ name_or (b ∷ name) text = b ∷ name
 abbrev pub question_with : List ℕ → Rich → Rich → Kind → Question
 question_with name text general k = record { name = name; text = text; general = general; kind = k; penalty = penalty_of k; hints = [] }
 
--- of the marks behind the name
-abbrev pub question_in : List ℕ → Marks → Question
-question_in name body =
-    let text = parts.question_text body in
-    let part = parts.answer_part body in
+-- with this text, of the marks behind the name
+abbrev pub question_about : List ℕ → Marks → Marks → Question
+question_about name text body =
     let whole = formatted format.Moodle text in
+    let part = parts.answer_part body in
     question_with (name_or name (shown text)) whole (rich_of whole.format (parts.general_marks part)) (kind_in whole.format (parts.answers part) (parts.sort_of body))
+
+abbrev pub question_in : List ℕ → Marks → Question
+question_in name body = question_about name (parts.question_text body) body
 
 abbrev pub question : Block → Question
 question b = question_in (text_of (parts.name_marks b.marks)) (parts.body b.marks)

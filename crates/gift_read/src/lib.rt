@@ -4,13 +4,16 @@
 mod category;
 mod fault;
 mod faults;
+mod kinds;
 mod limits;
 mod parts;
 mod places;
+mod question;
 mod read;
 mod room;
 mod texts;
 mod utf8;
+mod values;
 mod written;
 
 pub use fault::GiftFault;
