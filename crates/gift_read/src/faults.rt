@@ -66,9 +66,12 @@ fn piece_count(begins: Landmark, sign: char, answers: &[Piece]) -> usize
         return 0;
     };
     let mut count = 1;
-    while let (_, Some((_, behind))) = split_piece(begins, rest) {
+    loop {
+        let (_, next) = split_piece(begins, rest);
+        match next {
+            Some((_, after)) => rest = after,
+            None => return count,
+        }
         count += 1;
-        rest = behind;
     }
-    count
 }
