@@ -1,7 +1,7 @@
 -- What stands before and behind a place.
-use Rattle.std.proofs.Common.{◌≡◌, ℕ, zero, suc, ◌+◌, ◌-◌, ◌<◌, ◌≤◌, Bool, true, false, cond, not, ◌&&◌, ◌||◌, List, [], ◌∷◌, ◌++◌, length, take, drop, get_or, refl, sym, ap, ◌∙◌, arith, eqb}
+use Rattle.std.proofs.Common.{◌≡◌, ℕ, zero, suc, ◌-◌, ◌<◌, ◌≤◌, Bool, true, false, cond, not, ◌&&◌, ◌||◌, [], ◌∷◌, length, take, drop, get_or, refl, ap, arith, eqb}
 use Rattle.std.proofs.lemmas.Bool.{ne_eqb}
-use Rattle.std.proofs.lemmas.List.{take_rest, length-take-le}
+use Rattle.std.proofs.lemmas.List.{take_rest}
 use Rattle.std.proofs.lemmas.List.Folds.{list_all_at}
 use Rattle.gift_lex.specs.declared.block.Piece.{Piece}
 use Rattle.gift_read.specs.Places.{Marks, before, from, occurs, is_last, is_space, is_blank}
@@ -33,18 +33,6 @@ before-take here (m ∷ marks) = go (here (m ∷ marks)) (before-take here marks
     go true later = let e : length (m ∷ marks) - length (m ∷ marks) ≡ 0 = omega arith in rw e refl
     go false later =
         let e : length (m ∷ marks) - length (from here marks) ≡ suc (length marks - length (from here marks)) = omega (arith, from-length here marks) in rw e (ap (λ t. m ∷ t) later)
-
-pub before-from-length : (here : Marks → Bool) (marks : Marks) → length (before here marks) + length (from here marks) ≡ length marks
-before-from-length here marks =
-    rw (before-take here marks, length-take-le (length marks - length (from here marks)) marks (omega arith)) (omega (arith, from-length here marks))
-
--- a place leaves room for what stands there
-pub before-shorter : (here : Marks → Bool) (marks : Marks) → occurs here marks ≡ true → length (before here marks) < length marks
-before-shorter here marks there = go (length (from here marks)) refl (sym (occurs-from here marks) ∙ there)
-  where
-    go : (n : ℕ) → length (from here marks) ≡ n → not (eqb n 0) ≡ true → length (before here marks) < length marks
-    go zero e none = cc
-    go (suc n) e some = omega (arith, before-from-length here marks)
 
 -- where there is no place, nothing stands from the last on
 pub from_last-none : (here : Marks → Bool) (marks : Marks) → from (is_last here) marks ≡ cond (occurs here marks) (from (is_last here) marks) []

@@ -1,7 +1,6 @@
 -- Category lines, and the names on their paths.
 use Rattle.std.specs.Prelude.{ℕ, Bool, false, not, ◌&&◌, ◌||◌, ◌==◌, if◌then◌else◌, List, [], ◌∷◌, map, drop, codes}
 use Rattle.std.specs.List.{list_any, onto_first, flat_map}
-use Rattle.gift_lex.specs.declared.block.Block.{Block}
 use Rattle.gift_lex.specs.declared.block.Piece.{Piece}
 use Rattle.gift_lex.specs.declared.block.Piece.TheVariants.{Escaped, Sign, Plain}
 use Rattle.gift_lex.specs.Blocks.{backslash, letter_n, line_feed}

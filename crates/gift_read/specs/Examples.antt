@@ -1,18 +1,13 @@
 -- Worked texts: what each kind is read as.
-use Rattle.std.specs.Prelude.{◌≡◌, ℕ, true, false, List, [], ◌∷◌, ◌++◌, ℤ, pos, Result, Ok, Err, codes, refl}
+use Rattle.std.specs.Prelude.{◌≡◌, ℕ, List, [], ◌∷◌, ℤ, pos, Result, Ok, Err, codes, refl}
 use Rattle.qz_grading.specs.declared.question.Bank.{Bank}
 use Rattle.qz_grading.specs.declared.question.Choice.{Choice}
-use Rattle.qz_grading.specs.declared.question.Extent.{Extent}
-use Rattle.qz_grading.specs.declared.question.Extent.TheVariants as extent
 use Rattle.qz_grading.specs.declared.question.Format.TheVariants as format
 use Rattle.qz_grading.specs.declared.question.Item.{Item}
 use Rattle.qz_grading.specs.declared.question.Kind.{Kind}
 use Rattle.qz_grading.specs.declared.question.Kind.TheVariants as kind
-use Rattle.qz_grading.specs.declared.question.Num.{Num}
-use Rattle.qz_grading.specs.declared.question.Pair.{Pair}
 use Rattle.qz_grading.specs.declared.question.Question.{Question}
 use Rattle.qz_grading.specs.declared.question.Rich.{Rich}
-use Rattle.qz_grading.specs.declared.question.Short.{Short}
 use Rattle.qz_grading.specs.Canonical.{canonical}
 use Rattle.gift_read.specs.Computing.{gift}
 use Rattle.gift_read.specs.Gift.{Fault, reading}

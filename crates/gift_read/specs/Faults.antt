@@ -1,5 +1,5 @@
 -- Which rules a block breaks, and the line of its fault.
-use Rattle.std.specs.Prelude.{ℕ, Bool, true, false, not, ◌&&◌, ◌||◌, ◌==◌, nat_lt, if◌then◌else◌, List, [], ◌∷◌, ◌++◌, length, drop, Option, is_some, is_none}
+use Rattle.std.specs.Prelude.{ℕ, Bool, true, false, not, ◌&&◌, ◌||◌, ◌==◌, nat_lt, if◌then◌else◌, List, [], ◌∷◌, ◌++◌, length, drop, is_none}
 use Rattle.std.specs.List.{list_any}
 use Rattle.gift_lex.specs.declared.block.Block.{Block}
 use Rattle.qz_grading.specs.declared.question.Kind.{Kind}
@@ -10,10 +10,10 @@ use Rattle.qz_grading.specs.Questions as sound
 use Rattle.gift_read.specs.declared.places.Landmark.TheVariants as landmark
 use Rattle.gift_read.specs.declared.parts.Sort.{Sort}
 use Rattle.gift_read.specs.declared.parts.Sort.TheVariants as sort
-use Rattle.gift_read.specs.Places.{Marks, is_at, before, from, occurs, is_blank}
+use Rattle.gift_read.specs.Places.{Marks, is_at, before, occurs, is_blank}
 use Rattle.gift_read.specs.Texts.{text_of}
 use Rattle.gift_read.specs.Parts.{Part, is_named, in_name, name_marks, body, text_before, in_braces, answer_part, text_behind, answers, sort_of, pieces_of, answer_marks, feedback_marks}
-use Rattle.gift_read.specs.Values.{is_weighed, weight_told, unweighed, extent_of, others, question}
+use Rattle.gift_read.specs.Values.{is_weighed, weight_told, unweighed, extent_of, question}
 use Rattle.gift_read.specs.Category.{is_category, is_bad_path}
 
 -- a rule, where it is broken

@@ -4,7 +4,7 @@ use Rattle.gift_lex.specs.declared.block.Piece.TheVariants.{Plain}
 use Rattle.gift_read.specs.declared.places.Landmark.TheVariants as landmark
 use Rattle.gift_read.specs.declared.parts.Sort.{Sort}
 use Rattle.gift_read.specs.declared.parts.Sort.TheVariants as sort
-use Rattle.gift_read.specs.Places.{Marks, character, is_sign, tilde, equals, is_at, before, from, occurs, is_last, is_blank, unled, trimmed}
+use Rattle.gift_read.specs.Places.{Marks, character, tilde, equals, is_at, before, from, occurs, is_last, is_blank, unled, trimmed}
 use Rattle.gift_read.specs.Texts.{spells}
 
 -- ---- the name

@@ -1,5 +1,5 @@
 -- The question that a block spells, by cases on its kind. Each block has one; whether it may be read is told by its faults.
-use Rattle.std.specs.Prelude.{ℕ, ◌+◌, Bool, ◌&&◌, ◌||◌, ◌==◌, nat_lt, if◌then◌else◌, List, [], ◌∷◌, ◌++◌, length, map, take, drop, ℤ, pos, int_le, Option, Some, None, is_some, unwrap_or, option_and_then, option_map, codes}
+use Rattle.std.specs.Prelude.{ℕ, ◌+◌, Bool, ◌&&◌, ◌||◌, ◌==◌, nat_lt, if◌then◌else◌, List, [], ◌∷◌, ◌++◌, length, map, take, drop, ℤ, pos, int_le, Option, Some, None, unwrap_or, codes}
 use Rattle.std.specs.Char.{is_ascii_digit}
 use Rattle.std.specs.List.{list_all}
 use Rattle.qz_decimal.specs.Decimals.{decimal_in}

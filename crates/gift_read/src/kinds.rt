@@ -8,10 +8,10 @@ ghost use Rattle.gift_read.specs.Places.{is_at};
 ghost use Rattle.gift_read.specs.Parts.{pieces, pieces_of};
 ghost use Rattle.gift_read.specs.Values.{choice_of, pair_of, short_of, num_of, other_of, others, kind_in};
 
-use crate::parts::{Sort, behind, first_piece, split_answer, split_piece};
-use crate::places::{Landmark, occurs, split};
+use crate::parts::{Sort, first_piece, split_answer, split_piece};
+use crate::places::{Landmark, behind, occurs, split};
 use crate::texts::{rich_of, text_of};
-use crate::values::{extent_of, split_weight, weight_of};
+use crate::values::{extent_of, unweighed, weight_of};
 use gift_lex::Piece;
 use qz_decimal::Fraction;
 use qz_grading::{Choice, Extent, Format, Kind, Num, Pair, Rich, Short};
@@ -43,7 +43,7 @@ impl OfPiece for Choice {
         piece: &[Piece],
     ) -> Result<Choice, NoMemory> {
         let (answer, feedback) = split_answer(piece);
-        let (_, text) = split_weight(answer);
+        let text = unweighed(answer);
         Ok(Choice {
             weight: weight_of(alloc, sign, answer)?,
             text: rich_of(alloc, format, text)?,
@@ -82,7 +82,7 @@ impl OfPiece for Short {
         piece: &[Piece],
     ) -> Result<Short, NoMemory> {
         let (answer, feedback) = split_answer(piece);
-        let (_, text) = split_weight(answer);
+        let text = unweighed(answer);
         let text = text_of(alloc, text)?;
         Ok(Short {
             weight: weight_of(alloc, sign, answer)?,
@@ -102,7 +102,7 @@ impl OfPiece for Num {
         piece: &[Piece],
     ) -> Result<Num, NoMemory> {
         let (answer, feedback) = split_answer(piece);
-        let (_, text) = split_weight(answer);
+        let text = unweighed(answer);
         let extent = extent_of(alloc, text)?;
         Ok(Num {
             weight: weight_of(alloc, sign, answer)?,

@@ -1,10 +1,12 @@
 //! The parts of a block: the name, the question text, the answer part, the general feedback, and the pieces.
 
-ghost use Rattle.std.specs.Prelude.{◌≡◌, ℕ, ◌<◌, [], ◌∷◌, ◌++◌, length, drop, MatchOption, IfSome, IfOk};
+ghost use Rattle.std.specs.Prelude.{◌≡◌, ℕ, ◌<◌, [], ◌∷◌, ◌++◌, length, MatchOption, IfSome, IfOk};
 ghost use Rattle.gift_read.specs.Places.{is_at};
 ghost use Rattle.gift_read.specs.Parts.{name_marks, body, text_before, in_braces, answer_part, text_behind, gap, question_text, general_marks, answers, truth, sort_in, sort_of, cut, pieces, numbers, answer_marks, feedback_marks};
 
-use crate::places::{Landmark, character, is_blank, occurs, split, split_last, trimmed, unled};
+use crate::places::{
+    Landmark, behind, character, is_blank, occurs, split, split_last, trimmed, unled,
+};
 use crate::texts::spells;
 use gift_lex::Piece;
 use qz_text::NoMemory;
@@ -35,17 +37,6 @@ pub(crate) fn split_name(marks: &[Piece]) -> (&[Piece], &[Piece])
     };
     let (name, rest) = split(Landmark::Colons, in_name);
     (name, behind(rest, 2))
-}
-
-/// Marks behind the first so many.
-pub(crate) fn behind(marks: &[Piece], count: usize) -> &[Piece]
-    ensures { result.now ≡ drop count marks.now }
-{
-    if count <= marks.len() {
-        marks.split_at(count).1
-    } else {
-        marks.split_at(marks.len()).1
-    }
 }
 
 /// The text before the answer part of a body, and what follows the opening brace.

@@ -1,6 +1,6 @@
 //! Places in a block, and what stands before and behind them.
 
-ghost use Rattle.std.specs.Prelude.{◌≡◌, ◌≤◌, length};
+ghost use Rattle.std.specs.Prelude.{◌≡◌, ◌≤◌, length, take, drop};
 ghost use Rattle.std.specs.List.{list_any};
 ghost use Rattle.gift_read.specs.declared.places.Landmark.TheVariants.{Hashes};
 ghost use Rattle.gift_read.specs.Places.{character, is_space, is_sign, begins_choice, characters_at, others_at, is_at, before, from, occurs, is_last, is_blank, unled, trimmed};
@@ -148,6 +148,28 @@ pub(crate) fn split_last(landmark: Landmark, marks: &[Piece]) -> (&[Piece], &[Pi
 {
     let found = from_last(landmark, marks);
     (marks.split_at(marks.len() - found.len()).0, found)
+}
+
+/// The first marks, so many where there are.
+pub(crate) fn front(marks: &[Piece], count: usize) -> &[Piece]
+    ensures { result.now ≡ take count marks.now }
+{
+    if count <= marks.len() {
+        marks.split_at(count).0
+    } else {
+        marks
+    }
+}
+
+/// Marks behind the first so many.
+pub(crate) fn behind(marks: &[Piece], count: usize) -> &[Piece]
+    ensures { result.now ≡ drop count marks.now }
+{
+    if count <= marks.len() {
+        marks.split_at(count).1
+    } else {
+        marks.split_at(marks.len()).1
+    }
 }
 
 /// Whether there is a place of a landmark.

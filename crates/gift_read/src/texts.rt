@@ -1,11 +1,11 @@
 //! What marks spell.
 
-ghost use Rattle.std.specs.Prelude.{◌≡◌, ◌++◌, length, take, encode_utf8_all, IfOk};
+ghost use Rattle.std.specs.Prelude.{◌≡◌, ◌++◌, length, encode_utf8_all, IfOk};
 ghost use Rattle.qz_grading.specs.Canonical.{format_mark};
 ghost use Rattle.gift_read.specs.Places.{character, trimmed};
 ghost use Rattle.gift_read.specs.Texts.{spelled, text_of, spells, named_format, shown, formatted, rich_of, begins_blank, single_spaced, or_question, made_name};
 
-use crate::places::{character, characters_at, is_space, trimmed};
+use crate::places::{character, characters_at, front, is_space, trimmed};
 use gift_lex::Piece;
 use qz_grading::{Format, Rich};
 use qz_text::{NoMemory, Text};
@@ -113,18 +113,8 @@ const NAME_CHARACTERS: usize = 80;
 pub(crate) fn made_name(alloc: Global, marks: &[Piece]) -> Result<Text, NoMemory>
     ensures { IfOk result (λ made. made ≡ made_name marks.now) }
 {
-    let name = single_spaced(alloc, trimmed(name_characters(marks)))?;
+    let name = single_spaced(alloc, trimmed(front(marks, NAME_CHARACTERS)))?;
     or_question(alloc, name)
-}
-
-/// The characters that a name is made from.
-fn name_characters(marks: &[Piece]) -> &[Piece]
-    ensures { result.now ≡ take 80 marks.now }
-{
-    if marks.len() <= NAME_CHARACTERS {
-        return marks;
-    }
-    marks.split_at(NAME_CHARACTERS).0
 }
 
 /// A name, or a word where it is empty.

@@ -1,14 +1,10 @@
 //! The weights and numbers that marks tell.
 
-ghost use Rattle.std.specs.Prelude.{◌≡◌, is_some, IfOk, IfSome};
+ghost use Rattle.std.specs.Prelude.{◌≡◌, IfOk};
 ghost use Rattle.std.specs.List.{list_all};
-ghost use Rattle.qz_decimal.specs.Decimals.{decimal_in};
-ghost use Rattle.qz_decimal.specs.Percent.{weight_in};
-ghost use Rattle.gift_read.specs.Texts.{spelled};
-ghost use Rattle.gift_read.specs.Values.{without_minus, is_figure, is_figures, is_weighed, weight_marks, unweighed, own_weight, weight_of, number_of, near, between, extent_of};
+ghost use Rattle.gift_read.specs.Values.{without_minus, is_figure, is_figures, percent_marks, is_weighed, unweighed, weight_told, own_weight, weight_of, number_of, near, between, extent_of};
 
-use crate::parts::behind;
-use crate::places::{Landmark, character, occurs, split, trimmed};
+use crate::places::{Landmark, behind, character, front, occurs, split, trimmed};
 use crate::texts::{spelled, spells};
 use gift_lex::Piece;
 use qz_decimal::{Decimal, Fraction};
@@ -21,29 +17,31 @@ const ONE: i64 = 10_000_000;
 
 // ---- weights
 
-/// The marks of the weight that an answer begins with, if any, and what follows them.
-pub(crate) fn split_weight(answer: &[Piece]) -> (Option<&[Piece]>, &[Piece])
-    ensures weighed { is_some result.0 ≡ is_weighed answer.now }
-    ensures marks { IfSome result.0 (λ weight. weight.now ≡ weight_marks answer.now) }
-    ensures rest { result.1.now ≡ unweighed answer.now }
-{
-    if !is_weighed(answer) {
-        return (None, answer);
-    }
-    let (percent, _) = split(Landmark::Percent, behind(answer, 1));
-    let (weight, rest) = answer.split_at(percent.len() + 2);
-    (Some(weight), rest)
-}
-
 /// Whether an answer begins with figures between two percent signs.
-fn is_weighed(answer: &[Piece]) -> bool
+pub(crate) fn is_weighed(answer: &[Piece]) -> bool
     ensures { result ≡ is_weighed answer.now }
 {
-    let inside = behind(answer, 1);
-    if !Landmark::Percent.is_at(answer) || !occurs(Landmark::Percent, inside) {
+    if !Landmark::Percent.is_at(answer) || !occurs(Landmark::Percent, behind(answer, 1)) {
         return false;
     }
-    is_figures(split(Landmark::Percent, inside).0)
+    is_figures(percent_marks(answer))
+}
+
+/// What stands between a percent sign at the front and the next.
+fn percent_marks(answer: &[Piece]) -> &[Piece]
+    ensures { result.now ≡ percent_marks answer.now }
+{
+    split(Landmark::Percent, behind(answer, 1)).0
+}
+
+/// An answer without the figures and percent signs that it begins with, if any.
+pub(crate) fn unweighed(answer: &[Piece]) -> &[Piece]
+    ensures { result.now ≡ unweighed answer.now }
+{
+    if !is_weighed(answer) {
+        return answer;
+    }
+    behind(answer, percent_marks(answer).len() + 2)
 }
 
 /// Whether marks are digits and points, of which there is one or more, behind a minus or none.
@@ -75,11 +73,11 @@ fn is_figure(mark: Piece) -> bool
     matches!(character(mark), '0'..='9' | '.')
 }
 
-/// The weight that marks spell, with their percent signs, if any.
-pub(crate) fn weight_told(alloc: Global, weight: &[Piece]) -> Result<Option<Fraction>, NoMemory>
-    ensures { IfOk result (λ told. told ≡ weight_in (spelled weight.now)) }
+/// The weight that an answer begins with, if any.
+pub(crate) fn weight_told(alloc: Global, answer: &[Piece]) -> Result<Option<Fraction>, NoMemory>
+    ensures { IfOk result (λ told. told ≡ weight_told answer.now) }
 {
-    let text = spelled(alloc, weight)?;
+    let text = spelled(alloc, front(answer, percent_marks(answer).len() + 2))?;
     Ok(Fraction::of_percent(text.as_bytes()))
 }
 
@@ -98,10 +96,10 @@ fn own_weight(sign: char) -> Fraction
 pub(crate) fn weight_of(alloc: Global, sign: char, answer: &[Piece]) -> Result<Fraction, NoMemory>
     ensures { IfOk result (λ made. made ≡ weight_of sign answer.now) }
 {
-    let (Some(weight), _) = split_weight(answer) else {
+    if !is_weighed(answer) {
         return Ok(own_weight(sign));
-    };
-    let told = weight_told(alloc, weight)?;
+    }
+    let told = weight_told(alloc, answer)?;
     Ok(told.unwrap_or(Fraction(0)))
 }
 

@@ -1,7 +1,6 @@
-use Rattle.std.proofs.Common.{◌≡◌, ◌∷◌, sym, ap, ◌∙◌}
 use Rattle.gift_lex.specs.declared.block.Piece.TheVariants.{Escaped}
 use Rattle.gift_read.specs.Places.{is_at}
-use Rattle.gift_read.proofs.PartLemmas.{later, cut-first, later-none, later-some, behind_from-shorter}
+use Rattle.gift_read.proofs.PartLemmas.{cut-first, later-none, later-some, behind_from-shorter}
 use Rattle.gift_read.proofs.parts.split_piece.Goals as goal
 
 pub returns-in-empty-clause-pieces : goal.returns-in-empty-clause-pieces
