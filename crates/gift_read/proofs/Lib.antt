@@ -7,3 +7,4 @@ pub mod PlaceLemmas
 pub mod TextLemmas
 pub mod ValueLemmas
 pub mod WrittenNumbers
+pub mod FaultLemmas

@@ -5,8 +5,7 @@ ghost use Rattle.gift_lex.specs.Blocks.{line_feed, letter_n};
 ghost use Rattle.std.specs.List.{list_any};
 ghost use Rattle.gift_read.specs.Category.{is_indented, line_marks, is_category, path_marks, is_slash, names, path, is_bad_name};
 
-use crate::parts::behind;
-use crate::places::{character, characters_at, is_space};
+use crate::places::{behind, character, characters_at, is_space};
 use crate::texts::text_of;
 use gift_lex::Piece;
 use qz_text::{Listed, NoMemory, Text};

@@ -3,6 +3,7 @@
 ghost use Rattle.std.specs.Prelude.{◌≡◌, ◌+◌, ◌≤◌, false, Some, length, nat_le, IfSome, IfNone};
 ghost use Rattle.qz_grading.specs.declared.question.Format.{Format};
 ghost use Rattle.qz_grading.specs.Questions as sound;
+ghost use Rattle.gift_read.specs.declared.parts.Sort.TheVariants as sort;
 ghost use Rattle.gift_read.specs.Category.{is_category};
 ghost use Rattle.gift_read.specs.Faults.{is_nameless, has_stray_brace, is_unclosed, is_long_name, broken, line_of};
 ghost use Rattle.gift_read.specs.FirstFault.{first_of, IsWhole};
@@ -11,8 +12,10 @@ ghost use Rattle.gift_read.specs.Places.{is_at};
 ghost use Rattle.gift_read.specs.Values.{kind_in};
 
 use crate::limits::{MOST_PARTS, is_long_text};
-use crate::parts::{Sort, behind, first_piece, numbers, sort_of, split_braces, split_general, split_name, split_part, split_piece};
-use crate::places::{Landmark, occurs, unled};
+use crate::parts::{
+    Sort, first_piece, sort_of, split_braces, split_general, split_name, split_part, split_piece,
+};
+use crate::places::{Landmark, behind, occurs, split, unled};
 use gift_lex::{Block, Piece};
 
 // ---- names and braces
@@ -60,7 +63,8 @@ pub(crate) fn line_of(block: &Block, rule: u8) -> u32
 
 /// How many pieces stand among answers.
 fn piece_count(begins: Landmark, sign: char, answers: &[Piece]) -> usize
-    ensures { result ≡ length (pieces (is_at begins) sign answers.now) }
+    ensures value { result ≡ length (pieces (is_at begins) sign answers.now) }
+    ensures few { result ≤ length answers.now + 1 }
 {
     let Some((_, mut rest)) = first_piece(begins, sign, answers) else {
         return 0;
@@ -74,4 +78,49 @@ fn piece_count(begins: Landmark, sign: char, answers: &[Piece]) -> usize
         }
         count += 1;
     }
+}
+
+/// How many choices, pairs or answers a question has whose answers are of this sort.
+fn part_count(sort: Sort, answers: &[Piece]) -> usize
+    ensures { (format : Format) → result ≡ sound.parts (kind_in format answers.now sort) }
+{
+    match sort {
+        Sort::One | Sort::Several => piece_count(Landmark::Choice, '~', answers),
+        Sort::Matching | Sort::ShortAnswer => piece_count(Landmark::Equals, '=', answers),
+        Sort::Numerical => number_count(answers),
+        _ => 0,
+    }
+}
+
+/// How many answers a numerical question has, with that for every other number.
+fn number_count(answers: &[Piece]) -> usize
+    ensures { (format : Format) → result ≡ sound.parts (kind_in format answers.now sort.Numerical) }
+{
+    let (numbers, others) = split(Landmark::Others, behind(answers, 1));
+    let count = piece_count(Landmark::Equals, '=', numbers);
+    if others.is_empty() { count } else { count + 1 }
+}
+
+// ---- before anything is built
+
+/// The first rule that a block breaks, as far as it can be told before its question is built: a name or a brace without its
+/// end, a name that is too long where the braces are at fault, or too many pieces.
+pub(crate) fn early_fault(block: &Block) -> Option<u8>
+    requires { is_category block.now.marks ≡ false }
+    ensures told { IfSome result (λ rule. first_of (broken block.now) ≡ Some rule) }
+    ensures whole { IfNone result (IsWhole block.now) }
+{
+    let marks = block.marks.as_slice();
+    if is_nameless(marks) {
+        return Some(4);
+    }
+    let (name, body) = split_name(marks);
+    if has_stray_brace(body) || is_unclosed(body) {
+        return Some(if is_long_text(name) { 2 } else { 5 });
+    }
+    let (answers, _) = split_general(split_part(body).0);
+    if part_count(sort_of(body), answers) > MOST_PARTS {
+        return Some(2);
+    }
+    None
 }

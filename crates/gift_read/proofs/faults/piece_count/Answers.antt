@@ -16,3 +16,8 @@ loop-after-preserved c =
     let after = c.in-Some-next.after.now in
     let step = (rw c.in-Some-next.is at c.split_piece.ensures.pieces) 0 in
     omega (arith, ap length step, length-cut (is_at c.args.begins) 0 c.in-Some-next.field-0-0 after, c.loop-after.invariant)
+
+pub returns-in-None-clause-few : goal.returns-in-None-clause-few
+returns-in-None-clause-few c =
+    let step = (rw c.in-None.is at c.split_piece.ensures.pieces) 0 in
+    omega (arith, ap length step, c.loop-after.invariant, length-pieces-le (is_at c.args.begins) c.args.sign c.args.answers.now)
