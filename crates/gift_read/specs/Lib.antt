@@ -11,3 +11,4 @@ pub mod ExamplesKinds
 pub mod ExamplesFaults
 pub mod Room
 pub mod FirstFault
+pub mod Flaws

@@ -4,6 +4,7 @@
 mod category;
 mod fault;
 mod faults;
+mod faults_of_values;
 mod kinds;
 mod limits;
 mod parts;
