@@ -37,7 +37,8 @@ pub(crate) fn is_category(marks: &[Piece]) -> bool
     ensures { result ≡ is_category marks.now }
 {
     let line = line_marks(marks);
-    characters_at(b"$CATEGORY", line) && matches!(line, [_, _, _, _, _, _, _, _, _, Piece::Sign(':'), ..])
+    characters_at(b"$CATEGORY", line)
+        && matches!(line, [_, _, _, _, _, _, _, _, _, Piece::Sign(':'), ..])
 }
 
 /// The character that begins an escape pair.

@@ -1,6 +1,6 @@
 //! Which rule a block breaks first.
 
-ghost use Rattle.std.specs.Prelude.{◌≡◌, ◌+◌, ◌≤◌, false, Some, length, nat_le, IfSome, IfNone};
+ghost use Rattle.std.specs.Prelude.{◌≡◌, ◌+◌, ◌≤◌, false, Some, length, nat_le, IfOk, IfSome, IfNone};
 ghost use Rattle.qz_grading.specs.declared.question.Format.{Format};
 ghost use Rattle.qz_grading.specs.Questions as sound;
 ghost use Rattle.gift_read.specs.declared.parts.Sort.TheVariants as sort;
@@ -9,14 +9,19 @@ ghost use Rattle.gift_read.specs.Faults.{is_nameless, has_stray_brace, is_unclos
 ghost use Rattle.gift_read.specs.FirstFault.{first_of, IsWhole};
 ghost use Rattle.gift_read.specs.Parts.{pieces, cut};
 ghost use Rattle.gift_read.specs.Places.{is_at};
-ghost use Rattle.gift_read.specs.Values.{kind_in};
+ghost use Rattle.gift_read.specs.Values.{kind_in, question};
 
+use crate::faults_of_values::fault_of_values;
 use crate::limits::{MOST_PARTS, is_long_text};
 use crate::parts::{
     Sort, first_piece, sort_of, split_braces, split_general, split_name, split_part, split_piece,
 };
 use crate::places::{Landmark, behind, occurs, split, unled};
+use crate::room::is_at_most;
 use gift_lex::{Block, Piece};
+use qz_grading::Question;
+use qz_text::NoMemory;
+use std::alloc::Global;
 
 // ---- names and braces
 
@@ -123,4 +128,32 @@ pub(crate) fn early_fault(block: &Block) -> Option<u8>
         return Some(2);
     }
     None
+}
+
+// ---- with the question built
+
+/// The most bytes of a question's canonical text and its hints.
+const MOST_TOGETHER: usize = 262_144;
+
+/// The first rule that a block breaks whose name and braces are whole, told by the question that it spells.
+pub(crate) fn late_fault(
+    alloc: Global,
+    block: &Block,
+    built: &Question,
+) -> Result<Option<u8>, NoMemory>
+    requires asked { is_category block.now.marks ≡ false }
+    requires whole { IsWhole block.now }
+    requires spelled { built.now ≡ question block.now }
+    ensures { IfOk result (λ rule. rule ≡ first_of (broken block.now)) }
+{
+    let (_, body) = split_name(block.marks.as_slice());
+    let (answers, _) = split_general(split_part(body).0);
+    if let Some(rule) = fault_of_values(alloc, built, sort_of(body), answers)? {
+        return Ok(Some(rule));
+    }
+    if is_at_most(built, MOST_TOGETHER) {
+        Ok(None)
+    } else {
+        Ok(Some(2))
+    }
 }

@@ -10,7 +10,7 @@ mod limits;
 mod parts;
 mod places;
 mod question;
-mod read;
+mod reading;
 mod room;
 mod texts;
 mod utf8;
@@ -18,3 +18,4 @@ mod values;
 mod written;
 
 pub use fault::GiftFault;
+pub use reading::read;
