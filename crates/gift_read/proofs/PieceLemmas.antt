@@ -33,6 +33,7 @@ length-cut-le begins sign (m ∷ marks) = go (begins (m ∷ marks)) (length-cut-
     onto : (parts : List Part) → length (onto_part (m ∷ []) parts) ≡ length parts
     onto [] = refl
     onto (p ∷ parts) = refl
+
     go : (b : Bool) → length (cut begins sign marks) ≤ length marks + 1 → length (cut begins (character m) marks) ≤ length marks + 1
         → length (cond b ((sign, []) ∷ cut begins (character m) marks) (onto_part (m ∷ []) (cut begins sign marks))) ≤ length (m ∷ marks) + 1
     go true same next = omega arith

@@ -1,5 +1,5 @@
 -- The first rule that a block breaks, in the order in which it is looked for.
-use Rattle.std.specs.Prelude.{◌≡◌, ℕ, Bool, List, [], ◌∷◌, Option, Some, None}
+use Rattle.std.specs.Prelude.{◌≡◌, ℕ, List, [], ◌∷◌, Option, Some, None}
 use Rattle.gift_lex.specs.declared.block.Block.{Block}
 use Rattle.gift_read.specs.Parts.{body, answer_part, answers, sort_of}
 use Rattle.gift_read.specs.Values.{question}

@@ -5,9 +5,9 @@ ghost use Rattle.qz_grading.specs.declared.question.Format.{Format};
 ghost use Rattle.qz_grading.specs.Questions as sound;
 ghost use Rattle.gift_read.specs.declared.parts.Sort.TheVariants as sort;
 ghost use Rattle.gift_read.specs.Category.{is_category};
-ghost use Rattle.gift_read.specs.Faults.{is_nameless, has_stray_brace, is_unclosed, is_long_name, broken, line_of};
+ghost use Rattle.gift_read.specs.Faults.{is_nameless, has_stray_brace, is_unclosed, broken_values, broken, line_of};
 ghost use Rattle.gift_read.specs.FirstFault.{first_of, IsWhole};
-ghost use Rattle.gift_read.specs.Parts.{pieces, cut};
+ghost use Rattle.gift_read.specs.Parts.{pieces, body, answer_part, answers, sort_of};
 ghost use Rattle.gift_read.specs.Places.{is_at};
 ghost use Rattle.gift_read.specs.Values.{kind_in, question};
 
@@ -135,6 +135,16 @@ pub(crate) fn early_fault(block: &Block) -> Option<u8>
 /// The most bytes of a question's canonical text and its hints.
 const MOST_TOGETHER: usize = 262_144;
 
+/// The first of the rules 2 and 6 to 11 that a question breaks, read from the answers of a block.
+fn value_fault(alloc: Global, block: &Block, built: &Question) -> Result<Option<u8>, NoMemory>
+    ensures { IfOk result (λ rule. rule
+        ≡ first_of (broken_values built.now (sort_of (body block.now.marks)) (answers (answer_part (body block.now.marks))))) }
+{
+    let (_, body) = split_name(block.marks.as_slice());
+    let (answers, _) = split_general(split_part(body).0);
+    fault_of_values(alloc, built, sort_of(body), answers)
+}
+
 /// The first rule that a block breaks whose name and braces are whole, told by the question that it spells.
 pub(crate) fn late_fault(
     alloc: Global,
@@ -146,14 +156,9 @@ pub(crate) fn late_fault(
     requires spelled { built.now ≡ question block.now }
     ensures { IfOk result (λ rule. rule ≡ first_of (broken block.now)) }
 {
-    let (_, body) = split_name(block.marks.as_slice());
-    let (answers, _) = split_general(split_part(body).0);
-    if let Some(rule) = fault_of_values(alloc, built, sort_of(body), answers)? {
-        return Ok(Some(rule));
-    }
-    if is_at_most(built, MOST_TOGETHER) {
-        Ok(None)
-    } else {
-        Ok(Some(2))
+    match value_fault(alloc, block, built)? {
+        Some(rule) => Ok(Some(rule)),
+        None if is_at_most(built, MOST_TOGETHER) => Ok(None),
+        None => Ok(Some(2)),
     }
 }

@@ -71,17 +71,18 @@ fn is_in_some(
 }
 
 /// Whether a flaw is in one of the pieces of answers.
-fn is_in_answers(
-    alloc: Global,
-    flaw: Flaw,
-    sort: Sort,
-    answers: &[Piece],
-) -> Result<bool, NoMemory>
+fn is_in_answers(alloc: Global, flaw: Flaw, sort: Sort, answers: &[Piece]) -> Result<bool, NoMemory>
     ensures { IfOk result (λ is. is ≡ list_any (has_flaw flaw) (pieces_of sort answers.now)) }
 {
     match sort {
         Sort::One | Sort::Several => is_in_some(alloc, flaw, Landmark::Choice, '~', answers),
-        Sort::Matching | Sort::ShortAnswer => is_in_some(alloc, flaw, Landmark::Equals, '=', answers),
+        Sort::Matching | Sort::ShortAnswer => is_in_some(
+            alloc,
+            flaw,
+            Landmark::Equals,
+            '=',
+            answers,
+        ),
         Sort::Numerical => {
             let (numbers, _) = split(Landmark::Others, behind(answers, 1));
             is_in_some(alloc, flaw, Landmark::Equals, '=', numbers)
@@ -164,7 +165,10 @@ fn has_stray_feedback(sort: Sort, answers: &[Piece]) -> bool
             let (_, on_right) = split_answer(on_wrong);
             occurs(Landmark::Hash, on_right)
         }
-        Sort::Numerical => occurs(Landmark::Tilde, split(Landmark::Others, behind(answers, 1)).0),
+        Sort::Numerical => occurs(
+            Landmark::Tilde,
+            split(Landmark::Others, behind(answers, 1)).0,
+        ),
         _ => false,
     }
 }

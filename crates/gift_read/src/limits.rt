@@ -57,9 +57,7 @@ fn are_short(one: &Text, other: &Text) -> bool
 fn are_short_choices(choices: &[Choice]) -> bool
     ensures { result ≡ list_all (λ (c : Choice). are_no_longer most_bytes (c.text.text ∷ c.feedback.text ∷ [])) choices.now }
 {
-    choices
-        .iter()
-        .all(|choice| are_short(&choice.text.text, &choice.feedback.text))
+    choices.iter().all(|choice| are_short(&choice.text.text, &choice.feedback.text))
 }
 
 fn are_short_pairs(pairs: &[Pair]) -> bool
@@ -73,9 +71,7 @@ fn are_short_pairs(pairs: &[Pair]) -> bool
 fn are_short_answers(answers: &[Short]) -> bool
     ensures { result ≡ list_all (λ (a : Short). are_no_longer most_bytes (a.pattern ∷ a.feedback.text ∷ [])) answers.now }
 {
-    answers
-        .iter()
-        .all(|answer| are_short(answer.pattern.text(), &answer.feedback.text))
+    answers.iter().all(|answer| are_short(answer.pattern.text(), &answer.feedback.text))
 }
 
 fn are_short_nums(answers: &[Num]) -> bool
@@ -92,7 +88,9 @@ fn has_short_texts(kind: &Kind) -> bool
     match kind {
         Kind::Description | Kind::Essay => true,
         Kind::TrueFalse {
-            on_wrong, on_right, ..
+            on_wrong,
+            on_right,
+            ..
         } => are_short(&on_wrong.text, &on_right.text),
         Kind::One(choices) | Kind::Several(choices) => are_short_choices(choices.as_slice()),
         Kind::Matching(pairs) => are_short_pairs(pairs.as_slice()),

@@ -1,4 +1,4 @@
-use Rattle.std.proofs.Common.{◌≡◌, ◌++◌, length, map, ap, ◌∙◌, arith, length-append}
+use Rattle.std.proofs.Common.{◌≡◌, length, map, ap, ◌∙◌, arith, length-append}
 use Rattle.std.proofs.lemmas.List.{length-map}
 use Rattle.gift_read.specs.declared.places.Landmark.TheVariants.{Equals, Others}
 use Rattle.gift_read.specs.Parts.{pieces, numbers}

@@ -1,4 +1,4 @@
-use Rattle.std.proofs.Common.{◌≡◌, ◌+◌, length, ap, arith}
+use Rattle.std.proofs.Common.{length, ap, arith}
 use Rattle.gift_read.specs.Places.{is_at}
 use Rattle.gift_read.proofs.PieceLemmas.{length-cut, length-pieces-le}
 use Rattle.gift_read.proofs.faults.piece_count.Goals as goal
