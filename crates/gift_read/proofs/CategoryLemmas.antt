@@ -1,5 +1,5 @@
 -- The names on a path, from the left.
-use Rattle.std.proofs.Common.{◌≡◌, Bool, true, false, cond, List, [], ◌∷◌, ◌++◌, map, ◌&&◌, refl}
+use Rattle.std.proofs.Common.{◌≡◌, Bool, true, false, cond, List, [], ◌∷◌, ◌++◌, ◌&&◌, refl}
 use Rattle.std.specs.List.{onto_first}
 use Rattle.gift_lex.specs.declared.block.Piece.{Piece}
 use Rattle.gift_read.specs.Places.{Marks}

@@ -4,9 +4,11 @@ pub mod Parts
 pub mod Values
 pub mod Category
 pub mod Faults
+pub mod FirstFault
+pub mod Flaws
+pub mod Room
 pub mod Gift
 pub mod Computing
 pub mod Examples
 pub mod ExamplesKinds
 pub mod ExamplesFaults
-pub mod Room

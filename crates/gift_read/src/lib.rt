@@ -3,7 +3,10 @@
 
 mod category;
 mod fault;
+mod faults;
+mod faults_of_values;
 mod kinds;
+mod limits;
 mod parts;
 mod places;
 mod question;

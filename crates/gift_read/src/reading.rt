@@ -1,11 +1,19 @@
 //! The reading of a text.
 
-ghost use Rattle.std.specs.Prelude.{◌≡◌, [], ◌∷◌, codes, IfOk, OnOk};
+ghost use Rattle.std.specs.Prelude.{◌≡◌, true, [], ◌∷◌, All, map, codes, IfOk, OnOk};
 ghost use Rattle.gift_lex.specs.Blocks.{blocks_of};
 ghost use Rattle.qz_grading.specs.declared.question.Bank.{Bank};
+ghost use Rattle.qz_grading.specs.declared.question.Item.{Item};
+ghost use Rattle.qz_grading.specs.Questions.{IsQuestion};
+ghost use Rattle.gift_read.specs.declared.fault.GiftFault.TheVariants.{Malformed};
+ghost use Rattle.gift_read.specs.Category.{is_category};
+ghost use Rattle.gift_read.specs.Faults.{line_of};
 ghost use Rattle.gift_read.specs.Gift.{Tells, Answers, Fault, told, taken, items_of, reading};
 
+use crate::category::{is_bad_path, is_category, path};
 use crate::fault::GiftFault;
+use crate::faults::{early_fault, late_fault, line_of};
+use crate::question::question;
 use crate::utf8::as_text;
 use gift_lex::{Block, Blocks};
 use qz_grading::{Bank, Item, Question};
@@ -18,8 +26,11 @@ use std::alloc::Global;
 /// `Malformed` is the first fault: the line of the first block at fault (or of the first byte that isn't UTF-8, which comes
 /// before all blocks), and the least rule that it breaks. Only want of memory may stand in its place, or in that of a bank; a
 /// text with more lines than a `u32` counts is taken so. Nothing is left behind by either.
+///
+/// Each question of a bank keeps what every question keeps: the limits of its texts and pieces, and the ranges of its numbers.
 pub fn read(alloc: Global, text: &[u8]) -> Result<Bank, GiftFault>
-    ensures { Answers result (reading text.now) }
+    ensures reading { Answers result (reading text.now) }
+    ensures questions { IfOk result (λ bank. All IsQuestion (map (λ (i : Item). i.question) bank.items)) }
 {
     match as_text(text) {
         Ok(text) => Ok(Bank {
@@ -96,8 +107,40 @@ pub(crate) enum Entry {
 }
 
 /// What a block is read as, or the line and rule of its fault.
-fn told(_alloc: Global, _block: &Block) -> Result<Entry, GiftFault>
-    ensures { Answers result (told _block.now) }
+fn told(alloc: Global, block: &Block) -> Result<Entry, GiftFault>
+    ensures { Answers result (told block.now) }
 {
-    Err(GiftFault::Memory)
+    if is_category(block.marks.as_slice()) {
+        return category(alloc, block);
+    }
+    if let Some(rule) = early_fault(block) {
+        return Err(malformed(block, rule));
+    }
+    let made = question(alloc, block)?;
+    if let Some(rule) = late_fault(alloc, block, &made)? {
+        return Err(malformed(block, rule));
+    }
+    Ok(Entry::Asked(made))
+}
+
+/// The names on the path of a category line.
+fn category(alloc: Global, block: &Block) -> Result<Entry, GiftFault>
+    requires { is_category block.now.marks ≡ true }
+    ensures { Answers result (told block.now) }
+{
+    let names = path(alloc, block.marks.as_slice())?;
+    if is_bad_path(names.as_slice()) {
+        return Err(malformed(block, 3));
+    }
+    Ok(Entry::Category(names))
+}
+
+/// The fault of a block that breaks a rule first.
+fn malformed(block: &Block, rule: u8) -> GiftFault
+    ensures { result ≡ Malformed (line_of block.now rule) rule }
+{
+    GiftFault::Malformed {
+        line: line_of(block, rule),
+        rule,
+    }
 }
