@@ -1,5 +1,5 @@
 -- A block without a broken rule spells a question.
-use Rattle.std.proofs.Common.{◌≡◌, ℕ, zero, suc, ◌+◌, ◌<◌, ◌≤◌, Bool, true, false, cond, not, ◌&&◌, ◌||◌, ltb, List, [], ◌∷◌, ◌++◌, length, drop, map, ℤ, pos, Option, Some, None, refl, sym, ap, ◌∙◌, arith}
+use Rattle.std.proofs.Common.{◌≡◌, ℕ, zero, suc, ◌+◌, ◌<◌, ◌≤◌, Bool, true, false, cond, not, ◌&&◌, ◌||◌, ltb, List, [], ◌∷◌, ◌++◌, length, drop, map, ℤ, pos, Option, Some, None, refl, sym, ap, subst, ◌∙◌, arith}
 use Rattle.std.specs.Prelude.{IsTrue, sum_by, nat_lt, All, Result, Ok, Err, codes}
 use Rattle.std.specs.Str.{is_utf8}
 use Rattle.std.proofs.lemmas.Bool.{or_parts, not-false, ltb-false}
@@ -174,14 +174,6 @@ items_of-kept : (names : List (List ℕ)) (blocks : List Block) → KeptIfRead (
 items_of-kept names [] = λ k d lt. absurd (omega arith)
 items_of-kept names (b ∷ blocks) = followed-kept names (told b) (λ n. items_of n blocks) (told-kept b) (λ n. items_of-kept n blocks)
 
--- the questions of a text's reading
-pub reading-kept : (text : List ℕ) (bank : Bank) → reading text ≡ Ok bank → All IsQuestion (map (λ (i : Item). i.question) bank.items)
-reading-kept text bank e = go (is_utf8 text) e
-  where
-    held : (items : Result (List Item) Fault) → KeptIfRead items → in_bank items ≡ Ok bank → All IsQuestion (questions bank.items)
-    held (Ok items) kept e = let same : record { items = items } ≡ bank = cc in rw (← same) kept
-    held (Err fault) kept e = cc
-
-    go : (b : Bool) → reading_of b text ≡ Ok bank → All IsQuestion (questions bank.items)
-    go true e = held (items_of (codes "Default" ∷ []) (blocks_of text)) (items_of-kept (codes "Default" ∷ []) (blocks_of text)) e
-    go false e = cc
+-- the questions that are read keep what every question keeps
+pub items-kept : (names : List (List ℕ)) (blocks : List Block) (items : List Item) → items_of names blocks ≡ Ok items → All IsQuestion (map (λ (i : Item). i.question) items)
+items-kept names blocks items e = subst KeptIfRead e (items_of-kept names blocks)
