@@ -19,3 +19,6 @@ mod written;
 
 pub use fault::GiftFault;
 pub use reading::read;
+
+#[cfg(test)]
+mod tests_faults;
