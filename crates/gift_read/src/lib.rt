@@ -22,3 +22,5 @@ pub use reading::read;
 
 #[cfg(test)]
 mod tests;
+#[cfg(test)]
+mod tests_faults;
