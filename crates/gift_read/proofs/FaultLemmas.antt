@@ -1,27 +1,41 @@
 -- Which rule is the first that a block breaks.
-use Rattle.std.proofs.Common.{◌≡◌, ℕ, ◌<◌, ◌≤◌, Bool, true, false, ◌||◌, not, List, [], ◌∷◌, Some, None, Err, refl, sym, ap, ◌∙◌}
+use Rattle.std.proofs.Common.{◌≡◌, ℕ, ◌<◌, ◌≤◌, Bool, true, false, ◌||◌, not, List, [], ◌∷◌, Some, None, Err, refl, sym, ap, ◌∙◌, arith}
 use Rattle.std.proofs.lemmas.Bool.{lt-ltb, le-ltb}
 use Rattle.gift_lex.specs.declared.block.Block.{Block}
+use Rattle.qz_grading.specs.declared.question.Format.{Format}
+use Rattle.qz_grading.specs.declared.question.Format.TheVariants.{Moodle}
 use Rattle.qz_grading.specs.Canonical.{canonical_size}
 use Rattle.qz_grading.specs.Questions.{texts, are_no_longer, parts}
 use Rattle.gift_read.specs.Category.{is_category}
 use Rattle.gift_read.specs.FirstFault.{first_of, IsWhole}
 use Rattle.gift_read.specs.Faults.{is_nameless, has_stray_brace, is_unclosed, when, most_bytes, most_parts, most_together, is_long, broken_values, is_large, or_large, broken, line_of}
 use Rattle.gift_read.specs.Gift.{told, told_by}
-use Rattle.gift_read.specs.Parts.{body, answer_part, answers, sort_of}
-use Rattle.gift_read.specs.Values.{question}
+use Rattle.gift_read.specs.Parts.{body, question_text, answer_part, answers, sort_of}
+use Rattle.gift_read.specs.Texts.{formatted}
+use Rattle.gift_read.specs.Values.{kind_in, question}
 
 or-true : (b : Bool) → (b || true) ≡ true
 or-true true = refl
 or-true false = refl
 
+-- a count of pieces that is the same in every format
+parts-question : (b : Block) (count : ℕ) → ((format : Format) → count ≡ parts (kind_in format (answers (answer_part (body b.marks))) (sort_of (body b.marks)))) → count ≡ parts (question b).kind
+parts-question b count counted = counted (formatted Moodle (question_text (body b.marks))).format
+
 -- Too many pieces are told before anything else of a question.
-pub too_many_parts : (b : Block) → is_category b.marks ≡ false → is_nameless b.marks ≡ false → has_stray_brace (body b.marks) ≡ false → is_unclosed (body b.marks) ≡ false
-    → most_parts < parts (question b).kind → first_of (broken b) ≡ Some 2
-too_many_parts b asked named no_stray closed many =
+pub too_many_parts : (b : Block) (count : ℕ) → is_category b.marks ≡ false → is_nameless b.marks ≡ false → has_stray_brace (body b.marks) ≡ false → is_unclosed (body b.marks) ≡ false
+    → ((format : Format) → count ≡ parts (kind_in format (answers (answer_part (body b.marks))) (sort_of (body b.marks)))) → most_parts < count → first_of (broken b) ≡ Some 2
+too_many_parts b count asked named no_stray closed counted many =
+    let same = parts-question b count counted in
     let short = are_no_longer most_bytes (texts (question b)) in
-    let long : is_long (question b) ≡ true = rw (lt-ltb most_parts (parts (question b).kind) many) (or-true (not short)) in
+    let long : is_long (question b) ≡ true = rw (lt-ltb most_parts (parts (question b).kind) (omega (arith, same))) (or-true (not short)) in
     rw (asked, named, no_stray, closed, long) refl
+
+pub few_parts : (b : Block) (count : ℕ) → is_category b.marks ≡ false → is_nameless b.marks ≡ false → has_stray_brace (body b.marks) ≡ false → is_unclosed (body b.marks) ≡ false
+    → ((format : Format) → count ≡ parts (kind_in format (answers (answer_part (body b.marks))) (sort_of (body b.marks)))) → count ≤ most_parts → IsWhole b
+few_parts b count asked named no_stray closed counted few =
+    let same = parts-question b count counted in
+    record { flaws = rw (asked, named, no_stray, closed) refl; few = omega (arith, same) }
 
 -- where nothing is told before, the length of the whole is
 told_last : (b : Block) (flaws : List ℕ) → None ≡ first_of flaws → first_of (or_large flaws b) ≡ first_of (when (is_large b) 2)

@@ -106,6 +106,15 @@ fn number_count(answers: &[Piece]) -> usize
     if others.is_empty() { count } else { count + 1 }
 }
 
+/// How many choices, pairs or answers a question has, by the marks behind its name.
+fn part_count_of(body: &[Piece]) -> usize
+    ensures { (format : Format) → result
+        ≡ sound.parts (kind_in format (answers (answer_part body.now)) (sort_of body.now)) }
+{
+    let (answers, _) = split_general(split_part(body).0);
+    part_count(sort_of(body), answers)
+}
+
 // ---- before anything is built
 
 /// The first rule that a block breaks, as far as it can be told before its question is built: a name or a brace without its
@@ -123,8 +132,7 @@ pub(crate) fn early_fault(block: &Block) -> Option<u8>
     if has_stray_brace(body) || is_unclosed(body) {
         return Some(if is_long_text(name) { 2 } else { 5 });
     }
-    let (answers, _) = split_general(split_part(body).0);
-    if part_count(sort_of(body), answers) > MOST_PARTS {
+    if part_count_of(body) > MOST_PARTS {
         return Some(2);
     }
     None
