@@ -1,1 +1,4 @@
 pub mod HistoryLemmas
+pub mod DecisionLemmas
+pub mod Legality
+pub mod Attempts

@@ -4,6 +4,8 @@
 mod access;
 mod callers;
 mod history;
+mod keys;
+mod missing;
 mod review;
 mod shard;
 

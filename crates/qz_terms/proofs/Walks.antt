@@ -118,8 +118,41 @@ greatest-told : (n : ℕ) (o : Option ℕ) → fold max n (option_to_list o) ≡
 greatest-told n None = omega arith
 greatest-told n (Some m) = refl
 
+pub all_of-push : {A B : Type 0} (f : A → Option B) (xs : List A) (x : A) → filter_map f (xs ++ x ∷ []) ≡ filter_map f xs ++ option_to_list (f x)
+all_of-push f xs x = filter_map-append f xs (x ∷ []) ∙ ap (λ (t : List _). filter_map f xs ++ t) (told-alone f x (f x) refl)
+
 pub all_kept : {A B : Type 0} (f : A → Option B) (xs : List A) (i : ℕ) (x : A) → i < length xs → x ≡ get_or xs i x → filter_map f (take (i + 1) xs) ≡ filter_map f (take i xs) ++ option_to_list (f x)
-all_kept f xs i x inside is = ap (filter_map f) (take-one_more xs i x inside is) ∙ filter_map-append f (take i xs) (x ∷ []) ∙ ap (λ (t : List _). filter_map f (take i xs) ++ t) (told-alone f x (f x) refl)
+all_kept f xs i x inside is = ap (filter_map f) (take-one_more xs i x inside is) ∙ all_of-push f (take i xs) x
 
 pub greatest_kept : {A : Type 0} (f : A → Option ℕ) (xs : List A) (i : ℕ) (x : A) → i < length xs → x ≡ get_or xs i x → fold max 0 (filter_map f (take (i + 1) xs)) ≡ max (fold max 0 (filter_map f (take i xs))) (unwrap_or (f x) 0)
 greatest_kept f xs i x inside is = ap (fold max 0) (all_kept f xs i x inside is) ∙ fold-append max 0 (filter_map f (take i xs)) (option_to_list (f x)) ∙ greatest-told (fold max 0 (filter_map f (take i xs))) (f x)
+
+-- ---- how many
+
+many-told : {A : Type 0} (p : A → Bool) (x : A) (b : Bool) → p x ≡ b → length (filter p (x ∷ [])) ≡ (if b then 1 else 0)
+many-told p x true is = rw is refl
+many-told p x false is = rw is refl
+
+pub how_many-push : {A : Type 0} (p : A → Bool) (xs : List A) (x : A) (b : Bool) → p x ≡ b → how_many p (xs ++ x ∷ []) ≡ how_many p xs + (if b then 1 else 0)
+how_many-push p xs x b is = ap (λ (t : List _). length t) (filter-append p xs (x ∷ [])) ∙ length-append (filter p xs) (filter p (x ∷ [])) ∙ ap (λ n. length (filter p xs) + n) (many-told p x b is)
+
+-- ---- where it stands
+
+-- an item of a list, with those before it and behind it, that tells this
+pub record IsToldIn {A B : Type 0} (f : A → Option B) (xs : List A) (y : B) : Type 0 where
+  pub front : List A
+  pub item : A
+  pub rest : List A
+  pub stands : xs ≡ front ++ item ∷ rest
+  pub tells : f item ≡ Some y
+
+told_in-behind : {A B : Type 0} (f : A → Option B) (x : A) (xs : List A) (y : B) → IsToldIn f xs y → IsToldIn f (x ∷ xs) y
+told_in-behind f x xs y t = record { front = x ∷ t.front; item = t.item; rest = t.rest; stands = ap (λ (l : List _). x ∷ l) t.stands; tells = t.tells }
+
+first_told_in-step : {A B : Type 0} (f : A → Option B) (x : A) (xs : List A) (y : B) (o : Option B) → f x ≡ o → first_of (filter_map f (x ∷ xs)) ≡ Some y → (first_of (filter_map f xs) ≡ Some y → IsToldIn f xs y) → IsToldIn f (x ∷ xs) y
+first_told_in-step f x xs y None is found later = told_in-behind f x xs y (later (rw is at found))
+first_told_in-step f x xs y (Some z) is found later = let first : Some z ≡ Some y = rw is at found in record { front = []; item = x; rest = xs; stands = refl; tells = is ∙ first }
+
+pub first_told_in : {A B : Type 0} (f : A → Option B) (xs : List A) (y : B) → first_of (filter_map f xs) ≡ Some y → IsToldIn f xs y
+first_told_in f [] y found = absurd cc
+first_told_in f (x ∷ xs) y found = first_told_in-step f x xs y (f x) refl found (λ e. first_told_in f xs y e)
