@@ -1,4 +1,7 @@
 pub mod HistoryLemmas
 pub mod DecisionLemmas
 pub mod Legality
-pub mod Attempts
+pub mod Numbered
+pub mod Keeping
+pub mod ReadingLemmas
+pub mod Learning

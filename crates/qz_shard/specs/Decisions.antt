@@ -1,10 +1,23 @@
 -- What the parts of a shard that decide a request promise each other.
-use Rattle.std.specs.Prelude.{◌≡◌, ℕ, ◌+◌, List, take, slice_get, Option, Some, None, MatchResult}
+use Rattle.std.specs.Prelude.{◌≡◌, ℕ, ◌+◌, ◌-◌, ◌<◌, ◌^◌, List, take, length, slice_get, Option, Some, None, Result, MatchResult, All}
 use Rattle.qz_grading.specs.declared.refusal.Refusal.TheVariants as refusal
+use Rattle.qz_grading.specs.declared.refusal.Refusal.{Refusal}
+use Rattle.qz_terms.specs.declared.people.User.{User}
+use Rattle.qz_terms.specs.declared.plan.Plan.{Plan}
+use Rattle.qz_terms.specs.declared.record.Event.{Event}
 use Rattle.qz_terms.specs.declared.record.Record.{Record}
-use Rattle.qz_terms.specs.Cause.{Verdict, Denied, Repeated}
+use Rattle.qz_terms.specs.declared.request.Request.{Request}
+use Rattle.qz_terms.specs.Answer.{event_here, named_user}
+use Rattle.qz_terms.specs.Cause.{Verdict, Denied, Repeated, cause_here}
+use Rattle.qz_shard.specs.Holdings.{IsHeld}
 use Rattle.qz_shard.specs.declared.keys.Found.{Found}
 use Rattle.qz_shard.specs.declared.keys.Found.TheVariants as found
+
+-- the list of some shard
+pub record IsSound (h : List Record) : Type 0 where
+  pub index : ℕ
+  pub count : ℕ
+  pub held : IsHeld index count h
 
 -- a record at this place, from 0, is answered again
 abbrev pub IsRepeated : List Record → ℕ → Verdict → Type 0
@@ -15,3 +28,9 @@ abbrev pub IsFound : List Record → Option Found → Option Verdict → Type 0
 IsFound h None v = v ≡ None
 IsFound h (Some (found.Same n)) v = (w : Verdict) × (v ≡ Some w) × IsRepeated h n w
 IsFound h (Some (found.Other place)) v = v ≡ Some (Denied (refusal.KeyReused place))
+
+-- the event that a request makes of its user's list, or the first cause behind the key
+abbrev pub IsFate : List Record → ℕ → User → Plan → Request → Result Event Refusal → Type 0
+IsFate h moment user plan x fate = MatchResult fate
+    (λ e. (cause_here h moment user plan x ≡ None) × (event_here h moment user plan x ≡ Some (named_user user x, e)))
+    (λ r. cause_here h moment user plan x ≡ Some r)

@@ -1,6 +1,9 @@
 //! What a list of records tells of users and attempts. Each call reads the list once, from the front.
 
-ghost use Rattle.std.specs.Prelude.{◌≡◌, ◌+◌, ◌-◌, ◌<◌, ◌≤◌, ◌^◌, List, length, ◌&&◌, position, is_some, option_map, option_copied, IfOk};
+ghost use Rattle.std.specs.Prelude.{◌≡◌, ◌+◌, ◌-◌, ◌<◌, ◌≤◌, ◌^◌, List, length, ◌&&◌, position, is_some, option_map, option_copied, All, IfOk, IfSome, true};
+ghost use Rattle.qz_decimal.specs.Numbers.{IsMaxMark};
+ghost use Rattle.qz_grading.specs.Questions.{IsQuestion};
+ghost use Rattle.qz_terms.specs.Kept.{IsKept, is_moment};
 ghost use Rattle.qz_grading.specs.Grading.{at_place};
 ghost use Rattle.qz_terms.specs.History.{same_attempt, is_owned, owned_moment, place, time, starts, start, started, starts_at, next_attempt, ends, ended, ended_at, binds, bound, learned_by, learned_version, learns, version, floor_by, floor};
 ghost use Rattle.qz_terms.specs.Lists.{how_many};
@@ -75,7 +78,8 @@ fn starts<'a>(attempt: AttemptId, record: &'a Record) -> Option<Begun<'a>>
 
 /// The start of an attempt, if it is there.
 pub(crate) fn start<'a>(records: &'a [Record], attempt: AttemptId) -> Option<Begun<'a>>
-    ensures { option_map (start_of attempt) result ≡ start records.now attempt }
+    ensures value { option_map (start_of attempt) result ≡ start records.now attempt }
+    ensures kept { All IsKept records.now → IfSome result (λ s. is_moment s.moment ≡ true) }
 {
     let mut found = None;
     for record in records {
@@ -157,7 +161,7 @@ pub(crate) fn next_number(records: &[Record], user: u32) -> u32
 }
 
 /// The attempt that a record starts, if it is one of a user at a quiz.
-fn starts_at(quiz: u32, user: u32, record: &Record) -> Option<AttemptId>
+pub(crate) fn starts_at(quiz: u32, user: u32, record: &Record) -> Option<AttemptId>
     ensures { result ≡ starts_at quiz user «record».now }
 {
     match &record.event {
@@ -196,7 +200,8 @@ fn bound_at(bounds: &[Bound], slot: u16) -> Option<Bound>
 
 /// What is bound to a slot of an attempt now.
 pub(crate) fn bound(records: &[Record], attempt: AttemptId, slot: u16) -> Option<Bound>
-    ensures { result ≡ bound records.now attempt slot }
+    ensures value { result ≡ bound records.now attempt slot }
+    ensures kept { All IsKept records.now → IfSome result (λ b. IsMaxMark b.max) }
 {
     let mut last = None;
     for record in records {
@@ -239,7 +244,8 @@ fn learns(entry: u32, version: u32, record: &Record) -> Option<&Question>
 
 /// The question of a version, if the shard has learned it.
 pub(crate) fn version(records: &[Record], entry: u32, number: u32) -> Option<&Question>
-    ensures { option_copied result ≡ version records.now entry number }
+    ensures value { option_copied result ≡ version records.now entry number }
+    ensures kept { All IsKept records.now → IfSome result (λ q. IsQuestion q.now) }
 {
     let mut found = None;
     for record in records {

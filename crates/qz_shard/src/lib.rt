@@ -2,11 +2,14 @@
 #![tactic(auto)]
 
 mod access;
+mod attempts;
 mod callers;
+mod fates;
 mod history;
 mod keys;
 mod missing;
 mod review;
 mod shard;
+mod starting;
 
 pub use shard::{Older, Shard};

@@ -1,5 +1,5 @@
 -- Reading a list from the front, one item more at a time: what is first, what is last, how many there are, all of them.
-use Rattle.std.proofs.Common.{◌≡◌, ℕ, suc, max, ltb, ◌+◌, ◌<◌, Bool, true, false, cond, not, ◌||◌, List, [], ◌∷◌, ◌++◌, Option, Some, None, option_map, length, take, get_or, refl, sym, ap, ◌∙◌, append-nil, arith, length-append}
+use Rattle.std.proofs.Common.{◌≡◌, ℕ, zero, suc, max, ltb, ◌+◌, ◌<◌, ◌⊎◌, inl, inr, Bool, true, false, cond, not, ◌||◌, List, [], ◌∷◌, ◌++◌, Option, Some, None, option_map, length, take, get_or, refl, sym, ap, ◌∙◌, append-nil, arith, length-append}
 use Rattle.std.specs.Prelude.{filter, filter_map, fold, if◌then◌else◌, is_some, is_none, option_to_list, position, slice_get, unwrap_or}
 use Rattle.std.specs.Option.{option_or}
 use Rattle.std.specs.List.{last_or, list_any, list_all, position_or_len}
@@ -156,3 +156,34 @@ first_told_in-step f x xs y (Some z) is found later = let first : Some z ≡ Som
 pub first_told_in : {A B : Type 0} (f : A → Option B) (xs : List A) (y : B) → first_of (filter_map f xs) ≡ Some y → IsToldIn f xs y
 first_told_in f [] y found = absurd cc
 first_told_in f (x ∷ xs) y found = first_told_in-step f x xs y (f x) refl found (λ e. first_told_in f xs y e)
+
+last_told_in-step : {A B : Type 0} (f : A → Option B) (x : A) (xs : List A) (y : B) (before o : Option B) → f x ≡ o → last_or before (filter_map f (x ∷ xs)) ≡ Some y → ((now : Option B) → last_or now (filter_map f xs) ≡ Some y → IsToldIn f xs y ⊎ (now ≡ Some y)) → IsToldIn f (x ∷ xs) y ⊎ (before ≡ Some y)
+last_told_in-step f x xs y before None is found later = elim (later before (rw is at found)) [ inl t ↦ inl (told_in-behind f x xs y t) | inr e ↦ inr e ]
+last_told_in-step f x xs y before (Some z) is found later = elim (later (Some z) (rw is at found)) [ inl t ↦ inl (told_in-behind f x xs y t) | inr e ↦ inl (record { front = []; item = x; rest = xs; stands = refl; tells = is ∙ e }) ]
+
+last_told_in-from : {A B : Type 0} (f : A → Option B) (xs : List A) (y : B) (before : Option B) → last_or before (filter_map f xs) ≡ Some y → IsToldIn f xs y ⊎ (before ≡ Some y)
+last_told_in-from f [] y before found = inr found
+last_told_in-from f (x ∷ xs) y before found = last_told_in-step f x xs y before (f x) refl found (λ now e. last_told_in-from f xs y now e)
+
+pub last_told_in : {A B : Type 0} (f : A → Option B) (xs : List A) (y : B) → last_of (filter_map f xs) ≡ Some y → IsToldIn f xs y
+last_told_in f xs y found = elim (last_told_in-from f xs y None found) [ inl t ↦ t | inr e ↦ absurd cc ]
+
+-- ---- the first that passes
+
+first_passing-alone : {A : Type 0} (p : A → Bool) (x : A) (b : Bool) → p x ≡ b → first_of (filter p (x ∷ [])) ≡ (if b then Some x else None)
+first_passing-alone p x true is = rw is refl
+first_passing-alone p x false is = rw is refl
+
+pub first_passing_kept : {A : Type 0} (p : A → Bool) (xs : List A) (i : ℕ) (x : A) → i < length xs → x ≡ get_or xs i x → first_of (filter p (take (i + 1) xs)) ≡ option_or (first_of (filter p (take i xs))) (if p x then Some x else None)
+first_passing_kept p xs i x inside is = ap (λ (ys : List _). first_of (filter p ys)) (take-one_more xs i x inside is) ∙ ap first_of (filter-append p (take i xs) (x ∷ [])) ∙ first_of-either (filter p (take i xs)) (filter p (x ∷ [])) ∙ ap (λ (o : Option _). option_or (first_of (filter p (take i xs))) o) (first_passing-alone p x (p x) refl)
+
+get_or-default : {A : Type 0} (xs : List A) (i : ℕ) (d e : A) → i < length xs → get_or xs i d ≡ get_or xs i e
+get_or-default [] i d e inside = absurd (omega arith)
+get_or-default (x ∷ xs) zero d e inside = refl
+get_or-default (x ∷ xs) (suc i) d e inside = get_or-default xs i d e (let inside' : suc i < suc (length xs) = inside in omega arith)
+
+-- the same of an item that is read at a place
+pub first_passing_at : {A : Type 0} (p : A → Bool) (xs : List A) (i : ℕ) (d : A) (found here : Option A) (b : Bool) → i < length xs → b ≡ p (get_or xs i d) → here ≡ (if b then Some (get_or xs i d) else None) → found ≡ first_of (filter p (take i xs)) → option_or found here ≡ first_of (filter p (take (i + 1) xs))
+first_passing_at p xs i d found here b inside tests is so_far =
+    let same : get_or xs i d ≡ get_or xs i (get_or xs i d) = get_or-default xs i d (get_or xs i d) inside in
+    ap (option_or found) (is ∙ ap (λ (c : Bool). if c then Some (get_or xs i d) else None) tests) ∙ ap (λ (o : Option _). option_or o (if p (get_or xs i d) then Some (get_or xs i d) else None)) so_far ∙ sym (first_passing_kept p xs i (get_or xs i d) inside same)
