@@ -84,7 +84,7 @@ never-granted-by : (is_same : Record → Bool) (l : List Record) (o : Option Rec
 never-granted-by is_same l None e = absurd cc
 never-granted-by is_same l (Some r) e = keyless-by (is_same r) l r cc
 
-never-granted : (is_same : Record → Bool) (caller : ℕ) (key : Option (List ℕ)) (h : List Record) → by_key is_same caller key h ≡ Some Granted → ⊥
+pub never-granted : (is_same : Record → Bool) (caller : ℕ) (key : Option (List ℕ)) (h : List Record) → by_key is_same caller key h ≡ Some Granted → ⊥
 never-granted is_same caller None h e = absurd cc
 never-granted is_same caller (Some key) h e = never-granted-by is_same (up_to_first (has_key caller key) h) _ e
 
@@ -95,7 +95,7 @@ pub record IsFree (h : List Record) (moment : ℕ) (user : User) (plan : Plan) (
   pub fresh : by_key (spells x) user.number key h ≡ None
   pub causeless : cause_here h moment user plan x ≡ None
 
-free-by : (f m : Option Refusal) (k : Option Verdict) (c : Option Refusal) → (k ≡ Some Granted → ⊥) → unwrap_or (first_some (denied f ∷ denied m ∷ k ∷ denied c ∷ [])) Granted ≡ Granted → (f ≡ None) × (m ≡ None) × (k ≡ None) × (c ≡ None)
+pub free-by : (f m : Option Refusal) (k : Option Verdict) (c : Option Refusal) → (k ≡ Some Granted → ⊥) → unwrap_or (first_some (denied f ∷ denied m ∷ k ∷ denied c ∷ [])) Granted ≡ Granted → (f ≡ None) × (m ≡ None) × (k ≡ None) × (c ≡ None)
 free-by (Some f) m k c never e = absurd cc
 free-by None (Some m) k c never e = absurd cc
 free-by None None (Some k) c never e = absurd (never (let same : k ≡ Granted = e in ap (λ (v : Verdict). Some v) same))

@@ -5,3 +5,5 @@ pub mod Numbered
 pub mod Keeping
 pub mod ReadingLemmas
 pub mod Learning
+pub mod PlayLemmas
+pub mod Allowing

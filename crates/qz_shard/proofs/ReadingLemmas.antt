@@ -1,8 +1,10 @@
 -- What is kept of each record, told of what a walk over the list found.
-use Rattle.std.proofs.Common.{◌≡◌, ℕ, ◌≤◌, Bool, true, false, List, Option, Some, None, sym, ap, subst, ◌*◌, ◌∙◌, arith, option_map, All, Bor}
+use Rattle.std.proofs.Common.{◌≡◌, ℕ, ◌≤◌, Bool, true, false, List, Option, Some, None, sym, ap, subst, ◌*◌, length, ◌∙◌, arith, option_map, All, Bor}
 use lib.Signed.{le_z_yes}
+use Rattle.std.specs.List.{list_all}
+use Rattle.std.proofs.lemmas.Bool.{leb-true}
 use lib.Dec.{T}
-use Rattle.std.specs.Prelude.{option_copied, IfSome, ◌&&◌, int_le, pos, ◌≤ℤ◌, ℤ}
+use Rattle.std.specs.Prelude.{option_copied, IfSome, ◌&&◌, int_le, nat_le, pos, ◌≤ℤ◌, ℤ}
 use Rattle.qz_decimal.specs.Numbers.{IsMaxMark, one}
 use Rattle.qz_grading.specs.declared.question.Question.{Question}
 use Rattle.qz_grading.specs.declared.refusal.AttemptId.{AttemptId}
@@ -18,6 +20,10 @@ use Rattle.qz_shard.proofs.Keeping.{and-left, and-right, bound-kept, start-kept,
 pub moment-found : (h : List Record) (a : AttemptId) (o : Option Begun) → option_map (start_of a) o ≡ start h a → All IsKept h → IfSome o (λ s. is_moment s.moment ≡ true)
 moment-found h a None is kept = tt
 moment-found h a (Some s) is kept = (start-kept h a (start_of a s) kept (sym is)).0
+
+pub few-found : (h : List Record) (a : AttemptId) (o : Option Begun) → option_map (start_of a) o ≡ start h a → All IsKept h → IfSome o (λ s. length s.bounds.now ≤ 200)
+few-found h a None is kept = tt
+few-found h a (Some s) is kept = leb-true (length s.bounds.now) 200 (and-left (nat_le (length s.bounds.now) 200) (list_all is_bound s.bounds.now) (start-kept h a (start_of a s) kept (sym is)).1)
 
 pub le-true : (a b : ℤ) → int_le a b ≡ true → a ≤ℤ b
 le-true a b is = le_z_yes (subst T (sym is) tt)

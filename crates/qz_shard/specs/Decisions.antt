@@ -2,14 +2,18 @@
 use Rattle.std.specs.Prelude.{◌≡◌, ℕ, ◌+◌, ◌-◌, ◌<◌, ◌^◌, List, take, length, slice_get, Option, Some, None, Result, MatchResult, All}
 use Rattle.qz_grading.specs.declared.refusal.Refusal.TheVariants as refusal
 use Rattle.qz_grading.specs.declared.refusal.Refusal.{Refusal}
+use Rattle.qz_terms.specs.declared.ask.Ask.{Ask}
 use Rattle.qz_terms.specs.declared.people.User.{User}
 use Rattle.qz_terms.specs.declared.plan.Plan.{Plan}
 use Rattle.qz_terms.specs.declared.record.Event.{Event}
 use Rattle.qz_terms.specs.declared.record.Record.{Record}
 use Rattle.qz_terms.specs.declared.request.Request.{Request}
+use Rattle.qz_terms.specs.declared.request.Request.TheVariants as request
 use Rattle.qz_terms.specs.Answer.{event_here, named_user}
-use Rattle.qz_terms.specs.Cause.{Verdict, Denied, Repeated, cause_here}
+use Rattle.qz_terms.specs.Cause.{Verdict, Denied, Granted, Repeated, cause_here, verdict_here}
 use Rattle.qz_shard.specs.Holdings.{IsHeld}
+use Rattle.qz_shard.specs.declared.decision.Decision.{Decision}
+use Rattle.qz_shard.specs.declared.decision.Decision.TheVariants as decision
 use Rattle.qz_shard.specs.declared.keys.Found.{Found}
 use Rattle.qz_shard.specs.declared.keys.Found.TheVariants as found
 
@@ -34,3 +38,14 @@ abbrev pub IsFate : List Record → ℕ → User → Plan → Request → Result
 IsFate h moment user plan x fate = MatchResult fate
     (λ e. (cause_here h moment user plan x ≡ None) × (event_here h moment user plan x ≡ Some (named_user user x, e)))
     (λ r. cause_here h moment user plan x ≡ Some r)
+
+-- the plan of a start has a question for each slot
+abbrev pub IsWhole : Plan → Request → Type 0
+IsWhole plan (request.Start quiz) = length plan.questions ≡ length plan.slots
+IsWhole plan x = Unit {0}
+
+-- what is done with a request, by its verdict
+abbrev pub IsDecision : List Record → ℕ → User → Plan → Ask → Decision → Type 0
+IsDecision h moment user plan ask (decision.Refused r) = verdict_here h moment user plan ask ≡ Denied r
+IsDecision h moment user plan ask (decision.Repeated n) = IsRepeated h n (verdict_here h moment user plan ask)
+IsDecision h moment user plan ask (decision.Made e) = (verdict_here h moment user plan ask ≡ Granted) × (event_here h moment user plan ask.request ≡ Some (named_user user ask.request, e))

@@ -1,3 +1,5 @@
 pub mod Readings
 pub mod Holdings
 pub mod Decisions
+pub mod Plays
+pub mod Replays

@@ -5,7 +5,7 @@ ghost use Rattle.qz_decimal.specs.Numbers.{IsMaxMark};
 ghost use Rattle.qz_grading.specs.Questions.{IsQuestion};
 ghost use Rattle.qz_terms.specs.Kept.{IsKept, is_moment};
 ghost use Rattle.qz_grading.specs.Grading.{at_place};
-ghost use Rattle.qz_terms.specs.History.{same_attempt, is_owned, owned_moment, place, time, starts, start, started, starts_at, next_attempt, ends, ended, ended_at, binds, bound, learned_by, learned_version, learns, version, floor_by, floor};
+ghost use Rattle.qz_terms.specs.History.{same_attempt, is_owned, owned_moment, place, time, starts, start, started, starts_at, next_attempt, slot_count, ends, ended, ended_at, binds, bound, learned_by, learned_version, learns, version, floor_by, floor};
 ghost use Rattle.qz_terms.specs.Lists.{how_many};
 ghost use Rattle.qz_shard.specs.Readings.{start_of};
 
@@ -80,12 +80,24 @@ fn starts<'a>(attempt: AttemptId, record: &'a Record) -> Option<Begun<'a>>
 pub(crate) fn start<'a>(records: &'a [Record], attempt: AttemptId) -> Option<Begun<'a>>
     ensures value { option_map (start_of attempt) result ≡ start records.now attempt }
     ensures kept { All IsKept records.now → IfSome result (λ s. is_moment s.moment ≡ true) }
+    ensures few { All IsKept records.now → IfSome result (λ s. length s.bounds.now ≤ 200) }
 {
     let mut found = None;
     for record in records {
         found = found.or(starts(attempt, record));
     }
     found
+}
+
+/// How many slots an attempt has.
+pub(crate) fn slot_count(records: &[Record], attempt: AttemptId) -> usize
+    ensures value { result ≡ slot_count records.now attempt }
+    ensures few { All IsKept records.now → result ≤ 200 }
+{
+    match start(records, attempt) {
+        Some(begun) => begun.bounds.len(),
+        None => 0,
+    }
 }
 
 /// How an attempt ended, if this record tells.

@@ -4,12 +4,17 @@
 mod access;
 mod attempts;
 mod callers;
+mod decision;
 mod fates;
 mod history;
 mod keys;
 mod missing;
+mod replies;
 mod review;
 mod shard;
+mod slots;
 mod starting;
+mod stepping;
+mod totals;
 
 pub use shard::{Older, Shard};

@@ -2,10 +2,9 @@
 
 ghost use Rattle.std.specs.Prelude.{◌≡◌};
 ghost use Rattle.qz_terms.specs.Cause.{missing_attempt, missing_slot, missing_here};
-ghost use Rattle.qz_terms.specs.History.{slot_count};
 
 use crate::callers::is_anothers;
-use crate::history::start;
+use crate::history::{slot_count, start};
 use qz_grading::{AttemptId, Refusal, Thing};
 use qz_terms::{Record, Request, User};
 
@@ -19,16 +18,6 @@ fn missing_attempt(records: &[Record], user: &User, attempt: AttemptId) -> Optio
         });
     }
     None
-}
-
-/// How many slots an attempt has.
-fn slot_count(records: &[Record], attempt: AttemptId) -> usize
-    ensures { result ≡ slot_count records.now attempt }
-{
-    match start(records, attempt) {
-        Some(begun) => begun.bounds.len(),
-        None => 0,
-    }
 }
 
 /// The refusal of a request that names a slot that isn't there.
