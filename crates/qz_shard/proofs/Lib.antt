@@ -7,3 +7,5 @@ pub mod ReadingLemmas
 pub mod Learning
 pub mod PlayLemmas
 pub mod Allowing
+pub mod Making
+pub mod StepLemmas

@@ -3,3 +3,4 @@ pub mod Holdings
 pub mod Decisions
 pub mod Plays
 pub mod Replays
+pub mod Nexts

@@ -1,9 +1,12 @@
 -- What a slot that is played again promises.
-use Rattle.std.specs.Prelude.{◌≡◌, ℕ, List, map, zip, filter_map, Option, Some, None, Result, MatchResult}
+use Rattle.std.specs.Prelude.{◌≡◌, ℕ, true, List, map, zip, filter_map, Option, Some, None, Result, MatchResult}
+use Rattle.qz_grading.specs.declared.outcome.Moved.{Moved}
 use Rattle.qz_grading.specs.declared.question.Question.{Question}
 use Rattle.qz_grading.specs.declared.refusal.AttemptId.{AttemptId}
 use Rattle.qz_grading.specs.declared.refusal.Refusal.{Refusal}
 use Rattle.qz_grading.specs.declared.response.Step.{Step}
+use Rattle.qz_grading.specs.Behaviours.{moved}
+use Rattle.qz_grading.specs.Slots.{step_cause}
 use Rattle.qz_terms.specs.declared.people.User.{User}
 use Rattle.qz_terms.specs.declared.plan.Plan.{Plan}
 use Rattle.qz_terms.specs.declared.record.Event.{Event}
@@ -15,6 +18,7 @@ use Rattle.qz_terms.specs.History as history
 use Rattle.qz_terms.specs.Lists.{places_to}
 use Rattle.qz_usage.specs.Runs.{Run, IsBound, behaviour_of}
 use Rattle.qz_usage.specs.Usages.{AreBound, scored}
+use Rattle.qz_shard.specs.Holdings.{is_students_event}
 use Rattle.qz_shard.specs.declared.slots.Played.{Played}
 
 -- the slot that a run plays
@@ -32,8 +36,14 @@ pub record ArePlayed (h : List Record) (a : AttemptId) (n : ℕ) (runs : List Ru
   pub bound : AreBound runs questions
   pub count : map scored (zip runs questions) ≡ map history.scored (filter_map (slot h a) (places_to n))
 
+-- a step is taken on a slot, or refused for its first cause
+abbrev pub IsMove : Slot → Step → Result Moved Refusal → Type 0
+IsMove s x told = MatchResult told
+    (λ m. (step_cause s.behaviour s.question s.bound.max s.steps x ≡ None) × (m ≡ moved s.steps x))
+    (λ r. step_cause s.behaviour s.question s.bound.max s.steps x ≡ Some r)
+
 -- the event of a step on a slot, or the first cause behind the key
 abbrev pub IsStepFate : List Record → ℕ → User → Plan → AttemptId → ℕ → Step → Result Event Refusal → Type 0
 IsStepFate h moment user plan a k x fate = MatchResult fate
-    (λ e. (answering_cause h moment user plan a k x ≡ None) × (e ≡ stepped_by h a k x))
+    (λ e. (answering_cause h moment user plan a k x ≡ None) × (e ≡ stepped_by h a k x) × (is_students_event e ≡ true))
     (λ r. answering_cause h moment user plan a k x ≡ Some r)

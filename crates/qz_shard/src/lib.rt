@@ -9,6 +9,7 @@ mod fates;
 mod history;
 mod keys;
 mod missing;
+mod putting;
 mod replies;
 mod review;
 mod shard;
