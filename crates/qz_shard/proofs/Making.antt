@@ -1,12 +1,12 @@
 -- The record that a decision makes may be put next, and what is then answered.
-use Rattle.std.proofs.Common.{◌≡◌, ℕ, suc, ℤ, ◌+◌, ◌-◌, ◌<◌, ◌≤◌, ◌^◌, max, eqb, ltb, leb, Bool, true, false, not, ◌&&◌, ◌||◌, List, [], ◌∷◌, ◌++◌, Option, Some, None, length, length-append, map, take, drop, get_or, refl, sym, ap, subst, ◌∙◌, arith, option_map, eq-eqb, All}
-use Rattle.std.specs.Prelude.{◌==◌, filter, filter_map, is_none, if◌then◌else◌, nat_le, nat_lt, option_to_list, slice_get, unwrap_or, zip}
+use Rattle.std.proofs.Common.{◌≡◌, ℕ, suc, ℤ, ◌+◌, ◌-◌, ◌<◌, ◌≤◌, ◌^◌, max, eqb, ltb, leb, Bool, true, false, not, ◌&&◌, ◌||◌, List, [], ◌∷◌, ◌++◌, Option, Some, None, Result, Ok, Err, length, length-append, map, take, drop, get_or, refl, sym, ap, subst, ◌∙◌, arith, option_map, eq-eqb, All}
+use Rattle.std.specs.Prelude.{IfOk, OnErr, OnOk, ◌==◌, filter, filter_map, is_none, if◌then◌else◌, nat_le, nat_lt, option_to_list, slice_get, unwrap_or, zip}
 use Rattle.std.specs.List.{list_all, list_any, last_or}
 use Rattle.std.proofs.lemmas.Bool.{le-leb, leb-true}
 use Rattle.std.proofs.lemmas.List.{take-append-drop}
 use Rattle.std.proofs.lemmas.List.Elements.{All-cons, All-filter, All-head, All-map, All-nil, All-push, All-tail, All-take}
 use Rattle.std.proofs.lemmas.List.Folds.{list_all-append}
-use Rattle.std.proofs.lemmas.Option.{get_or_from_slice_get}
+use Rattle.std.proofs.lemmas.Option.{get_or_from_slice_get, slice_get_within}
 use Rattle.qz_grading.specs.declared.question.Question.{Question}
 use Rattle.qz_grading.specs.declared.refusal.AttemptId.{AttemptId}
 use Rattle.qz_grading.specs.declared.refusal.Refusal.{Refusal}
@@ -30,25 +30,28 @@ use Rattle.qz_terms.specs.declared.record.How.{How}
 use Rattle.qz_terms.specs.declared.record.How.TheVariants as how
 use Rattle.qz_terms.specs.declared.record.Learned.{Learned}
 use Rattle.qz_terms.specs.declared.record.Record.{Record}
+use Rattle.qz_terms.specs.declared.reply.Reply.{Reply}
 use Rattle.qz_terms.specs.declared.reply.Reply.TheVariants as reply
 use Rattle.qz_terms.specs.declared.request.Request.{Request}
 use Rattle.qz_terms.specs.declared.request.Request.TheVariants as request
 use Rattle.qz_terms.specs.Access.{settled_by}
 use Rattle.qz_terms.specs.Answer.{acted_or_noted, answer_here, bind, event_here, is_overdue, list_after, moment_of, named_user, new_versions, put_here, record_under, said, same_version, started_by, stepped_by}
-use Rattle.qz_terms.specs.Cause.{Denied, Granted, Repeated, is_keyed, missing_attempt, missing_here, missing_slot, verdict_here}
+use Rattle.qz_terms.specs.Cause.{Verdict, Denied, Granted, Repeated, by_key, cause_here, forbidden, spells, is_keyed, missing_attempt, missing_here, missing_slot, verdict_here}
 use Rattle.qz_terms.specs.Kept.{AreLearned, AreQuestions, IsKept, IsKeptPlan, KeepsAsked, KeepsEvent, are_settings, is_bound, is_moment, is_planned, is_step}
 use Rattle.qz_terms.specs.Legal.{IsAllowed, IsLegal, is_here, is_plan_for}
 use Rattle.qz_terms.specs.Lists.{first_of, once}
 use Rattle.qz_terms.specs.History.{next_attempt, owned_moment, slot_count, time}
 use Rattle.qz_terms.specs.History as history
 use Rattle.qz_terms.proofs.Walks.{IsToldIn, last_told_in}
-use Rattle.qz_shard.specs.Decisions.{IsSound}
+use Rattle.qz_shard.specs.declared.decision.Decision.TheVariants as decision
+use Rattle.qz_shard.specs.Answering.{IsAnswered, IsPosed}
+use Rattle.qz_shard.specs.Decisions.{IsDecision, IsRepeated, IsSound}
 use Rattle.qz_shard.specs.Holdings.{Holding, IsHeld, StartsHere, is_change, is_students, is_students_event, older}
 use Rattle.qz_shard.specs.Nexts.{IsNext}
 use Rattle.qz_shard.proofs.Allowing.{IsGranted, IsOn, acted, ask_of, ended, first-none, made_ready, noted, on-allowed, on-step, start-allowed}
 use Rattle.qz_shard.proofs.Keeping.{All-seam, and-left, and-right}
 use Rattle.qz_shard.proofs.Learning.{learned_all}
-use Rattle.qz_shard.proofs.Legality.{legal-before, legal-push, told_event, told-pair}
+use Rattle.qz_shard.proofs.Legality.{free-by, legal-before, legal-push, never-granted, told_event, told-pair}
 
 -- ---- what is kept of a moment
 
@@ -245,3 +248,61 @@ pub answer-granted : (h : List Record) (now : ℕ) (user : User) (plan : Plan) (
     → (answer_here h now user plan ask ≡ said (h ++ record_under (moment_of h now user ask.request) user u ask.key plan e ∷ []) (record_under (moment_of h now user ask.request) user u ask.key plan e))
     × (list_after h now user plan ask ≡ h ++ record_under (moment_of h now user ask.request) user u ask.key plan e ∷ [])
 answer-granted h now user plan ask u e is made = (rw (is, made) refl, rw (is, made) refl)
+
+-- ---- a request that was decided
+
+-- a fact of an answer that is there
+pub if_ok-more : {A E : Type 0} (r : Result A E) (P Q : A → Type 0) → ((x : A) → P x → Q x) → IfOk r P → IfOk r Q
+if_ok-more (Ok x) P Q more p = more x p
+if_ok-more (Err e) P Q more p = tt
+
+pub repeated-sound : (index count : ℕ) (g h : List Record) (n : ℕ) → g ≡ h → IsHeld index count h → IsSound (take n g)
+repeated-sound index count g h n same held = subst (λ (t : List Record). IsSound (take n t)) (sym same) (sound-before index count h n held)
+
+pub repeated-kept : (index count : ℕ) (g h : List Record) (n : ℕ) (r : Record) (v : Verdict) → g ≡ h → IsHeld index count h → r ≡ get_or g n r → IsRepeated g n v → IsKept r
+repeated-kept index count g h n r v same held is repeated =
+    let kept : All IsKept g = subst (All IsKept) (sym same) held.kept in
+    subst IsKept (sym is) (kept n r (slice_get_within g n repeated.0 repeated.1))
+
+repeated-answer-here : (h : List Record) (now : ℕ) (user : User) (plan : Plan) (ask : Ask) (n : ℕ) (r : Record) (told : Reply) → IsRepeated h n (verdict_here h (moment_of h now user ask.request) user plan ask) → r ≡ get_or h n r → told ≡ said (take (n + 1) h) r → IsAnswered h now user plan ask told h
+repeated-answer-here h now user plan ask n r told repeated is says =
+    let item : r ≡ repeated.0 = is ∙ get_or_from_slice_get h n repeated.0 r repeated.1 in
+    let answer = answer-repeated h now user plan ask (take (n + 1) h) repeated.0 repeated.2 in
+    record { reply = says ∙ ap (said (take (n + 1) h)) item ∙ sym answer.0; list = sym answer.1 }
+
+pub repeated-answer : (g h : List Record) (now moment : ℕ) (user : User) (plan : Plan) (ask : Ask) (n : ℕ) (r : Record) (told : Reply) → g ≡ h → moment ≡ moment_of g now user ask.request → IsRepeated g n (verdict_here g moment user plan ask) → r ≡ get_or g n r → told ≡ said (take (n + 1) g) r → IsAnswered h now user plan ask told h
+repeated-answer g h now moment user plan ask n r told same at repeated is says =
+    subst (λ (t : List Record). IsAnswered t now user plan ask told t) same
+    (repeated-answer-here g now user plan ask n r told (subst (λ (m : ℕ). IsRepeated g n (verdict_here g m user plan ask)) at repeated) is says)
+
+decided-next-here : (s : Holding) (now : ℕ) (user : User) (plan : Plan) (ask : Ask) (e : Event) → IsHeld s.index s.count s.records → IsPosed s now user plan ask → IsDecision s.records (moment_of s.records now user ask.request) user plan ask (decision.Made e)
+    → IsNext s.index s.count s.records (record_under (moment_of s.records now user ask.request) user (named_user user ask.request) ask.key plan e)
+decided-next-here s now user plan ask e held posed d =
+    let parts = free-by (forbidden user ask.request) (missing_here s.records user ask.request) (by_key (spells ask.request) user.number ask.key s.records) (cause_here s.records (moment_of s.records now user ask.request) user plan ask.request)
+      (never-granted (spells ask.request) user.number ask.key s.records) d.0 in
+    next-made s.index s.count s.records now user plan ask.caller ask.key ask.request e posed.change posed.here (record {
+      held = held;
+      keyed = posed.asked.keyed;
+      of_quiz = posed.asked.of_quiz;
+      plan_kept = posed.asked.kept_plan;
+      asked_kept = posed.asked.kept_request;
+      moment = posed.asked.kept_moment;
+      newer = posed.newer;
+      students = d.2;
+      granted = d.0;
+      there = parts.1;
+      makes = d.1;
+    })
+
+pub decided-next : (s : Holding) (g : List Record) (now moment : ℕ) (user : User) (plan : Plan) (ask : Ask) (e : Event) (made : Record) → IsHeld s.index s.count s.records → IsPosed s now user plan ask → g ≡ s.records → moment ≡ moment_of g now user ask.request
+    → IsDecision g moment user plan ask (decision.Made e) → made ≡ record_under moment user (named_user user ask.request) ask.key plan e → IsNext s.index s.count s.records made
+decided-next s g now moment user plan ask e made held posed same at d is =
+    let at_here : moment ≡ moment_of s.records now user ask.request = at ∙ ap (λ (t : List Record). moment_of t now user ask.request) same in
+    let here : IsDecision s.records moment user plan ask (decision.Made e) = subst (λ (t : List Record). IsDecision t moment user plan ask (decision.Made e)) same d in
+    let there : IsDecision s.records (moment_of s.records now user ask.request) user plan ask (decision.Made e) = subst (λ (m : ℕ). IsDecision s.records m user plan ask (decision.Made e)) at_here here in
+    let made_is : made ≡ record_under (moment_of s.records now user ask.request) user (named_user user ask.request) ask.key plan e = is ∙ ap (λ (m : ℕ). record_under m user (named_user user ask.request) ask.key plan e) at_here in
+    subst (IsNext s.index s.count s.records) (sym made_is) (decided-next-here s now user plan ask e held posed there)
+
+pub put-held : {A E : Type 0} (index count : ℕ) (r : Result A E) (old new longer : List Record) → OnOk r (new ≡ longer) → OnErr r (new ≡ old) → IsHeld index count old → IsHeld index count longer → IsHeld index count new
+put-held index count (Ok x) old new longer put same held more = subst (IsHeld index count) (sym put) more
+put-held index count (Err e) old new longer put same held more = subst (IsHeld index count) (sym same) held

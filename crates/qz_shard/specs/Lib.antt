@@ -4,3 +4,4 @@ pub mod Decisions
 pub mod Plays
 pub mod Replays
 pub mod Nexts
+pub mod Answering

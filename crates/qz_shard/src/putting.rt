@@ -1,10 +1,11 @@
 //! How a record is made and put at the end of the list.
 
 ghost use Rattle.std.specs.Prelude.{◌≡◌, ◌++◌, ◌∷◌, [], IfOk, OnOk, OnErr};
-ghost use Rattle.qz_terms.specs.Answer.{attempt_named, named_user, record_under, said};
+ghost use Rattle.qz_terms.specs.Answer.{attempt_named, moment_of, named_user, record_under, said};
 ghost use Rattle.qz_terms.specs.Kept.{IsKept};
 ghost use Rattle.qz_shard.specs.Decisions.{IsSound};
 
+use crate::history::time;
 use crate::replies::said;
 use qz_grading::{AttemptId, Steps};
 use qz_terms::{Ask, Event, Plan, Record, Reply, Request, Terms, User};
@@ -41,6 +42,13 @@ pub(crate) fn named_user(user: &User, request: &Request) -> u32
         Some(attempt) => attempt.user,
         None => user.number,
     }
+}
+
+/// The moment of a request: the clock's, but not before the last record of the user that it is about.
+pub(crate) fn moment_of(records: &[Record], now: u64, user: &User, request: &Request) -> u64
+    ensures { result ≡ moment_of records.now now user.now request.now }
+{
+    time(records, named_user(user, request), now)
 }
 
 /// A key of its own.

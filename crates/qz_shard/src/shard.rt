@@ -4,15 +4,22 @@ ghost use Rattle.std.specs.Prelude.{◌≡◌, ◌⊎◌, ◌≤◌, List, [], l
 ghost use Rattle.qz_grading.specs.declared.refusal.Refusal.TheVariants as refusal;
 ghost use Rattle.qz_terms.specs.History.{quiz};
 ghost use Rattle.qz_terms.specs.Legal.{IsLegal};
+ghost use Rattle.qz_shard.specs.Answering.{IsAnswered, IsPosed};
 ghost use Rattle.qz_shard.specs.Holdings.{is_shard, is_change, is_look, IsAsked, StartsHere, older, Answers, IsAnsweredAgain};
 
 use qz_grading::{AttemptId, Refusal, Steps, Thing};
+use crate::decision::{Decision, decide};
 use crate::history::{floor, start};
+use crate::putting::{moment_of, put, record_of};
+use crate::replies::said;
 use qz_terms::{Ask, Plan, Record, Reply, Request, User};
-use qz_text::Listed;
+use qz_text::{Listed, NoMemory};
 use std::alloc::Global;
 use std::marker::Model;
 use std::sync::ledger::Ledger;
+
+/// So many records a shard holds.
+const MOST_RECORDS: usize = 4_294_967_293;
 
 /// A start's plan is older than a job that is done here. It is to be read again, from a catalogue that has at least the
 /// position `floor`.
@@ -106,7 +113,10 @@ impl Shard {
         if let Some(floor) = self.older(plan, &ask.request) {
             return Err(Older { floor });
         }
-        Ok(Reply::Refused(Refusal::Memory))
+        match self.answer(alloc, user, plan, ask, moment, steps) {
+            Ok(reply) => Ok(reply),
+            Err(NoMemory) => Ok(Reply::Refused(Refusal::Memory)),
+        }
     }
 
     /// Answers a request that only looks: a view, a total, a page or a grade. The list stays as it is, and where memory is wanting
@@ -126,6 +136,37 @@ impl Shard {
         ensures unchanged { self.new ≡ self.old }
     {
         Reply::Refused(Refusal::Memory)
+    }
+
+    /// Answers a request, and puts the record that it makes. Where memory is wanting the list is as before.
+    fn answer<L: Ledger>(
+        &mut self,
+        alloc: Global,
+        user: &User,
+        plan: &Plan,
+        ask: &Ask,
+        now: u64,
+        steps: &mut Steps<L>,
+    ) -> Result<Reply, NoMemory>
+        requires { IsPosed self.old now user.now plan.now ask.now }
+        ensures answered { IfOk result (λ told. IsAnswered self.old.records now user.now plan.now ask.now told self.new.records) }
+        ensures unchanged { OnErr result (self.new ≡ self.old) }
+        ensures shard { (self.new.index ≡ self.old.index) × (self.new.count ≡ self.old.count) }
+    {
+        let records = self.records.as_slice();
+        let moment = moment_of(records, now, user, &ask.request);
+        let event = match decide(alloc, records, moment, user, plan, ask, steps)? {
+            Decision::Refused(refusal) => return Ok(Reply::Refused(refusal)),
+            Decision::Repeated(at) => {
+                return said(alloc, &records[..at + 1], &records[at], steps);
+            }
+            Decision::Made(event) => event,
+        };
+        if records.len() >= MOST_RECORDS {
+            return Err(NoMemory);
+        }
+        let made = record_of(alloc, moment, user, plan, ask, event)?;
+        put(alloc, &mut self.records, made, steps)
     }
 
     /// The floor of the quiz, where the plan of a start is older.
