@@ -63,7 +63,7 @@ pub data IsOn : AttemptId → Event → Type 0 where
   noted : (a : AttemptId) (k : ℕ) (s : Step) → IsOn a (event.Noted a k s)
   ended : (a : AttemptId) (how : How) → IsOn a (event.Ended a how)
 
-on-step : (v : Moved) (a : AttemptId) (k : ℕ) (s : Step) → IsOn a (acted_or_noted v a k s)
+pub on-step : (v : Moved) (a : AttemptId) (k : ℕ) (s : Step) → IsOn a (acted_or_noted v a k s)
 on-step moved.Kept a k s = acted a k s
 on-step moved.Same a k s = noted a k s
 
@@ -83,7 +83,7 @@ started-some None true r e = absurd cc
 started-some None false r e = absurd cc
 started-some (Some x) b r e = (x, refl)
 
-first-none : {A : Type 0} (o : Option A) (os : List (Option A)) → first_some (o ∷ os) ≡ None → o ≡ None
+pub first-none : {A : Type 0} (o : Option A) (os : List (Option A)) → first_some (o ∷ os) ≡ None → o ≡ None
 first-none None os e = refl
 first-none (Some x) os e = absurd cc
 
@@ -106,7 +106,7 @@ newer-by : (at least : ℕ) (b : Bool) → ltb at least ≡ b → (if b then Som
 newer-by at least true is e = absurd cc
 newer-by at least false is e = le-leb least at (ltb-false at least is)
 
-abbrev ask_of : Caller → Option (List ℕ) → Request → Ask
+abbrev pub ask_of : Caller → Option (List ℕ) → Request → Ask
 ask_of who key x = record { caller = who; key = key; request = x }
 
 -- what is known of a request that is granted
@@ -156,7 +156,7 @@ start-allowed index count h now user plan who key quiz g here whole newer =
 
 -- ---- a step or a finish
 
-abbrev made_ready : Plan → Plan
+abbrev pub made_ready : Plan → Plan
 made_ready plan = record plan { ready = true }
 
 -- a request on an attempt asks nothing of whether the quiz is ready
