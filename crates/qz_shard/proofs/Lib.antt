@@ -9,3 +9,4 @@ pub mod PlayLemmas
 pub mod Allowing
 pub mod Making
 pub mod StepLemmas
+pub mod GradeLemmas

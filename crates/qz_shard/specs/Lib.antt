@@ -5,3 +5,4 @@ pub mod Plays
 pub mod Replays
 pub mod Nexts
 pub mod Answering
+pub mod Grades

@@ -6,6 +6,7 @@ mod attempts;
 mod callers;
 mod decision;
 mod fates;
+mod grades;
 mod history;
 mod keys;
 mod missing;
