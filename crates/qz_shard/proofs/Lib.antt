@@ -1,0 +1,12 @@
+pub mod HistoryLemmas
+pub mod DecisionLemmas
+pub mod Legality
+pub mod Numbered
+pub mod Keeping
+pub mod ReadingLemmas
+pub mod Learning
+pub mod PlayLemmas
+pub mod Allowing
+pub mod Making
+pub mod StepLemmas
+pub mod GradeLemmas

@@ -1,0 +1,49 @@
+-- What a slot that is played again promises.
+use Rattle.std.specs.Prelude.{◌≡◌, ℕ, true, List, map, zip, filter_map, Option, Some, None, Result, MatchResult}
+use Rattle.qz_grading.specs.declared.outcome.Moved.{Moved}
+use Rattle.qz_grading.specs.declared.question.Question.{Question}
+use Rattle.qz_grading.specs.declared.refusal.AttemptId.{AttemptId}
+use Rattle.qz_grading.specs.declared.refusal.Refusal.{Refusal}
+use Rattle.qz_grading.specs.declared.response.Step.{Step}
+use Rattle.qz_grading.specs.Behaviours.{moved}
+use Rattle.qz_grading.specs.Slots.{step_cause}
+use Rattle.qz_terms.specs.declared.people.User.{User}
+use Rattle.qz_terms.specs.declared.plan.Plan.{Plan}
+use Rattle.qz_terms.specs.declared.record.Event.{Event}
+use Rattle.qz_terms.specs.declared.record.Record.{Record}
+use Rattle.qz_terms.specs.Answer.{stepped_by}
+use Rattle.qz_terms.specs.Cause.{answering_cause}
+use Rattle.qz_terms.specs.History.{Slot, slot}
+use Rattle.qz_terms.specs.History as history
+use Rattle.qz_terms.specs.Lists.{places_to}
+use Rattle.qz_usage.specs.Runs.{Run, IsBound, behaviour_of}
+use Rattle.qz_usage.specs.Usages.{AreBound, scored}
+use Rattle.qz_shard.specs.Holdings.{is_students_event}
+use Rattle.qz_shard.specs.declared.slots.Played.{Played}
+
+-- the slot that a run plays
+abbrev pub slot_of : Run → Question → Slot
+slot_of r q = record { behaviour = behaviour_of r; bound = r.bound; question = q; steps = r.steps }
+
+-- a slot of a list and its run
+abbrev pub IsSlot : Option Played → Option Slot → Type 0
+IsSlot None s = s ≡ None
+IsSlot (Some p) s = (s ≡ Some (slot_of p.run p.question.now)) × IsBound p.run p.question.now
+
+-- the runs of an attempt's first slots, which count as these slots do
+pub record ArePlayed (h : List Record) (a : AttemptId) (n : ℕ) (runs : List Run) : Type 0 where
+  pub questions : List Question
+  pub bound : AreBound runs questions
+  pub count : map scored (zip runs questions) ≡ map history.scored (filter_map (slot h a) (places_to n))
+
+-- a step is taken on a slot, or refused for its first cause
+abbrev pub IsMove : Slot → Step → Result Moved Refusal → Type 0
+IsMove s x told = MatchResult told
+    (λ m. (step_cause s.behaviour s.question s.bound.max s.steps x ≡ None) × (m ≡ moved s.steps x))
+    (λ r. step_cause s.behaviour s.question s.bound.max s.steps x ≡ Some r)
+
+-- the event of a step on a slot, or the first cause behind the key
+abbrev pub IsStepFate : List Record → ℕ → User → Plan → AttemptId → ℕ → Step → Result Event Refusal → Type 0
+IsStepFate h moment user plan a k x fate = MatchResult fate
+    (λ e. (answering_cause h moment user plan a k x ≡ None) × (e ≡ stepped_by h a k x) × (is_students_event e ≡ true))
+    (λ r. answering_cause h moment user plan a k x ≡ Some r)

@@ -1,0 +1,125 @@
+//! What is done with a request: it is refused, it is answered again, or it makes an event.
+
+ghost use Rattle.std.specs.Prelude.{◌≡◌, length, true, option_map, unwrap_or, Some, None, IfOk};
+ghost use Rattle.qz_grading.specs.Steps.{is_answering};
+ghost use Rattle.qz_terms.specs.Answer.{named_user};
+ghost use Rattle.qz_terms.specs.Kept.{are_settings};
+ghost use Rattle.qz_terms.specs.declared.request.Request.TheVariants as request;
+ghost use Rattle.qz_shard.specs.Decisions.{IsSound, IsFate, IsDecision, IsWhole};
+
+use crate::callers::forbidden;
+use crate::fates::{Fate, fate_of_finish, fate_of_start};
+use crate::keys::{Found, by_key};
+use crate::missing::missing_here;
+use crate::stepping::fate_of_step;
+use qz_grading::{Answer, Refusal, Response, Step, Steps};
+use qz_terms::{Ask, Event, Plan, Record, Request, User};
+use qz_text::{NoMemory, TryCopy};
+use std::alloc::Global;
+use std::sync::ledger::Ledger;
+
+/// What is done with a request.
+pub(crate) enum Decision {
+    Refused(Refusal),
+    /// It is answered as the record at this place, from 0, was.
+    Repeated(usize),
+    /// It makes an event.
+    Made(Event),
+}
+
+/// A response of its own.
+fn response_of(alloc: Global, answer: &Answer, certainty: u8) -> Result<Response, NoMemory>
+    ensures { IfOk result (λ r. r ≡ record { answer = answer.now; certainty = certainty }) }
+{
+    Ok(Response {
+        answer: answer.try_copy(alloc)?,
+        certainty,
+    })
+}
+
+/// What a request comes to, behind the tests of its key. A teacher's mark, a settling and a look have no event here yet, and
+/// give want of memory.
+fn fate<L: Ledger>(
+    alloc: Global,
+    records: &[Record],
+    moment: u64,
+    user: &User,
+    plan: &Plan,
+    request: &Request,
+    steps: &mut Steps<L>,
+) -> Result<Fate, NoMemory>
+    requires sound { IsSound records.now }
+    requires settings { are_settings plan.now.settings ≡ true }
+    requires whole { IsWhole plan.now request.now }
+    ensures { IfOk result (IsFate records.now moment user.now plan.now request.now) }
+{
+    match request {
+        Request::Start { quiz } => fate_of_start(alloc, records, moment, user, plan, *quiz),
+        Request::Save {
+            attempt,
+            slot,
+            certainty,
+            response,
+        } => {
+            let step = Step::Save(response_of(alloc, response, *certainty)?);
+            fate_of_step(alloc, records, moment, user, plan, *attempt, *slot, step, steps)
+        }
+        Request::Submit {
+            attempt,
+            slot,
+            certainty,
+            response,
+        } => {
+            let step = Step::Submit(response_of(alloc, response, *certainty)?);
+            fate_of_step(alloc, records, moment, user, plan, *attempt, *slot, step, steps)
+        }
+        Request::Again { attempt, slot } => fate_of_step(
+            alloc,
+            records,
+            moment,
+            user,
+            plan,
+            *attempt,
+            *slot,
+            Step::Again,
+            steps,
+        ),
+        Request::Finish { attempt } => {
+            Ok(fate_of_finish(records, moment, user, plan, *attempt))
+        }
+        _ => Err(NoMemory),
+    }
+}
+
+/// What is done with a request. The causes for which it may be refused are tested in their order: the rule of callers, what isn't
+/// there, the key, and what lies with the attempt.
+pub(crate) fn decide<L: Ledger>(
+    alloc: Global,
+    records: &[Record],
+    moment: u64,
+    user: &User,
+    plan: &Plan,
+    ask: &Ask,
+    steps: &mut Steps<L>,
+) -> Result<Decision, NoMemory>
+    requires sound { IsSound records.now }
+    requires settings { are_settings plan.now.settings ≡ true }
+    requires whole { IsWhole plan.now ask.now.request }
+    ensures { IfOk result (IsDecision records.now moment user.now plan.now ask.now) }
+{
+    if let Some(refusal) = forbidden(user, &ask.request) {
+        return Ok(Decision::Refused(refusal));
+    }
+    if let Some(refusal) = missing_here(records, user, &ask.request) {
+        return Ok(Decision::Refused(refusal));
+    }
+    match by_key(alloc, records, user.number, ask)? {
+        Some(Found::Same(at)) => return Ok(Decision::Repeated(at)),
+        Some(Found::Other(place)) => return Ok(Decision::Refused(Refusal::KeyReused { place })),
+        None => {}
+    }
+    match fate(alloc, records, moment, user, plan, &ask.request, steps)? {
+        Ok(event) => Ok(Decision::Made(event)),
+        Err(refusal) => Ok(Decision::Refused(refusal)),
+    }
+}

@@ -1,0 +1,88 @@
+//! What a request comes to: the event that it makes, or the first cause for which it is refused.
+
+ghost use Rattle.std.specs.Prelude.{◌≡◌, ◌+◌, ◌-◌, ◌<◌, ◌^◌, length, true, Some, None, IfOk};
+ghost use Rattle.qz_terms.specs.Access.{finish_cause, answer_cause};
+ghost use Rattle.qz_terms.specs.Cause.{time_cause};
+ghost use Rattle.qz_terms.specs.History.{ended_at};
+ghost use Rattle.qz_terms.specs.Kept.{are_settings};
+ghost use Rattle.qz_terms.specs.declared.request.Request.TheVariants as request;
+ghost use Rattle.qz_shard.specs.Decisions.{IsSound, IsFate};
+
+use crate::access::{finish_cause, start_cause};
+use crate::attempts::{attempts, unfinished};
+use crate::history::{ended_at, start};
+use crate::starting::started;
+use qz_grading::{AttemptId, Refusal};
+use qz_terms::{Event, How, Plan, Record, Settings, User};
+use qz_text::NoMemory;
+use std::alloc::Global;
+
+/// The event of a request, or why it is refused.
+pub(crate) type Fate = Result<Event, Refusal>;
+
+/// So many attempts a user makes at a quiz.
+const MOST_ATTEMPTS: u32 = 1_000;
+
+/// What a start comes to.
+pub(crate) fn fate_of_start(
+    alloc: Global,
+    records: &[Record],
+    moment: u64,
+    user: &User,
+    plan: &Plan,
+    quiz: u32,
+) -> Result<Fate, NoMemory>
+    requires sound { IsSound records.now }
+    requires settings { are_settings plan.now.settings ≡ true }
+    requires whole { length plan.now.questions ≡ length plan.now.slots }
+    ensures { IfOk result (IsFate records.now moment user.now plan.now (request.Start quiz)) }
+{
+    let made = attempts(alloc, records, quiz, user.number)?;
+    let goes_on = unfinished(records, &plan.settings, moment, &made);
+    if let Some(refusal) = start_cause(&plan.settings, plan.ready, moment, made.len(), goes_on) {
+        return Ok(Err(refusal));
+    }
+    if made.len() >= MOST_ATTEMPTS as usize {
+        return Ok(Err(Refusal::TooMany {
+            limit: MOST_ATTEMPTS,
+        }));
+    }
+    Ok(Ok(started(alloc, records, user, plan)?))
+}
+
+/// The first cause that lies with time for which a finish is refused.
+fn finish_time(
+    records: &[Record],
+    settings: &Settings,
+    moment: u64,
+    attempt: AttemptId,
+) -> Option<Refusal>
+    requires sound { IsSound records.now }
+    requires settings { are_settings settings.now ≡ true }
+    ensures { result ≡ time_cause (λ began. finish_cause settings.now began moment (ended_at records.now attempt)) records.now attempt }
+{
+    let begun = start(records, attempt)?;
+    let ended = ended_at(records, attempt);
+    finish_cause(settings, begun.moment, moment, ended)
+}
+
+/// What a finish comes to.
+pub(crate) fn fate_of_finish(
+    records: &[Record],
+    moment: u64,
+    user: &User,
+    plan: &Plan,
+    attempt: AttemptId,
+) -> Fate
+    requires sound { IsSound records.now }
+    requires settings { are_settings plan.now.settings ≡ true }
+    ensures { IsFate records.now moment user.now plan.now (request.Finish attempt) result }
+{
+    match finish_time(records, &plan.settings, moment, attempt) {
+        Some(refusal) => Err(refusal),
+        None => Ok(Event::Ended {
+            attempt,
+            how: How::Finished,
+        }),
+    }
+}
