@@ -6,3 +6,4 @@ pub mod Rebinding
 pub mod Saving
 pub mod Highest
 pub mod Isolated
+pub mod Walks

@@ -13,6 +13,8 @@ use Rattle.qz_grading.specs.declared.response.Step.TheVariants as step
 use Rattle.qz_grading.specs.Questions.{IsQuestion, are_no_longer}
 use Rattle.qz_terms.specs.declared.access.Settings.{Settings}
 use Rattle.qz_terms.specs.declared.plan.Bound.{Bound}
+use Rattle.qz_terms.specs.declared.plan.Plan.{Plan}
+use Rattle.qz_terms.specs.declared.plan.Planned.{Planned}
 use Rattle.qz_terms.specs.declared.record.Event.{Event}
 use Rattle.qz_terms.specs.declared.record.Event.TheVariants as event
 use Rattle.qz_terms.specs.declared.record.Learned.{Learned}
@@ -101,3 +103,23 @@ pub record IsKept (r : Record) : Type 0 where
   pub moment : is_moment r.moment ≡ true
   pub settings : unwrap_or (option_map (λ (t : Terms). are_settings t.settings) r.terms) true ≡ true
   pub event : KeepsEvent r.event
+
+-- ---- what is handed over with a request
+
+-- what every request keeps, also one that no record is made of
+abbrev pub KeepsAsked : Request → Type 0
+KeepsAsked (request.Save attempt slot certainty response) = is_answer response ≡ true
+KeepsAsked (request.Submit attempt slot certainty response) = is_answer response ≡ true
+KeepsAsked x = KeepsRequest x
+
+abbrev pub is_planned : Planned → Bool
+is_planned s = int_le (pos 0) s.max && int_le s.max (pos (10000 * one))
+
+-- what every plan keeps
+pub record IsKeptPlan (p : Plan) : Type 0 where
+  pub settings : are_settings p.settings ≡ true
+  pub few : nat_le (length p.slots) 200 ≡ true
+  pub slots : list_all is_planned p.slots ≡ true
+  pub grade : is_quiz_grade p.policy.grade ≡ true
+  pub sum : int_le (pos 0) p.policy.sum && int_le p.policy.sum (pos (2000000 * one)) ≡ true
+  pub questions : AreQuestions p.questions

@@ -1,0 +1,7 @@
+use Rattle.std.proofs.Common.{◌≡◌, take, option_map}
+use Rattle.qz_terms.specs.History.{ended}
+use Rattle.qz_shard.specs.Readings.{start_of}
+use Rattle.qz_shard.proofs.history.ended.Given as goal
+
+abbrev pub invariant-loop-record : goal.invariant-loop-record
+invariant-loop-record l = l.found ≡ ended (take l.record-index l.records) l.attempt

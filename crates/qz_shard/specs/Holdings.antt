@@ -1,0 +1,107 @@
+-- What a shard is seen as, what is asked of it, and how it answers.
+use Rattle.std.specs.Prelude.{◌≡◌, ℕ, ◌<◌, ◌-◌, ◌^◌, ◌⊎◌, Bool, true, false, not, List, [], ◌∷◌, ◌++◌, length, if◌then◌else◌, nat_lt, nat_le, ◌&&◌, Some, None, Option, All}
+use Rattle.std.specs.List.{list_all}
+use Rattle.qz_grading.specs.declared.refusal.Refusal.TheVariants as refusal
+use Rattle.qz_grading.specs.Steps.{is_mark}
+use Rattle.qz_terms.specs.declared.ask.Ask.{Ask}
+use Rattle.qz_terms.specs.declared.people.User.{User}
+use Rattle.qz_terms.specs.declared.plan.Plan.{Plan}
+use Rattle.qz_terms.specs.declared.record.Event.{Event}
+use Rattle.qz_terms.specs.declared.record.Event.TheVariants as event
+use Rattle.qz_terms.specs.declared.record.Record.{Record}
+use Rattle.qz_terms.specs.declared.reply.Reply.{Reply}
+use Rattle.qz_terms.specs.declared.reply.Reply.TheVariants as reply
+use Rattle.qz_terms.specs.declared.request.Request.{Request}
+use Rattle.qz_terms.specs.declared.request.Request.TheVariants as request
+use Rattle.qz_terms.specs.Answer.{answer_here, list_after, said}
+use Rattle.qz_terms.specs.Cause.{forbidden, is_keyed, missing_here, spells}
+use Rattle.qz_terms.specs.History as history
+use Rattle.qz_terms.specs.Kept.{IsKept, IsKeptPlan, KeepsAsked, is_moment}
+use Rattle.qz_terms.specs.Legal.{IsLegal, is_here, is_plan_for}
+
+-- a shard with this index, of so many, and its records
+pub record Holding : Type 0 where
+  pub index : ℕ
+  pub count : ℕ
+  pub records : List Record
+
+-- ---- what every shard keeps
+
+-- there are from 1 to 64 shards
+abbrev pub is_shard : ℕ → ℕ → Bool
+is_shard index count = nat_lt index count && nat_le count 64
+
+-- no job has bound anything yet, and no teacher has marked
+abbrev pub is_students_event : Event → Bool
+is_students_event (event.Started quiz nth behaviour bounds learned) = true
+is_students_event (event.Acted a k x) = not (is_mark x)
+is_students_event (event.Noted a k x) = true
+is_students_event (event.Ended a how) = true
+is_students_event e = false
+
+abbrev pub is_students : Record → Bool
+is_students r = is_students_event r.event
+
+pub record IsHeld (index count : ℕ) (h : List Record) : Type 0 where
+  pub shard : is_shard index count ≡ true
+  pub legal : IsLegal index count h
+  pub kept : All IsKept h
+  pub students : list_all is_students h ≡ true
+  pub few : length h < 2 ^ 32 - 1
+
+-- ---- what is asked
+
+-- a request that may put a record
+abbrev pub is_change : Request → Bool
+is_change (request.Start quiz) = true
+is_change (request.Save attempt slot certainty response) = true
+is_change (request.Submit attempt slot certainty response) = true
+is_change (request.Again attempt slot) = true
+is_change (request.Finish attempt) = true
+is_change (request.Mark attempt slot mark) = true
+is_change (request.Settle attempt) = true
+is_change x = false
+
+-- a request that only looks
+abbrev pub is_look : Request → Bool
+is_look (request.View attempt slot) = true
+is_look (request.Total attempt) = true
+is_look (request.Page attempt) = true
+is_look (request.Grade quiz owner) = true
+is_look x = false
+
+-- It has a key where it has to, the plan is of the quiz that is meant, and all is in range.
+pub record IsAsked (h : List Record) (plan : Plan) (ask : Ask) (moment : ℕ) : Type 0 where
+  pub keyed : is_keyed ask ≡ true
+  pub of_quiz : is_plan_for h plan ask.request ≡ true
+  pub kept_plan : IsKeptPlan plan
+  pub kept_request : KeepsAsked ask.request
+  pub kept_moment : is_moment moment ≡ true
+
+-- a start comes to its user's shard, with a question for each slot
+abbrev pub StartsHere : Holding → User → Plan → Request → Type 0
+StartsHere s user plan (request.Start quiz) = (is_here s.index s.count user.number ≡ true) × (length plan.questions ≡ length plan.slots)
+StartsHere s user plan x = Unit {0}
+
+-- ---- how it answers
+
+-- where a start's plan is older than a job that is done, the position of that job
+abbrev pub older : List Record → Plan → Request → Option ℕ
+older h plan (request.Start quiz) = if nat_lt plan.at (history.floor h plan.quiz) then Some (history.floor h plan.quiz) else None
+older h plan x = None
+
+-- the reply is the answer and the list is what it leaves, or memory was wanting and the list is as it was
+abbrev pub Answers : List Record → ℕ → User → Plan → Ask → Reply → List Record → Type 0
+Answers h now user plan ask told g =
+    ((told ≡ answer_here h now user plan ask) × (g ≡ list_after h now user plan ask))
+    ⊎ ((told ≡ reply.Refused refusal.Memory) × (g ≡ h))
+
+-- ---- a request that is asked again
+
+-- A record of this caller with this key, which spells this request, is answered again by what was said of it, whatever came
+-- since, and nothing is added.
+pub record IsAnsweredAgain (index count : ℕ) : Type 0 where
+  pub again : (l rest : List Record) (r : Record) (key : List ℕ) (now : ℕ) (user : User) (plan : Plan) (ask : Ask)
+      → IsLegal index count (l ++ r ∷ rest) → r.caller ≡ user.number → r.key ≡ Some key → ask.key ≡ Some key → spells ask.request r ≡ true
+      → forbidden user ask.request ≡ None → missing_here (l ++ r ∷ rest) user ask.request ≡ None
+      → (answer_here (l ++ r ∷ rest) now user plan ask ≡ said (l ++ r ∷ []) r) × (list_after (l ++ r ∷ rest) now user plan ask ≡ l ++ r ∷ rest)

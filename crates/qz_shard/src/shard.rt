@@ -1,0 +1,141 @@
+//! A shard and what is asked of it.
+
+ghost use Rattle.std.specs.Prelude.{◌≡◌, ◌⊎◌, ◌≤◌, List, [], length, true, false, Some, None, option_map, IfOk, IfErr, OnOk, OnErr, MatchResult};
+ghost use Rattle.qz_grading.specs.declared.refusal.Refusal.TheVariants as refusal;
+ghost use Rattle.qz_terms.specs.History.{quiz};
+ghost use Rattle.qz_terms.specs.Legal.{IsLegal};
+ghost use Rattle.qz_shard.specs.Holdings.{is_shard, is_change, is_look, IsAsked, StartsHere, older, Answers, IsAnsweredAgain};
+
+use qz_grading::{AttemptId, Refusal, Steps, Thing};
+use crate::history::{floor, start};
+use qz_terms::{Ask, Plan, Record, Reply, Request, User};
+use qz_text::Listed;
+use std::alloc::Global;
+use std::marker::Model;
+use std::sync::ledger::Ledger;
+
+/// A start's plan is older than a job that is done here. It is to be read again, from a catalogue that has at least the
+/// position `floor`.
+#[derive(Clone, Copy, Debug, PartialEq, Eq)]
+pub struct Older {
+    pub floor: u64,
+}
+
+/// The records of the attempts of a part of the users: those whose number, modulo the number of shards, is the shard's index.
+///
+/// It keeps nothing else, and each call reads the whole list, a fixed number of times for each slot or attempt that the
+/// request is about.
+#[derive(Drop)]
+pub struct Shard {
+    index: u8,
+    count: u8,
+    records: Listed<Record>,
+}
+
+impl Model for Shard {
+    ghost use Rattle.qz_shard.specs.Holdings.{Holding, IsHeld};
+
+    ghost Value = { Holding };
+
+    ghost view = { λ s. record { index = s.index; count = s.count; records = s.records } };
+
+    ghost invariant = { λ s. IsHeld s.index s.count s.records };
+}
+
+impl Shard {
+    /// A shard without a record: one of `count` shards, which are from 1 to 64.
+    pub fn new(alloc: Global, index: u8, count: u8) -> Shard
+        requires { is_shard index count ≡ true }
+        ensures { result ≡ record { index = index; count = count; records = [] } }
+    {
+        Shard {
+            index,
+            count,
+            records: Listed::empty(alloc),
+        }
+    }
+
+    /// The number of records.
+    pub fn len(&self) -> u64
+        ensures count { result ≡ length self.now.records }
+        ensures legal { IsLegal self.now.index self.now.count self.now.records }
+    {
+        self.records.as_slice().len() as u64
+    }
+
+    /// The quiz of an attempt. Where there is no such attempt it is `Unknown`.
+    pub fn quiz_of(&mut self, attempt: AttemptId) -> Result<u32, Refusal>
+        ensures there { IfOk result (λ q. quiz self.old.records attempt ≡ Some q) }
+        ensures missing { IfErr result (λ r. (quiz self.old.records attempt ≡ None) × (r ≡ Refusal.Unknown Thing.Attempt)) }
+        ensures unchanged { self.new ≡ self.old }
+    {
+        match start(self.records.as_slice(), attempt) {
+            Some(begun) => Ok(begun.quiz),
+            None => Err(Refusal::Unknown {
+                what: Thing::Attempt,
+            }),
+        }
+    }
+
+    /// Answers a request that may change the list: a start, a save, a submit, an again, a finish, a mark or a settling, at this
+    /// moment by the clock, in seconds since 1970.
+    ///
+    /// The plan is of the quiz that the request names, or of that of the attempt that it names, where it is there. The reply is
+    /// the answer over the list before, and the list afterwards has the answer's record at its end where the answer puts one. A
+    /// refusal adds nothing, and neither does a request whose caller and key stand with the same request already: it gets the
+    /// reply of that one. Where memory is wanting the reply is `Memory` and the list is as before. A start whose plan is older
+    /// than a job that is done here is `Older`, and changes nothing.
+    pub fn apply<L: Ledger>(
+        &mut self,
+        alloc: Global,
+        user: &User,
+        plan: &Plan,
+        ask: &Ask,
+        moment: u64,
+        steps: &mut Steps<L>,
+    ) -> Result<Reply, Older>
+        requires change { is_change ask.now.request ≡ true }
+        requires asked { IsAsked self.old.records plan.now ask.now moment }
+        requires here { StartsHere self.old user.now plan.now ask.now.request }
+        ensures answer { IfOk result (λ told. Answers self.old.records moment user.now plan.now ask.now told self.new.records) }
+        ensures newer { OnOk result (older self.old.records plan.now ask.now.request ≡ None) }
+        ensures older { IfErr result (λ o. older self.old.records plan.now ask.now.request ≡ Some o.floor) }
+        ensures unchanged { OnErr result (self.new ≡ self.old) }
+        ensures shard { (self.new.index ≡ self.old.index) × (self.new.count ≡ self.old.count) }
+    {
+        if let Some(floor) = self.older(plan, &ask.request) {
+            return Err(Older { floor });
+        }
+        Ok(Reply::Refused(Refusal::Memory))
+    }
+
+    /// Answers a request that only looks: a view, a total, a page or a grade. The list stays as it is, and where memory is wanting
+    /// the reply is `Memory`.
+    pub fn look<L: Ledger>(
+        &mut self,
+        alloc: Global,
+        user: &User,
+        plan: &Plan,
+        ask: &Ask,
+        moment: u64,
+        steps: &mut Steps<L>,
+    ) -> Reply
+        requires look { is_look ask.now.request ≡ true }
+        requires asked { IsAsked self.old.records plan.now ask.now moment }
+        ensures answer { Answers self.old.records moment user.now plan.now ask.now result self.old.records }
+        ensures unchanged { self.new ≡ self.old }
+    {
+        Reply::Refused(Refusal::Memory)
+    }
+
+    /// The floor of the quiz, where the plan of a start is older.
+    fn older(&self, plan: &Plan, request: &Request) -> Option<u64>
+        ensures { result ≡ older self.now.records plan.now request.now }
+    {
+        let Request::Start { .. } = request else {
+            return None;
+        };
+        let floor = floor(self.records.as_slice(), plan.quiz);
+        (plan.at < floor).then_some(floor)
+    }
+}
