@@ -5,3 +5,5 @@ pub mod TrackedLemmas
 pub mod ReplayLemmas
 pub mod PartLemmas
 pub mod AskingLemmas
+pub mod KeptLemmas
+pub mod InputLemmas

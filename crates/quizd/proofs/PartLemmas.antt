@@ -57,3 +57,34 @@ some-cons c b bs false goes_on rest = (b ∷ rest.0, rest.1, rw goes_on (ap (ont
 pub some_part : (c : ℕ) (text : List ℕ) → (w : List ℕ) × (ws : List (List ℕ)) × (parts_at c text ≡ w ∷ ws)
 some_part c [] = ([], [], refl)
 some_part c (b ∷ bs) = some-cons c b bs (is c b) refl (some_part c bs)
+
+-- ---- two texts, one behind the other
+
+-- the last of some parts joined with the first of others
+abbrev pub glued : List (List ℕ) → List (List ℕ) → List (List ℕ)
+glued [] more = more
+glued (x ∷ []) [] = x ∷ []
+glued (x ∷ []) (y ∷ ys) = (x ++ y) ∷ ys
+glued (x ∷ y ∷ ys) more = x ∷ glued (y ∷ ys) more
+
+glued-onto : (b : ℕ) (w : List ℕ) (ws more : List (List ℕ)) → onto_first b (glued (w ∷ ws) more) ≡ glued ((b ∷ w) ∷ ws) more
+glued-onto b w [] [] = refl
+glued-onto b w [] (y ∷ ys) = refl
+glued-onto b w (v ∷ vs) more = refl
+
+append-cons : (c b : ℕ) (bs ys : List ℕ) (t : Bool) → is c b ≡ t → parts_at c (bs ++ ys) ≡ glued (parts_at c bs) (parts_at c ys) → parts_at c (b ∷ (bs ++ ys)) ≡ glued (parts_at c (b ∷ bs)) (parts_at c ys)
+append-cons c b bs ys true ends more =
+    let some = some_part c bs in
+    rw (ends, more, some.2) refl
+append-cons c b bs ys false goes_on more =
+    let some = some_part c bs in
+    rw (goes_on, more, some.2) (glued-onto b some.0 some.1 (parts_at c ys))
+
+pub parts-append : (c : ℕ) (xs ys : List ℕ) → parts_at c (xs ++ ys) ≡ glued (parts_at c xs) (parts_at c ys)
+parts-append c [] ys = let some = some_part c ys in rw some.2 refl
+parts-append c (b ∷ bs) ys = append-cons c b bs ys (is c b) refl (parts-append c bs ys)
+
+pub glued-more : (front : List (List ℕ)) (w : List ℕ) (ws more : List (List ℕ)) → glued (front ++ w ∷ ws) more ≡ front ++ glued (w ∷ ws) more
+glued-more [] w ws more = refl
+glued-more (x ∷ []) w ws more = refl
+glued-more (x ∷ y ∷ ys) w ws more = ap (λ (l : List (List ℕ)). x ∷ l) (glued-more (y ∷ ys) w ws more)

@@ -5,6 +5,7 @@ pub mod Narrow
 pub mod Tracked
 pub mod Words
 pub mod Asking
+pub mod Inputs
 pub mod Replies
 pub mod Endings
 pub mod ReplayEndings

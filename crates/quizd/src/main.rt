@@ -9,6 +9,8 @@ mod replay;
 mod replies;
 mod run;
 mod saying;
+mod script_input;
+mod script_line;
 mod slot;
 mod stop;
 mod taken;

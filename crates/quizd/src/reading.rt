@@ -1,9 +1,10 @@
 //! Reading a replay text: the five lines of its head, and the line of a step.
 
-ghost use Rattle.std.specs.Prelude.{◌≡◌, ◌≤◌, [], List, length, replicate, Some, IfSome, IfOk};
+ghost use Rattle.std.specs.Prelude.{◌≡◌, ◌≤◌, [], List, length, replicate, true, Some, IfSome, IfOk};
 ghost use Rattle.qz_decimal.specs.Numbers.{IsMaxMark};
 ghost use Rattle.qz_decimal.specs.Reading.{IsWrittenFraction};
 ghost use Rattle.qz_grading.specs.Questions.{IsQuestion};
+ghost use Rattle.qz_terms.specs.Kept.{is_answer};
 ghost use Rattle.quizd.specs.Lines.{lines_of, after};
 ghost use Rattle.quizd.specs.Narrow.{IsPlayable, IsPlayed};
 ghost use Rattle.quizd.specs.Readings.{Gives};
@@ -77,8 +78,10 @@ fn question_on(line: &[u8]) -> Option<bool>
     None
 }
 
+/// The answer that a word gives.
 pub fn answer_in(word: &[u8]) -> Option<Answer>
-    ensures { result ≡ answer_of word.now }
+    ensures value { result ≡ answer_of word.now }
+    ensures kept { IfSome result (λ a. is_answer a ≡ true) }
 {
     if word == b"blank".as_slice() {
         return Some(Answer::Blank);
