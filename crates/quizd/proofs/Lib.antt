@@ -7,3 +7,4 @@ pub mod PartLemmas
 pub mod AskingLemmas
 pub mod KeptLemmas
 pub mod InputLemmas
+pub mod ScriptLemmas

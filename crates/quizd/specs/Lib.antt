@@ -8,5 +8,6 @@ pub mod Asking
 pub mod Inputs
 pub mod Replies
 pub mod Endings
+pub mod Scripts
 pub mod ReplayEndings
 pub mod Commands

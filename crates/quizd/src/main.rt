@@ -3,12 +3,14 @@
 
 mod asking;
 mod command;
+mod desk;
 mod lines;
 mod reading;
 mod replay;
 mod replies;
 mod run;
 mod saying;
+mod script;
 mod script_input;
 mod script_line;
 mod slot;
