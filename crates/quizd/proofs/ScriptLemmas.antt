@@ -349,3 +349,16 @@ serves_within limit a old new (Some stop.TooLong) text e is within source sink =
 
 pub serves_all : (limit : ℕ) (a : Lists) (old new : Outside) (s : Option Stop) → ServeEnds limit a old new s → ServesAll limit old new (status_of s)
 serves_all limit a old new s e = record { done = λ text is within source sink. serves_within limit a old new s text e is within source sink }
+
+-- nothing was read, and nothing written
+pub none_served : (a : Lists) (left : Option (List ℕ)) (before : ℕ) (holds : Option (List ℕ)) (early : ℕ) → ScriptCut a (outside left before holds early) (outside left before holds early)
+none_served a left before holds early = record {
+  bytes = [];
+  lines = [];
+  output = [];
+  after = a;
+  taken = Consumes-nil left;
+  first = inl ([], refl);
+  answered = nothing_answered a;
+  written = record { front = []; rest = []; split = refl; appends = Appends-nil holds };
+}
