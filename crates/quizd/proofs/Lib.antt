@@ -8,3 +8,5 @@ pub mod AskingLemmas
 pub mod KeptLemmas
 pub mod InputLemmas
 pub mod ScriptLemmas
+pub mod DeskLemmas
+pub mod PlainLemmas

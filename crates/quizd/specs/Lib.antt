@@ -9,5 +9,6 @@ pub mod Inputs
 pub mod Replies
 pub mod Endings
 pub mod Scripts
+pub mod Plain
 pub mod ReplayEndings
 pub mod Commands

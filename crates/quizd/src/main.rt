@@ -5,6 +5,7 @@ mod asking;
 mod command;
 mod desk;
 mod lines;
+mod plain;
 mod reading;
 mod replay;
 mod replies;
