@@ -25,6 +25,7 @@ use qz_outside::{StdSink, StdSource};
 use qz_text::{NoMemory, Text};
 pub use replay::replay;
 pub use run::run;
+pub use script::script;
 use std::alloc::Global;
 use std::process::ExitCode;
 use std::rt::Env;

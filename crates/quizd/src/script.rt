@@ -4,9 +4,11 @@ ghost use Rattle.std.specs.Prelude.{◌≡◌, ◌<◌, ◌^◌, length, MatchRe
 ghost use Rattle.qz_terms.specs.Serial.{Goes};
 ghost use Rattle.quizd.specs.Asking.{kept_item};
 ghost use Rattle.quizd.specs.Endings.{Ended};
-ghost use Rattle.quizd.specs.Scripts.{AnswersLine, AnswerStops, Says, SayStops, ServeEnds, ServesAll};
+ghost use Rattle.quizd.specs.Plain.{first_lists};
+ghost use Rattle.quizd.specs.Scripts.{AnswersLine, AnswerStops, Says, SayStops, ServeEnds, ServesAll, script_limit};
 
 use crate::desk::Desk;
+use crate::plain::Plain;
 use crate::replies::reply_onto;
 use crate::script_input::{Given, ScriptInput};
 use crate::script_line::{Misread, ScriptLine};
@@ -19,6 +21,28 @@ use std::alloc::Global;
 
 /// So many bytes one call reads at most.
 const CHUNK: usize = 65_536;
+
+/// A script has at most so many bytes.
+const LIMIT: usize = 1_073_741_824;
+
+/// Answers the lines of a script over a school in memory, and answers the exit status.
+///
+/// Each reply is written before the next line is read, and the last line, which may lack its line feed, is answered at the end of the
+/// source. With status 9 the source has more than 1,073,741,824 bytes.
+pub fn script<S: Source, O: Sink>(alloc: Global, source: &mut S, sink: &mut O) -> u8
+    ensures ended { Ended
+        (ServeEnds script_limit first_lists
+        (record { left = S.left source.old; source_faults = S.faults source.old; holds = O.holds sink.old; sink_faults = O.faults sink.old })
+        (record { left = S.left source.new; source_faults = S.faults source.new; holds = O.holds sink.new; sink_faults = O.faults sink.new }))
+        result }
+    ensures complete { ServesAll script_limit
+        (record { left = S.left source.old; source_faults = S.faults source.old; holds = O.holds sink.old; sink_faults = O.faults sink.old })
+        (record { left = S.left source.new; source_faults = S.faults source.new; holds = O.holds sink.new; sink_faults = O.faults sink.new })
+        result }
+{
+    let mut desk = Plain::new(alloc);
+    serve(alloc, LIMIT, &mut desk, source, sink)
+}
 
 /// Answers the lines of a source over a desk, each before the next is read, and answers the exit status.
 ///
