@@ -26,14 +26,16 @@ first_is c text k found = by (nat_lt (position_or_len (is c) text) (length text)
 
 pub cut_at : (c : ℕ) (text : List ℕ) (k : ℕ) → position_from (is c) 0 text ≡ Some k → IsCutAt c text (take k text) (drop (k + 1) text)
 cut_at c text k found = subst (λ (n : ℕ). IsCutAt c text (take n text) (drop (n + 1) text)) first.place (record {
-    joined = split_at_first (is c) text 0 inside ∙ ap (λ (b : ℕ). take n text ++ b ∷ drop (n + 1) text) (eqb-true _ _ (passes_at_first (is c) text 0 inside));
-    parts = slice_split_first (is c) text 0 inside;
-  })
+  joined = split_at_first (is c) text 0 inside ∙ ap (λ (b : ℕ). take n text ++ b ∷ drop (n + 1) text) (eqb-true _ _ (passes_at_first (is c) text 0 inside));
+  parts = slice_split_first (is c) text 0 inside;
+})
   where
     first : IsFirst c text k
     first = first_is c text k found
+
     n : ℕ
     n = position_or_len (is c) text
+
     inside : position_or_len (is c) text < length text
     inside = subst (λ (m : ℕ). m < length text) (sym first.place) first.inside
 

@@ -145,19 +145,19 @@ pub record IsServed (a b : Lists) (left rest holds written : Option (List ℕ)) 
 
 pub serves_none : (a : Lists) (left holds : Option (List ℕ)) (before early : ℕ) (buffer : Buffer) (limit : ℕ) → buffer ≡ record { held = []; read = 0; limit = limit } → IsServed a a left left holds holds before before early early buffer limit
 serves_none a left holds before early buffer limit fresh = rw fresh (record {
-    bytes = [];
-    lines = [];
-    output = [];
-    taken = Consumes-nil left;
-    count = refl;
-    limit_is = refl;
-    within = omega arith;
-    parts = refl;
-    answered = nothing_answered a;
-    appends = Appends-nil holds;
-    read_later = omega arith;
-    written_later = omega arith;
-  })
+  bytes = [];
+  lines = [];
+  output = [];
+  taken = Consumes-nil left;
+  count = refl;
+  limit_is = refl;
+  within = omega arith;
+  parts = refl;
+  answered = nothing_answered a;
+  appends = Appends-nil holds;
+  read_later = omega arith;
+  written_later = omega arith;
+})
 
 -- a line was given, and answered
 pub serves_line : (a b c : Lists) (left between rest holds written wrote : Option (List ℕ)) (before during now early mid late : ℕ) (old new : Buffer) (limit : ℕ) (line : ScriptLine) → IsServed a b left between holds written before during early mid old limit

@@ -8,8 +8,8 @@ ghost use Rattle.quizd.specs.Words.{words_of, words_after, moment_of, last_momen
 
 use crate::reading::answer_in;
 use crate::words::{
-    WordFault, attempt_in, certainty_in, first_word, key_in, moment_in, name_in, next_word, slot_in,
-    token_in,
+    WordFault, attempt_in, certainty_in, first_word, key_in, moment_in, name_in, next_word,
+    slot_in, token_in,
 };
 use qz_grading::{Answer, AttemptId};
 use qz_terms::{Ask, Caller, Request};
@@ -51,7 +51,11 @@ fn malformed(place: u32) -> WordFault
 fn end(rest: &[u8], place: u32) -> Result<(), WordFault>
     ensures { Reads (λ x. x) result (end_at place tt (words_after rest.now)) }
 {
-    if rest.is_empty() { Ok(()) } else { Err(malformed(place)) }
+    if rest.is_empty() {
+        Ok(())
+    } else {
+        Err(malformed(place))
+    }
 }
 
 fn name_at(rest: &mut &[u8], place: u32) -> Result<u32, WordFault>

@@ -20,7 +20,9 @@ pub fn command_of(words: &[Text]) -> Option<Command>
 {
     match words {
         [word] if word.as_str() == "replay" => Some(Command::Replay),
-        [word, folder] if word.as_str() == "script" && folder.as_str() == "memory" => Some(Command::Script),
+        [word, folder] if word.as_str() == "script" && folder.as_str() == "memory" => Some(
+            Command::Script,
+        ),
         _ => None,
     }
 }

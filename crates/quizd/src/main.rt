@@ -14,12 +14,14 @@ mod saying;
 mod script;
 mod script_input;
 mod script_line;
+#[cfg(test)]
+mod script_tests;
 mod slot;
 mod stop;
 mod taken;
-mod words;
 #[cfg(test)]
 mod tests;
+mod words;
 
 use qz_outside::{StdSink, StdSource};
 use qz_text::{NoMemory, Text};

@@ -43,13 +43,7 @@ impl Plain {
 
 // ---- what the catalogue gives
 
-fn user(
-    alloc: Global,
-    number: u32,
-    name: &str,
-    role: Role,
-    token: &str,
-) -> Result<User, NoMemory>
+fn user(alloc: Global, number: u32, name: &str, role: Role, token: &str) -> Result<User, NoMemory>
     ensures { IfOk result (λ made. made ≡ record { number = number; name = name.now; role = role; token = token.now }) }
 {
     Ok(User {
@@ -155,7 +149,10 @@ fn is_read(request: &Request) -> bool
 {
     matches!(
         request,
-        Request::Start { .. } | Request::Save { .. } | Request::Finish { .. } | Request::Grade { .. }
+        Request::Start { .. }
+            | Request::Save { .. }
+            | Request::Finish { .. }
+            | Request::Grade { .. }
     )
 }
 
@@ -280,9 +277,25 @@ impl Plain {
         ensures { Answers self.old.shard.records moment user.now plan ask.now result self.new.shard.records }
     {
         if let Request::Grade { .. } = ask.request {
-            looked::<Brand>(Blank::new(1), &mut self.shard, alloc, user, quiz, ask, moment)
+            looked::<Brand>(
+                Blank::new(1),
+                &mut self.shard,
+                alloc,
+                user,
+                quiz,
+                ask,
+                moment,
+            )
         } else {
-            applied::<Brand>(Blank::new(1), &mut self.shard, alloc, user, quiz, ask, moment)
+            applied::<Brand>(
+                Blank::new(1),
+                &mut self.shard,
+                alloc,
+                user,
+                quiz,
+                ask,
+                moment,
+            )
         }
     }
 

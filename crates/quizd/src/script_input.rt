@@ -125,7 +125,12 @@ impl ScriptInput {
     }
 
     /// The next line. Nothing is read while a whole line is held, and what is read goes through the room.
-    pub fn next<S: Source>(&mut self, alloc: Global, source: &mut S, room: &mut [u8]) -> Result<Given, Stop>
+    pub fn next<S: Source>(
+        &mut self,
+        alloc: Global,
+        source: &mut S,
+        room: &mut [u8],
+    ) -> Result<Given, Stop>
         requires { 0 < length room.old }
         ensures { MatchResult result (GivesNext self.old self.new (S.left source.old) (S.left source.new) (S.faults source.old) (S.faults source.new))
             (NextStops self.old (S.left source.old) (S.left source.new) (S.faults source.old) (S.faults source.new)) }
