@@ -5,3 +5,8 @@ pub mod ReplayLemmas
 pub mod PartLemmas
 pub mod AskingLemmas
 pub mod PlayLemmas
+pub mod KeptLemmas
+pub mod InputLemmas
+pub mod ScriptLemmas
+pub mod DeskLemmas
+pub mod PlainLemmas

@@ -26,14 +26,16 @@ first_is c text k found = by (nat_lt (position_or_len (is c) text) (length text)
 
 pub cut_at : (c : ℕ) (text : List ℕ) (k : ℕ) → position_from (is c) 0 text ≡ Some k → IsCutAt c text (take k text) (drop (k + 1) text)
 cut_at c text k found = subst (λ (n : ℕ). IsCutAt c text (take n text) (drop (n + 1) text)) first.place (record {
-    joined = split_at_first (is c) text 0 inside ∙ ap (λ (b : ℕ). take n text ++ b ∷ drop (n + 1) text) (eqb-true _ _ (passes_at_first (is c) text 0 inside));
-    parts = slice_split_first (is c) text 0 inside;
-  })
+  joined = split_at_first (is c) text 0 inside ∙ ap (λ (b : ℕ). take n text ++ b ∷ drop (n + 1) text) (eqb-true _ _ (passes_at_first (is c) text 0 inside));
+  parts = slice_split_first (is c) text 0 inside;
+})
   where
     first : IsFirst c text k
     first = first_is c text k found
+
     n : ℕ
     n = position_or_len (is c) text
+
     inside : position_or_len (is c) text < length text
     inside = subst (λ (m : ℕ). m < length text) (sym first.place) first.inside
 
@@ -57,3 +59,34 @@ some-cons c b bs false goes_on rest = (b ∷ rest.0, rest.1, rw goes_on (ap (ont
 pub some_part : (c : ℕ) (text : List ℕ) → (w : List ℕ) × (ws : List (List ℕ)) × (parts_at c text ≡ w ∷ ws)
 some_part c [] = ([], [], refl)
 some_part c (b ∷ bs) = some-cons c b bs (is c b) refl (some_part c bs)
+
+-- ---- two texts, one behind the other
+
+-- the last of some parts joined with the first of others
+abbrev pub glued : List (List ℕ) → List (List ℕ) → List (List ℕ)
+glued [] more = more
+glued (x ∷ []) [] = x ∷ []
+glued (x ∷ []) (y ∷ ys) = (x ++ y) ∷ ys
+glued (x ∷ y ∷ ys) more = x ∷ glued (y ∷ ys) more
+
+glued-onto : (b : ℕ) (w : List ℕ) (ws more : List (List ℕ)) → onto_first b (glued (w ∷ ws) more) ≡ glued ((b ∷ w) ∷ ws) more
+glued-onto b w [] [] = refl
+glued-onto b w [] (y ∷ ys) = refl
+glued-onto b w (v ∷ vs) more = refl
+
+append-cons : (c b : ℕ) (bs ys : List ℕ) (t : Bool) → is c b ≡ t → parts_at c (bs ++ ys) ≡ glued (parts_at c bs) (parts_at c ys) → parts_at c (b ∷ (bs ++ ys)) ≡ glued (parts_at c (b ∷ bs)) (parts_at c ys)
+append-cons c b bs ys true ends more =
+    let some = some_part c bs in
+    rw (ends, more, some.2) refl
+append-cons c b bs ys false goes_on more =
+    let some = some_part c bs in
+    rw (goes_on, more, some.2) (glued-onto b some.0 some.1 (parts_at c ys))
+
+pub parts-append : (c : ℕ) (xs ys : List ℕ) → parts_at c (xs ++ ys) ≡ glued (parts_at c xs) (parts_at c ys)
+parts-append c [] ys = let some = some_part c ys in rw some.2 refl
+parts-append c (b ∷ bs) ys = append-cons c b bs ys (is c b) refl (parts-append c bs ys)
+
+pub glued-more : (front : List (List ℕ)) (w : List ℕ) (ws more : List (List ℕ)) → glued (front ++ w ∷ ws) more ≡ front ++ glued (w ∷ ws) more
+glued-more [] w ws more = refl
+glued-more (x ∷ []) w ws more = refl
+glued-more (x ∷ y ∷ ys) w ws more = ap (λ (l : List (List ℕ)). x ∷ l) (glued-more (y ∷ ys) w ws more)

@@ -1,11 +1,17 @@
 -- What a line of a script asks. No word of these requests is a text, so an escape in a word makes it malformed.
-use Rattle.std.specs.Prelude.{ℕ, Bool, true, false, if◌then◌else◌, nat_lt, is_none, is_some, List, [], ◌∷◌, length, Option, Some, None, Result, Ok, Err, bytes_eq, codes}
+use Rattle.std.specs.Prelude.{◌≡◌, ℕ, ◌++◌, not, Bool, true, false, if◌then◌else◌, nat_lt, is_none, is_some, List, [], ◌∷◌, length, Option, Some, None, Result, Ok, Err, bytes_eq, codes}
 use Rattle.std.specs.Str.{is_utf8}
 use Rattle.qz_terms.specs.declared.ask.Ask.{Ask}
 use Rattle.qz_terms.specs.declared.people.Caller.TheVariants as caller
 use Rattle.qz_terms.specs.declared.request.Request.{Request}
 use Rattle.qz_terms.specs.declared.request.Request.TheVariants as request
+use Rattle.qz_terms.specs.Cause.{is_keyed, is_keyless}
+use Rattle.qz_terms.specs.Kept.{KeepsAsked, is_moment}
 use Rattle.qz_terms.specs.Serial.{Line, Unread, Asking}
+use Rattle.quizd.specs.declared.script_line.Misread.{Misread}
+use Rattle.quizd.specs.declared.script_line.Misread.TheVariants as misread
+use Rattle.quizd.specs.declared.script_line.ScriptLine.{ScriptLine}
+use Rattle.quizd.specs.declared.script_line.ScriptLine.TheVariants as script
 use Rattle.quizd.specs.declared.asking.Verb.{Verb}
 use Rattle.quizd.specs.declared.asking.Verb.TheVariants as verb
 use Rattle.quizd.specs.Replay.{◌>>=◌, line_at as word_at, or_line as or_word, answer_of}
@@ -78,16 +84,49 @@ ask_of words = do
   asked ← request_of command.0 command.1
   Ok (moment.0, record { caller = caller.Token token.0; key = key; request = asked })
 
+-- what the law of a shard asks of a request: it has a key where it has to, and all is in range
+pub record CanBeAsked (ask : Ask) (moment : ℕ) : Type 0 where
+  pub keyed : is_keyed ask ≡ true
+  pub kept : KeepsAsked ask.request
+  pub moment_kept : is_moment moment ≡ true
+
+-- a request of this command
+pub record IsOfVerb (v : Verb) (x : Request) : Type 0 where
+  pub keyless : is_keyless x ≡ not (wants_key v)
+  pub kept : KeepsAsked x
+
 -- ---- a line
 
 -- so many bytes a line has at most, its line feed not counted
 abbrev pub line_limit : ℕ
 line_limit = 17825792
 
+-- a line that is too long isn't kept
+abbrev pub kept : List ℕ → ScriptLine
+kept front = if nat_lt line_limit (length front) then script.TooLong else script.Kept front
+
+-- a line with a piece behind it
+abbrev pub with_piece : ScriptLine → List ℕ → ScriptLine
+with_piece script.TooLong piece = script.TooLong
+with_piece (script.Kept front) piece = kept (front ++ piece)
+
 abbrev pub item_by : Result (ℕ × Ask) ℕ → Line
 item_by (Ok x) = Asking x.0 x.1
 item_by (Err place) = Unread place 0
 
 -- a line that is too long isn't read, nor is one that is no UTF-8: both have the place 0
+abbrev pub kept_item : ScriptLine → Line
+kept_item script.TooLong = Unread 0 2
+kept_item (script.Kept line) = if is_utf8 line then item_by (ask_of (words_of line)) else Unread 0 0
+
 abbrev pub line_item : List ℕ → Line
-line_item line = if nat_lt line_limit (length line) then Unread 0 2 else (if is_utf8 line then item_by (ask_of (words_of line)) else Unread 0 0)
+line_item line = kept_item (kept line)
+
+-- what a reader of the code answers: the item, or where memory was wanting none
+abbrev pub IsMisread : Misread → Line → Type 0
+IsMisread misread.Memory item = Unit {0}
+IsMisread (misread.Malformed place rule) item = item ≡ Unread place rule
+
+abbrev pub IsItem : Result (ℕ × Ask) Misread → Line → Type 0
+IsItem (Ok x) item = item ≡ Asking x.0 x.1
+IsItem (Err m) item = IsMisread m item

@@ -3,10 +3,13 @@ pub mod Replay
 pub mod Readings
 pub mod Words
 pub mod Asking
+pub mod Inputs
 pub mod Replies
 pub mod Plays
 pub mod Played
 pub mod Replayed
 pub mod Endings
+pub mod Scripts
+pub mod Plain
 pub mod ReplayEndings
 pub mod Commands

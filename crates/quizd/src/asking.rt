@@ -1,14 +1,15 @@
 //! What a line of a script asks.
 
-ghost use Rattle.std.specs.Prelude.{◌≡◌, ◌≤◌, IfOk};
-ghost use Rattle.quizd.specs.Asking.{verb_of, takes_key, end_at, start_of, save_of, finish_of, grade_of, request_of, ask_of};
+ghost use Rattle.std.specs.Prelude.{◌≡◌, ◌≤◌, true, IfOk};
+ghost use Rattle.qz_terms.specs.Kept.{is_answer};
+ghost use Rattle.quizd.specs.Asking.{verb_of, takes_key, end_at, start_of, save_of, finish_of, grade_of, request_of, ask_of, CanBeAsked, IsOfVerb};
 ghost use Rattle.quizd.specs.Replay.{line_at as word_at, answer_of};
 ghost use Rattle.quizd.specs.Words.{words_of, words_after, moment_of, last_moment, name_of, slot_of, certainty_of, attempt_of, token_of, key_of, Reads};
 
 use crate::reading::answer_in;
 use crate::words::{
-    WordFault, attempt_in, certainty_in, first_word, key_in, moment_in, name_in, next_word, slot_in,
-    token_in,
+    WordFault, attempt_in, certainty_in, first_word, key_in, moment_in, name_in, next_word,
+    slot_in, token_in,
 };
 use qz_grading::{Answer, AttemptId};
 use qz_terms::{Ask, Caller, Request};
@@ -50,7 +51,11 @@ fn malformed(place: u32) -> WordFault
 pub fn end(rest: &[u8], place: u32) -> Result<(), WordFault>
     ensures { Reads (λ x. x) result (end_at place tt (words_after rest.now)) }
 {
-    if rest.is_empty() { Ok(()) } else { Err(malformed(place)) }
+    if rest.is_empty() {
+        Ok(())
+    } else {
+        Err(malformed(place))
+    }
 }
 
 fn name_at(rest: &mut &[u8], place: u32) -> Result<u32, WordFault>
@@ -79,7 +84,8 @@ pub fn certainty_at(rest: &mut &[u8], place: u32) -> Result<u8, WordFault>
 }
 
 pub fn answer_at(rest: &mut &[u8], place: u32) -> Result<Answer, WordFault>
-    ensures { Reads (λ x. (x, words_after rest.new.now)) result (word_at answer_of place (words_after rest.old.now)) }
+    ensures value { Reads (λ x. (x, words_after rest.new.now)) result (word_at answer_of place (words_after rest.old.now)) }
+    ensures kept { IfOk result (λ a. is_answer a ≡ true) }
 {
     match answer_in(next_word(rest, place)?) {
         Some(answer) => Ok(answer),
@@ -89,7 +95,8 @@ pub fn answer_at(rest: &mut &[u8], place: u32) -> Result<Answer, WordFault>
 
 #[tactic(auto, unfolding(crate::specs::Asking::start_of))]
 fn start(mut rest: &[u8]) -> Result<Request, WordFault>
-    ensures { Reads (λ x. x) result (start_of (words_after rest.now)) }
+    ensures value { Reads (λ x. x) result (start_of (words_after rest.now)) }
+    ensures verb { IfOk result (IsOfVerb Verb.Start) }
 {
     let quiz = name_at(&mut rest, 5)?;
     end(rest, 6)?;
@@ -98,7 +105,8 @@ fn start(mut rest: &[u8]) -> Result<Request, WordFault>
 
 #[tactic(auto, unfolding(crate::specs::Asking::save_of))]
 fn save(mut rest: &[u8]) -> Result<Request, WordFault>
-    ensures { Reads (λ x. x) result (save_of (words_after rest.now)) }
+    ensures value { Reads (λ x. x) result (save_of (words_after rest.now)) }
+    ensures verb { IfOk result (IsOfVerb Verb.Save) }
 {
     let attempt = attempt_at(&mut rest, 5)?;
     let slot = slot_at(&mut rest, 6)?;
@@ -115,7 +123,8 @@ fn save(mut rest: &[u8]) -> Result<Request, WordFault>
 
 #[tactic(auto, unfolding(crate::specs::Asking::finish_of))]
 fn finish(mut rest: &[u8]) -> Result<Request, WordFault>
-    ensures { Reads (λ x. x) result (finish_of (words_after rest.now)) }
+    ensures value { Reads (λ x. x) result (finish_of (words_after rest.now)) }
+    ensures verb { IfOk result (IsOfVerb Verb.Finish) }
 {
     let attempt = attempt_at(&mut rest, 5)?;
     end(rest, 6)?;
@@ -124,7 +133,8 @@ fn finish(mut rest: &[u8]) -> Result<Request, WordFault>
 
 #[tactic(auto, unfolding(crate::specs::Asking::grade_of))]
 fn grade(mut rest: &[u8]) -> Result<Request, WordFault>
-    ensures { Reads (λ x. x) result (grade_of (words_after rest.now)) }
+    ensures value { Reads (λ x. x) result (grade_of (words_after rest.now)) }
+    ensures verb { IfOk result (IsOfVerb Verb.Grade) }
 {
     let quiz = name_at(&mut rest, 5)?;
     let user = name_at(&mut rest, 6)?;
@@ -134,7 +144,8 @@ fn grade(mut rest: &[u8]) -> Result<Request, WordFault>
 
 /// The request that the words behind a command make of it.
 fn request(verb: Verb, rest: &[u8]) -> Result<Request, WordFault>
-    ensures { Reads (λ x. x) result (request_of verb (words_after rest.now)) }
+    ensures value { Reads (λ x. x) result (request_of verb (words_after rest.now)) }
+    ensures verb { IfOk result (IsOfVerb verb) }
 {
     match verb {
         Verb::Start => start(rest),
@@ -186,14 +197,15 @@ fn takes_key(verb: Verb, key: &Option<Text>) -> bool
 {
     match verb {
         Verb::Grade => key.is_none(),
-        _ => key.is_some(),
+        Verb::Start | Verb::Save | Verb::Finish => key.is_some(),
     }
 }
 
 /// The moment and the request of a line.
 #[tactic(auto, unfolding(crate::specs::Asking::ask_of))]
 pub fn ask_on(alloc: Global, line: &[u8]) -> Result<(u64, Ask), WordFault>
-    ensures { Reads (λ x. x) result (ask_of (words_of line.now)) }
+    ensures value { Reads (λ x. x) result (ask_of (words_of line.now)) }
+    ensures asked { IfOk result (λ x. CanBeAsked x.1 x.0) }
 {
     let (moment, mut rest) = moment_at(line)?;
     let token = token_at(alloc, &mut rest)?;

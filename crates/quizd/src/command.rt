@@ -10,6 +10,8 @@ use qz_text::Text;
 pub enum Command {
     /// The steps of one slot are replayed.
     Replay,
+    /// The requests of a script are answered over a school in memory.
+    Script,
 }
 
 /// The command that these words are. Any other words are none.
@@ -18,6 +20,9 @@ pub fn command_of(words: &[Text]) -> Option<Command>
 {
     match words {
         [word] if word.as_str() == "replay" => Some(Command::Replay),
+        [word, folder] if word.as_str() == "script" && folder.as_str() == "memory" => Some(
+            Command::Script,
+        ),
         _ => None,
     }
 }

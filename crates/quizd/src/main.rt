@@ -4,23 +4,31 @@
 mod asked;
 mod asking;
 mod command;
+mod desk;
 mod lines;
+mod plain;
 mod played;
 mod reading;
 mod replay;
 mod replies;
 mod run;
 mod saying;
+mod script;
+mod script_input;
+mod script_line;
+#[cfg(test)]
+mod script_tests;
 mod slot;
 mod stop;
-mod words;
 #[cfg(test)]
 mod tests;
+mod words;
 
 use qz_outside::{StdSink, StdSource};
 use qz_text::{NoMemory, Text};
 pub use replay::replay;
 pub use run::run;
+pub use script::script;
 use std::alloc::Global;
 use std::process::ExitCode;
 use std::rt::Env;

@@ -1,9 +1,10 @@
 //! Reading the five lines at the head of a replay text, and words of its lines.
 
-ghost use Rattle.std.specs.Prelude.{◌≡◌, ◌≤◌, [], List, length, replicate, Some, IfSome, IfOk};
+ghost use Rattle.std.specs.Prelude.{◌≡◌, ◌≤◌, [], List, length, replicate, true, Some, IfSome, IfOk};
 ghost use Rattle.qz_decimal.specs.Numbers.{IsMaxMark};
 ghost use Rattle.qz_decimal.specs.Reading.{IsWrittenFraction};
 ghost use Rattle.qz_grading.specs.Questions.{IsQuestion};
+ghost use Rattle.qz_terms.specs.Kept.{is_answer};
 ghost use Rattle.quizd.specs.Lines.{lines_of, after};
 ghost use Rattle.quizd.specs.Plays.{IsPlayable};
 ghost use Rattle.quizd.specs.Readings.{Gives};
@@ -116,8 +117,10 @@ fn question_on(line: &[u8]) -> Option<bool>
     question_in(after(line, b"question ")?)
 }
 
+/// The answer that a word gives.
 pub fn answer_in(word: &[u8]) -> Option<Answer>
-    ensures { result ≡ answer_of word.now }
+    ensures value { result ≡ answer_of word.now }
+    ensures kept { IfSome result (λ a. is_answer a ≡ true) }
 {
     if word == b"blank".as_slice() {
         return Some(Answer::Blank);

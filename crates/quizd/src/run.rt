@@ -5,6 +5,7 @@ ghost use Rattle.quizd.specs.Endings.{Ended};
 
 use crate::command::{Command, command_of};
 use crate::replay::replay;
+use crate::script::script;
 use crate::stop::Stop;
 use qz_outside::{Sink, Source, write_all};
 use qz_text::Text;
@@ -15,7 +16,7 @@ const USAGE: &str =
 
 /// Runs the command that the words name, over a source and a sink, and answers its exit status.
 ///
-/// The command so far is `replay`. Words that are no command are status 2: nothing is read, and the usage line is written. Where
+/// The commands so far are `replay` and `script memory`. Words that are no command are status 2: nothing is read, and the usage line is written. Where
 /// the sink fails under the usage line the status is 5.
 pub fn run<S: Source, O: Sink>(alloc: Global, words: &[Text], source: &mut S, sink: &mut O) -> u8
     ensures ended { Ended
@@ -30,6 +31,7 @@ pub fn run<S: Source, O: Sink>(alloc: Global, words: &[Text], source: &mut S, si
 {
     match command_of(words) {
         Some(Command::Replay) => replay(alloc, source, sink),
+        Some(Command::Script) => script(alloc, source, sink),
         None => show_usage(sink).status(),
     }
 }

@@ -296,7 +296,7 @@ fn other_words_show_the_usage_line(rt: HostRuntime) -> Result<(), Fail> {
     let alloc = rt.alloc();
     let usage =
         "usage: quizd replay | gift check | gift fmt | script FOLDER | found FOLDER SHARDS TOKEN | serve FOLDER PORT WORKERS REGRADERS LINKS | bulk N\n";
-    for word in ["", "Replay", "replay ", "--help", "gift"] {
+    for word in ["", "Replay", "replay ", "--help", "gift", "script"] {
         let (status, written) = run_over(alloc, word, b"", WELL, WELL)?;
         assert_eq!(rt; (status, written.as_str()), (2, usage));
     }

@@ -16,7 +16,7 @@ mod write;
 pub use failed::Failed;
 pub use memory_sink::MemorySink;
 pub use memory_source::MemorySource;
-pub use read::{ReadStop, read_all};
+pub use read::{ReadStop, read_all, read_piece};
 pub use sink::Sink;
 pub use source::Source;
 pub use std_sink::StdSink;

@@ -65,8 +65,9 @@ pub fn read_all<S: Source>(alloc: Global, source: &mut S, limit: usize) -> Resul
     Err(ReadStop::TooLong)
 }
 
-/// Reads one piece into `room`, and puts it behind `items`.
-fn read_piece<S: Source>(
+/// Reads one piece into `room`, puts it behind `items`, and tells how long it is. 0 for a room that isn't empty is the end. After
+/// `Fault` no byte is lost, and after `Memory` the piece is.
+pub fn read_piece<S: Source>(
     source: &mut S,
     room: &mut [u8],
     items: &mut Vec<u8>,

@@ -3,5 +3,5 @@ use Rattle.quizd.specs.Replay.{answer_of}
 use Rattle.quizd.proofs.AskingLemmas.{word_at-reads}
 use Rattle.quizd.proofs.asking.answer_at.Goals as goal
 
-pub returns-in-Some : goal.returns-in-Some
-returns-in-Some c = word_at-reads answer_of c.args.place _ _ _ c.in-Some.answer c.in_ok-next_word.ensures (sym c.in-Some.is ∙ c.answer_in.ensures)
+pub returns-in-Some-clause-value : goal.returns-in-Some-clause-value
+returns-in-Some-clause-value c = word_at-reads answer_of c.args.place _ _ _ c.in-Some.answer c.in_ok-next_word.ensures (sym c.in-Some.is ∙ c.answer_in.ensures.value)

@@ -1,0 +1,13 @@
+use Rattle.std.proofs.Common.{◌+◌, ◌*◌, ◌-◌, ◌<◌, length}
+use Rattle.quizd.proofs.ScriptLemmas.{IsServed}
+use Rattle.quizd.proofs.script.serve_through.Given as goal
+
+abbrev pub invariant-loop-input : goal.invariant-loop-input
+invariant-loop-input g l = record {
+  served : IsServed (g.D.Desk.lists l.fn.desk) (g.D.Desk.lists l.desk) (g.S.Source.left l.fn.source) (g.S.Source.left l.source) (g.O.Sink.holds l.fn.sink) (g.O.Sink.holds l.sink)
+      (g.S.Source.faults l.fn.source) (g.S.Source.faults l.source) (g.O.Sink.faults l.fn.sink) (g.O.Sink.faults l.sink) l.input l.limit;
+  room : 0 < length l.room;
+}
+
+abbrev pub decreases-loop-input : goal.decreases-loop-input
+decreases-loop-input g l = 2 * (l.limit - l.input.read) + length l.input.held

@@ -1,0 +1,12 @@
+use Rattle.std.proofs.Common.{◌-◌, ◌<◌, ℕ, length}
+use Rattle.quizd.proofs.InputLemmas.{IsBegun}
+use Rattle.quizd.proofs.script_input.ScriptInput.next.Given as goal
+
+abbrev pub invariant-loop-longer : goal.invariant-loop-longer
+invariant-loop-longer g l = record {
+  begun : IsBegun l.fn.self l.self (g.S.Source.left l.fn.source) (g.S.Source.left l.source) (g.S.Source.faults l.fn.source) (g.S.Source.faults l.source) l.line;
+  room : 0 < length l.room;
+}
+
+abbrev pub decreases-loop-longer : goal.decreases-loop-longer
+decreases-loop-longer g l = l.self.limit - l.self.read

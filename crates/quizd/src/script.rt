@@ -1,0 +1,164 @@
+//! Answering the lines of a script.
+
+ghost use Rattle.std.specs.Prelude.{◌≡◌, ◌<◌, ◌^◌, length, MatchResult, Some, None};
+ghost use Rattle.qz_terms.specs.Serial.{Goes};
+ghost use Rattle.quizd.specs.Asking.{kept_item};
+ghost use Rattle.quizd.specs.Endings.{Ended};
+ghost use Rattle.quizd.specs.Plain.{first_lists};
+ghost use Rattle.quizd.specs.Scripts.{AnswersLine, AnswerStops, Says, SayStops, ServeEnds, ServesAll, script_limit};
+
+use crate::desk::Desk;
+use crate::plain::Plain;
+use crate::replies::reply_onto;
+use crate::script_input::{Given, ScriptInput};
+use crate::script_line::{Misread, ScriptLine};
+use crate::stop::Stop;
+use qz_grading::Refusal;
+use qz_outside::{Sink, Source, write_all};
+use qz_terms::Reply;
+use qz_text::NoMemory;
+use std::alloc::Global;
+
+/// So many bytes one call reads at most.
+const CHUNK: usize = 65_536;
+
+/// A script has at most so many bytes.
+const LIMIT: usize = 1_073_741_824;
+
+/// Answers the lines of a script over a school in memory, and answers the exit status.
+///
+/// Each reply is written before the next line is read, and the last line, which may lack its line feed, is answered at the end of the
+/// source. With status 9 the source has more than 1,073,741,824 bytes.
+pub fn script<S: Source, O: Sink>(alloc: Global, source: &mut S, sink: &mut O) -> u8
+    ensures ended { Ended
+        (ServeEnds script_limit first_lists
+        (record { left = S.left source.old; source_faults = S.faults source.old; holds = O.holds sink.old; sink_faults = O.faults sink.old })
+        (record { left = S.left source.new; source_faults = S.faults source.new; holds = O.holds sink.new; sink_faults = O.faults sink.new }))
+        result }
+    ensures complete { ServesAll script_limit
+        (record { left = S.left source.old; source_faults = S.faults source.old; holds = O.holds sink.old; sink_faults = O.faults sink.old })
+        (record { left = S.left source.new; source_faults = S.faults source.new; holds = O.holds sink.new; sink_faults = O.faults sink.new })
+        result }
+{
+    let mut desk = Plain::new(alloc);
+    serve(alloc, LIMIT, &mut desk, source, sink)
+}
+
+/// Answers the lines of a source over a desk, each before the next is read, and answers the exit status.
+///
+/// With the statuses 4 (the source failed) and 9 (the source has more than `limit` bytes) the whole lines among what was read within the
+/// limit are answered, and with 5 (the sink failed) and 8 (memory was wanting) the first of them, and a front of the replies is written.
+pub fn serve<D: Desk, S: Source, O: Sink>(
+    alloc: Global,
+    limit: usize,
+    desk: &mut D,
+    source: &mut S,
+    sink: &mut O,
+) -> u8
+    requires { limit < 2 ^ 32 }
+    ensures ended { Ended
+        (ServeEnds limit (D.lists desk.old)
+        (record { left = S.left source.old; source_faults = S.faults source.old; holds = O.holds sink.old; sink_faults = O.faults sink.old })
+        (record { left = S.left source.new; source_faults = S.faults source.new; holds = O.holds sink.new; sink_faults = O.faults sink.new }))
+        result }
+    ensures complete { ServesAll limit
+        (record { left = S.left source.old; source_faults = S.faults source.old; holds = O.holds sink.old; sink_faults = O.faults sink.old })
+        (record { left = S.left source.new; source_faults = S.faults source.new; holds = O.holds sink.new; sink_faults = O.faults sink.new })
+        result }
+{
+    match serve_or_stop(alloc, limit, desk, source, sink) {
+        Ok(()) => 0,
+        Err(stop) => stop.status(),
+    }
+}
+
+fn serve_or_stop<D: Desk, S: Source, O: Sink>(
+    alloc: Global,
+    limit: usize,
+    desk: &mut D,
+    source: &mut S,
+    sink: &mut O,
+) -> Result<(), Stop>
+    requires { limit < 2 ^ 32 }
+    ensures { let ends = ServeEnds limit (D.lists desk.old)
+        (record { left = S.left source.old; source_faults = S.faults source.old; holds = O.holds sink.old; sink_faults = O.faults sink.old })
+        (record { left = S.left source.new; source_faults = S.faults source.new; holds = O.holds sink.new; sink_faults = O.faults sink.new })
+        in MatchResult result (λ _. ends None) (λ stop. ends (Some stop)) }
+{
+    let Ok(mut room) = vec![in alloc; 0u8; CHUNK] else {
+        return Err(Stop::Memory);
+    };
+    serve_through(alloc, limit, desk, source, sink, &mut room)
+}
+
+/// Answers the lines of a source that is read through a room.
+fn serve_through<D: Desk, S: Source, O: Sink>(
+    alloc: Global,
+    limit: usize,
+    desk: &mut D,
+    source: &mut S,
+    sink: &mut O,
+    room: &mut [u8],
+) -> Result<(), Stop>
+    requires limit { limit < 2 ^ 32 }
+    requires room { 0 < length room.old }
+    ensures { let ends = ServeEnds limit (D.lists desk.old)
+        (record { left = S.left source.old; source_faults = S.faults source.old; holds = O.holds sink.old; sink_faults = O.faults sink.old })
+        (record { left = S.left source.new; source_faults = S.faults source.new; holds = O.holds sink.new; sink_faults = O.faults sink.new })
+        in MatchResult result (λ _. ends None) (λ stop. ends (Some stop)) }
+{
+    let mut input = ScriptInput::new(alloc, limit);
+    loop {
+        match input.next(alloc, source, room)? {
+            Given::Line(line) => answer(alloc, desk, sink, &line)?,
+            Given::Last(line) => return answer(alloc, desk, sink, &line),
+            Given::End => return Ok(()),
+        }
+    }
+}
+
+/// Answers a line, and writes its reply.
+fn answer<D: Desk, O: Sink>(
+    alloc: Global,
+    desk: &mut D,
+    sink: &mut O,
+    line: &ScriptLine,
+) -> Result<(), Stop>
+    ensures { MatchResult result
+        (λ _. AnswersLine (D.lists desk.old) (D.lists desk.new) (O.holds sink.old) (O.holds sink.new) (O.faults sink.old) (O.faults sink.new) line.now)
+        (AnswerStops (D.lists desk.old) (D.lists desk.new) (O.holds sink.old) (O.holds sink.new) (O.faults sink.old) (O.faults sink.new) line.now) }
+{
+    match reply_to(alloc, desk, line) {
+        Ok(reply) => say(alloc, sink, &reply),
+        Err(NoMemory) => Err(Stop::Memory),
+    }
+}
+
+/// The reply to a line.
+fn reply_to<D: Desk>(alloc: Global, desk: &mut D, line: &ScriptLine) -> Result<Reply, NoMemory>
+    ensures { MatchResult result (Goes (D.lists desk.old) (D.lists desk.new) (kept_item line.now))
+        (λ _. D.lists desk.new ≡ D.lists desk.old) }
+{
+    match line.item(alloc) {
+        Ok((moment, ask)) => Ok(desk.ask(alloc, &ask, moment)),
+        Err(Misread::Malformed { place, rule }) => {
+            Ok(Reply::Refused(Refusal::Malformed { place, rule }))
+        }
+        Err(Misread::Memory) => Err(NoMemory),
+    }
+}
+
+/// Writes a reply.
+fn say<O: Sink>(alloc: Global, sink: &mut O, reply: &Reply) -> Result<(), Stop>
+    ensures { MatchResult result (λ _. Says (O.holds sink.old) (O.holds sink.new) (O.faults sink.old) (O.faults sink.new) reply.now)
+        (SayStops (O.holds sink.old) (O.holds sink.new) (O.faults sink.old) (O.faults sink.new) reply.now) }
+{
+    let mut said = String::new(alloc);
+    if reply_onto(&mut said, reply).is_err() {
+        return Err(Stop::Memory);
+    }
+    if write_all(sink, said.as_bytes()).is_err() {
+        return Err(Stop::SinkFault);
+    }
+    Ok(())
+}
