@@ -5,4 +5,5 @@ pub mod Narrow
 pub mod Tracked
 pub mod Endings
 pub mod ReplayEndings
+pub mod GiftEndings
 pub mod Commands

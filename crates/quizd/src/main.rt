@@ -2,6 +2,7 @@
 #![tactic(auto)]
 
 mod command;
+mod gift;
 mod lines;
 mod reading;
 mod replay;
@@ -15,6 +16,7 @@ mod tests;
 
 use qz_outside::{StdSink, StdSource};
 use qz_text::{NoMemory, Text};
+pub use gift::gift;
 pub use replay::replay;
 pub use run::run;
 use std::alloc::Global;
