@@ -2,3 +2,4 @@ pub mod Passing
 pub mod Breaks
 pub mod Fronts
 pub mod GatherLemmas
+pub mod ComingLemmas

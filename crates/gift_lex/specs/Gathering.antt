@@ -1,10 +1,11 @@
 -- The same blocks, line by line from the front of a text, as the parts of the lexer say them.
-use Rattle.std.specs.Prelude.{◌≡◌, ℕ, ◌+◌, Bool, true, ◌&&◌, ◌||◌, if◌then◌else◌, ◌==◌, List, [], ◌∷◌, ◌++◌, Option, Some, None}
+use Rattle.std.specs.Prelude.{◌≡◌, ℕ, ◌+◌, Bool, true, ◌&&◌, ◌||◌, if◌then◌else◌, ◌==◌, List, [], ◌∷◌, ◌++◌, map, Option, Some, None}
+use Rattle.std.specs.Option.{option_to_list}
+use Rattle.std.specs.List.{enumerate_from}
 use Rattle.gift_lex.specs.declared.block.Block.{Block}
 use Rattle.gift_lex.specs.declared.block.Piece.TheVariants.{Plain}
 use Rattle.gift_lex.specs.declared.gathering.Started.{Started}
-use Rattle.gift_lex.specs.declared.gathering.Gathering.{Gathering}
-use Rattle.gift_lex.specs.Blocks.{line_feed, carriage_return, with_plain_breaks, Line, between_feeds, is_blank, is_comment, is_category, line_marks}
+use Rattle.gift_lex.specs.Blocks.{line_feed, carriage_return, with_plain_breaks, Line, between_feeds, is_blank, is_comment, is_category, line_marks, block_of, groups}
 
 -- ---- where a line ends
 
@@ -58,7 +59,11 @@ gathered started (line ∷ later) =
     if is_blank line.1 then ended started ++ gathered None later
     else (if at_front started && is_category line.1 then ended (Some (grown started line)) ++ gathered None later else gathered (Some (grown started line)) later)
 
--- a further line is taken: whatever follows it, the blocks are the same
-pub record TakesLine (old new : Gathering) (line : List ℕ) : Type 0 where
-  pub number : new.number ≡ old.number + 1
-  pub same : (later : List Line) → old.done ++ gathered old.started ((old.number + 1, line) ∷ later) ≡ new.done ++ gathered new.started later
+-- a further line is taken, and ends a block or none: whatever follows it, the blocks are the same
+pub record TakesLine (old new : Option Started) (line : Line) (ends : Option Block) : Type 0 where
+  pub same : (later : List Line) → gathered old (line ∷ later) ≡ option_to_list ends ++ gathered new later
+
+-- ---- the blocks of what stands behind so many lines
+
+abbrev pub to_come : ℕ → List ℕ → List Block
+to_come taken rest = map block_of (groups (enumerate_from (taken + 1) (split_lines rest)))

@@ -1,6 +1,7 @@
 //! Blocks, gathered line by line.
 
-ghost use Rattle.std.specs.Prelude.{◌≡◌, ◌++◌, [], None, IfOk, OnOk};
+ghost use Rattle.std.specs.Prelude.{◌≡◌, None, OnOk, IfOk, OnSome};
+ghost use Rattle.std.specs.Option.{option_to_list};
 ghost use Rattle.std.specs.Str.{chars};
 ghost use Rattle.gift_lex.specs.Gathering.{at_front, begun, extended, ended, TakesLine};
 
@@ -10,81 +11,48 @@ use crate::marks::push_marks;
 use qz_text::{Listed, NoMemory};
 use std::alloc::Global;
 
-/// The blocks of the lines taken so far.
-#[derive(Drop)]
-pub(crate) struct Gathering {
-    done: Listed<Block>,
-    started: Option<Started>,
-    number: u32,
-}
-
 /// A block that further lines may join.
 #[derive(Drop)]
-struct Started {
+pub(crate) struct Started {
     line: u32,
     last_line: u32,
     marks: Listed<Piece>,
     only_comments: bool,
 }
 
-impl Gathering {
-    /// Before the first line.
-    pub(crate) fn new(alloc: Global) -> Gathering
-        ensures { result ≡ record { done = []; started = None; number = 0 } }
-    {
-        Gathering {
-            done: Listed::empty(alloc),
-            started: None,
-            number: 0,
-        }
+/// Takes the next line, and gives the block that it ends.
+pub(crate) fn take_line(
+    alloc: Global,
+    started: &mut Option<Started>,
+    number: u32,
+    line: &str,
+) -> Result<Option<Block>, NoMemory>
+    ensures taken { IfOk result (TakesLine started.old started.new (number, chars line.now)) }
+    ensures over { IfOk result (λ block. OnSome block (started.new ≡ None)) }
+{
+    if is_blank(line) {
+        return Ok(end(started));
     }
+    let ends = at_front(started) && is_category(line);
+    let mut grown = begun(alloc, started.take(), number)?;
+    grown.extend(number, line)?;
+    *started = Some(grown);
+    if ends {
+        return Ok(end(started));
+    }
+    Ok(None)
+}
 
-    /// Takes the next line.
-    pub(crate) fn take(&mut self, alloc: Global, line: &str) -> Result<(), NoMemory>
-        ensures { OnOk result (TakesLine self.old self.new (chars line.now)) }
-    {
-        // A text with more lines than this counts is taken as one for which memory is wanting.
-        let number = self.number.checked_add(1).ok_or(NoMemory)?;
-        self.number = number;
-        if is_blank(line) {
-            return self.end();
-        }
-        let ends = at_front(&self.started) && is_category(line);
-        let mut started = begun(alloc, self.started.take(), number)?;
-        started.extend(number, line)?;
-        self.started = Some(started);
-        if ends {
-            return self.end();
-        }
-        Ok(())
+/// Ends the started block, so that no further line joins it, and gives it. Comments alone are none.
+pub(crate) fn end(started: &mut Option<Started>) -> Option<Block>
+    ensures block { option_to_list result ≡ ended started.old }
+    ensures over { started.new ≡ None }
+{
+    let started = started.take()?;
+    if started.only_comments {
+        return None;
     }
-
-    /// Ends the started block, so that no further line joins it. Comments alone are dropped.
-    fn end(&mut self) -> Result<(), NoMemory>
-        ensures { OnOk result (self.new
-            ≡ record self.old { done = self.old.done ++ ended self.old.started; started = None }) }
-    {
-        let Some(started) = self.started.take() else {
-            return Ok(());
-        };
-        if !started.only_comments {
-            self.done.items.push(started.into_block())?;
-        }
-        Ok(())
-    }
-
-    /// The blocks, where no line follows.
-    pub(crate) fn finish(mut self) -> Result<Listed<Block>, NoMemory>
-        ensures { IfOk result (λ found. found ≡ self.done ++ ended self.started) }
-    {
-        self.end()?;
-        let Gathering {
-            done,
-            started: _,
-            number: _,
-        } = self;
-        Ok(done)
-    }
+    Some(started.into_block())
 }
 
 impl Started {

@@ -4,9 +4,7 @@ ghost use Rattle.std.specs.Prelude.{◌≡◌, IfOk};
 ghost use Rattle.gift_lex.specs.Blocks.{blocks_of};
 
 use crate::block::Block;
-use crate::characters::without_order_mark;
-use crate::gathering::Gathering;
-use crate::lines::split_line;
+use crate::cursor::Blocks;
 use qz_text::{Listed, NoMemory};
 use std::alloc::Global;
 
@@ -23,14 +21,10 @@ pub type LexFault = NoMemory;
 pub fn blocks(alloc: Global, text: &str) -> Result<Listed<Block>, LexFault>
     ensures { IfOk result (λ found. found ≡ blocks_of text.now) }
 {
-    let mut gathering = Gathering::new(alloc);
-    let mut rest = without_order_mark(text);
-    loop {
-        let (line, after) = split_line(rest);
-        gathering.take(alloc, line)?;
-        match after {
-            Some(after) => rest = after,
-            None => return gathering.finish(),
-        }
+    let mut coming = Blocks::of(text);
+    let mut found = Listed::empty(alloc);
+    while let Some(block) = coming.next(alloc)? {
+        found.items.push(block)?;
     }
+    Ok(found)
 }

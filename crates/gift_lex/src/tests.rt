@@ -82,3 +82,15 @@ fn copies_blocks(rt: HostRuntime) -> Result<(), Fail> {
     assert_eq!(rt; shown.as_str(), READ);
     Ok(())
 }
+
+#[test]
+fn gives_blocks_one_by_one(rt: HostRuntime) -> Result<(), Fail> {
+    let alloc = rt.alloc();
+    let mut coming = Blocks::of("// c\n\n$CATEGORY: a\nb\n\n// d\nc\n");
+    for lines in [Some((3, 3)), Some((4, 4)), Some((6, 7)), None, None] {
+        let block = coming.next(alloc)?;
+        let found = block.map(|block| (block.line, block.last_line));
+        assert_eq!(rt; found, lines);
+    }
+    Ok(())
+}

@@ -5,7 +5,7 @@ ghost use Rattle.qz_decimal.specs.Numbers.{IsEarnedFraction};
 ghost use Rattle.qz_grading.specs.Grading.{blank, same};
 ghost use Rattle.qz_grading.specs.Questions.{IsQuestion};
 ghost use Rattle.qz_grading.specs.Steps.{is_finish, has_finish, last, last_of, response_of, submitted};
-ghost use Rattle.qz_grading.specs.Behaviours.{complete_under, takes, comes_late, barred, moved, at_finish};
+ghost use Rattle.qz_grading.specs.Behaviours.{complete_under, takes, comes_late, barred, barred_showing, moved, at_finish};
 ghost use Rattle.qz_behave.specs.Machines.{is_played, is_save, response_at, IsAfter, Starts, StepFits};
 ghost use Rattle.qz_behave.specs.Following.{is_deferred, grades_first, IsLastPlace, IsNext, IsOutcome, going_on, ended_with};
 
@@ -153,7 +153,7 @@ impl Machine {
         ensures save { is_save step.now ≡ true → steps.new ≡ steps.old }
         ensures refused_count { OnErr result (steps.new ≡ steps.old) }
     {
-        if let Some(refusal) = self.barred(step) {
+        if let Some(refusal) = self.barred(step, self.outcome.state) {
             return Err(refusal);
         }
         let moved = self.moved(before, step);
@@ -163,10 +163,11 @@ impl Machine {
         Ok(moved)
     }
 
-    /// The first cause for which a step is refused.
-    fn barred(&self, step: &Step) -> Option<Refusal>
+    /// The first cause for which a step is refused, whether or not its response fits. A refusal after the end carries the state
+    /// that is shown.
+    pub fn barred(&self, step: &Step, shown: State) -> Option<Refusal>
         requires { is_played self.now.behaviour ≡ true }
-        ensures { (q : Question) (s : List Step) → IsAfter self.now q s → result ≡ barred self.now.behaviour q s step.now }
+        ensures { (q : Question) (s : List Step) → IsAfter self.now q s → result ≡ barred_showing shown self.now.behaviour q s step.now }
     {
         if !takes(self.behaviour, step) {
             return Some(Refusal::WrongAction {
@@ -174,9 +175,7 @@ impl Machine {
             });
         }
         if self.comes_late(step) {
-            return Some(Refusal::SlotEnded {
-                state: self.outcome.state,
-            });
+            return Some(Refusal::SlotEnded { state: shown });
         }
         None
     }
@@ -193,7 +192,7 @@ impl Machine {
     }
 
     /// Whether a step would be kept, or is the same as the one before.
-    fn moved(&self, before: &[Step], step: &Step) -> Moved
+    pub fn moved(&self, before: &[Step], step: &Step) -> Moved
         requires { response_at before.now self.now.last ≡ last before.now }
         ensures { result ≡ moved before.now step.now }
     {

@@ -1,10 +1,6 @@
--- Worked slots: what one true-false question shows, step by step. Then what responses to the other kinds are worth, and texts.
-use Rattle.std.specs.Prelude.{◌≡◌, true, false, List, [], ◌∷◌, replicate, Option, Some, None, ℕ, ℤ, pos, negsuc, codes, refl}
-use Rattle.qz_grading.specs.declared.outcome.Behaviour.{Behaviour}
+-- Worked answers: what responses to each kind of question are worth, shapes, and texts.
+use Rattle.std.specs.Prelude.{◌≡◌, true, false, List, [], ◌∷◌, ℕ, ℤ, pos, negsuc, codes, refl}
 use Rattle.qz_grading.specs.declared.outcome.Behaviour.TheVariants as behaviour
-use Rattle.qz_grading.specs.declared.outcome.State.{State}
-use Rattle.qz_grading.specs.declared.outcome.State.TheVariants as state
-use Rattle.qz_grading.specs.declared.outcome.Moved.TheVariants.{Same}
 use Rattle.std.specs.Fmt.{digits}
 use Rattle.qz_decimal.specs.Decimals.{decimal_in, digits_in, tens_in, exact_size}
 use Rattle.qz_text.specs.Computing.{patterns}
@@ -19,118 +15,16 @@ use Rattle.qz_grading.specs.declared.question.Pair.{Pair}
 use Rattle.qz_grading.specs.declared.question.Question.{Question}
 use Rattle.qz_grading.specs.declared.question.Rich.{Rich}
 use Rattle.qz_grading.specs.declared.question.Short.{Short}
-use Rattle.qz_grading.specs.declared.refusal.Refusal.TheVariants as refusal
 use Rattle.qz_grading.specs.declared.response.Answer.TheVariants as answer
-use Rattle.qz_grading.specs.declared.response.Response.{Response}
-use Rattle.qz_grading.specs.declared.response.Step.{Step}
-use Rattle.qz_grading.specs.declared.response.Step.TheVariants as step
-use Rattle.qz_grading.specs.Behaviours.{moved, barred}
-use Rattle.qz_grading.specs.Slots.{slot_state, slot_mark, step_cause}
 use Rattle.qz_grading.specs.Grading.{answer_fits, certainty_fits, complete_answer, gradable_answer, grade_answer, shape}
+use Rattle.qz_grading.specs.Shapes.{same_shape}
 use Rattle.qz_grading.specs.Words.{mark_text, grade_text, number_text}
 
 abbrev no_text : Rich
 no_text = record { format = Moodle; text = [] }
 
--- true is right
-abbrev sky : ℤ → ℕ → Question
-sky penalty hints = record { name = []; text = no_text; general = no_text; kind = kind.TrueFalse true no_text no_text; penalty = penalty; hints = replicate hints [] }
-
-abbrev pick : ℕ → ℕ → Response
-pick certainty n = record { answer = answer.Pick n; certainty = certainty }
-
-abbrev shown : Behaviour → Question → ℤ → List Step → State × Option ℤ
-shown b q max s = (slot_state b q s, slot_mark b q max s)
-
 abbrev third : ℤ
 third = pos 3333333
-
--- ---- deferred feedback, max mark 2
-
-pub begins : shown behaviour.Deferred (sky third 0) (pos 20000000) [] ≡ (state.Todo, None)
-begins = refl
-
-pub saved_true : shown behaviour.Deferred (sky third 0) (pos 20000000) (step.Save (pick 0 1) ∷ []) ≡ (state.Complete, None)
-saved_true = refl
-
-pub finished_true : shown behaviour.Deferred (sky third 0) (pos 20000000) (step.Save (pick 0 1) ∷ step.Finish ∷ []) ≡ (state.GradedRight, Some (pos 20000000))
-finished_true = refl
-
-pub finished_false : shown behaviour.Deferred (sky third 0) (pos 20000000) (step.Save (pick 0 2) ∷ step.Finish ∷ []) ≡ (state.GradedWrong, Some (pos 0))
-finished_false = refl
-
-pub finished_blank : shown behaviour.Deferred (sky third 0) (pos 20000000) (step.Finish ∷ []) ≡ (state.GaveUp, None)
-finished_blank = refl
-
--- ended before misfit
-pub refused_after_finish : step_cause behaviour.Deferred (sky third 0) (pos 20000000) (step.Save (pick 0 2) ∷ step.Finish ∷ []) (step.Save (pick 0 3)) ≡ Some (refusal.SlotEnded state.GradedWrong)
-refused_after_finish = refl
-
-pub refused_misfit : step_cause behaviour.Deferred (sky third 0) (pos 20000000) [] (step.Save (pick 0 3)) ≡ Some refusal.Misfit
-refused_misfit = refl
-
-pub refused_submit : step_cause behaviour.Deferred (sky third 0) (pos 20000000) [] (step.Submit (pick 0 1)) ≡ Some (refusal.WrongAction behaviour.Deferred)
-refused_submit = refl
-
--- ---- interactive, max mark 3, two hints: each wrong try costs a third
-
-abbrev two_wrong : List Step
-two_wrong = step.Submit (pick 0 2) ∷ step.Again ∷ step.Submit (pick 0 2) ∷ step.Again ∷ []
-
-abbrev third_try : List Step
-third_try = step.Submit (pick 0 2) ∷ step.Again ∷ step.Submit (pick 0 2) ∷ step.Again ∷ step.Submit (pick 0 1) ∷ []
-
-pub goes_on : shown behaviour.Interactive (sky third 2) (pos 30000000) two_wrong ≡ (state.Todo, None)
-goes_on = refl
-
-pub third_is_right : shown behaviour.Interactive (sky third 2) (pos 30000000) third_try ≡ (state.GradedRight, Some (pos 10000002))
-third_is_right = refl
-
-pub try_again_first : barred behaviour.Interactive (sky third 2) (step.Submit (pick 0 2) ∷ []) (step.Save (pick 0 1)) ≡ Some refusal.NeedsTryAgain
-try_again_first = refl
-
--- ---- adaptive, max mark 2, penalty 0.1
-
-abbrev tenth : ℤ
-tenth = pos 1000000
-
-pub wrong_try : shown behaviour.Adaptive (sky tenth 0) (pos 20000000) (step.Submit (pick 0 2) ∷ []) ≡ (state.Todo, Some (pos 0))
-wrong_try = refl
-
-pub again_the_same : moved (step.Submit (pick 0 2) ∷ []) (step.Submit (pick 0 2)) ≡ Same
-again_the_same = refl
-
-pub right_try : shown behaviour.Adaptive (sky tenth 0) (pos 20000000) (step.Submit (pick 0 2) ∷ step.Submit (pick 0 1) ∷ []) ≡ (state.Complete, Some (pos 18000000))
-right_try = refl
-
-pub best_stays : shown behaviour.Adaptive (sky tenth 0) (pos 20000000) (step.Submit (pick 0 2) ∷ step.Submit (pick 0 1) ∷ step.Finish ∷ []) ≡ (state.GradedRight, Some (pos 18000000))
-best_stays = refl
-
--- ---- deferred feedback with certainty, max mark 1
-
-pub sure_and_wrong : shown behaviour.DeferredCbm (sky third 0) (pos 10000000) (step.Save (pick 3 2) ∷ step.Finish ∷ []) ≡ (state.GradedWrong, Some (negsuc 59999999))
-sure_and_wrong = refl
-
-pub sure_and_right : shown behaviour.DeferredCbm (sky third 0) (pos 10000000) (step.Save (pick 3 1) ∷ step.Finish ∷ []) ≡ (state.GradedRight, Some (pos 30000000))
-sure_and_right = refl
-
--- ---- marked by a teacher: 4 of 5, then bound anew with max mark 3
-
-abbrev given_four : List Step
-given_four = step.Save (pick 0 1) ∷ step.Finish ∷ step.Mark (pos 40000000) (pos 50000000) ∷ []
-
-pub needs_grading : shown behaviour.Manual (sky third 0) (pos 50000000) (step.Save (pick 0 1) ∷ step.Finish ∷ []) ≡ (state.NeedsGrading, None)
-needs_grading = refl
-
-pub given : shown behaviour.Manual (sky third 0) (pos 50000000) given_four ≡ (state.MangrPartial, Some (pos 40000000))
-given = refl
-
-pub rescaled : shown behaviour.Manual (sky third 0) (pos 30000000) given_four ≡ (state.MangrPartial, Some (pos 24000000))
-rescaled = refl
-
--- a save after the teacher's mark: the state that is shown
-pub refused_showing_the_mark : step_cause behaviour.Manual (sky third 0) (pos 50000000) given_four (step.Save (pick 0 1)) ≡ Some (refusal.SlotEnded state.MangrPartial)
-refused_showing_the_mark = refl
 
 -- ---- several choices: who lies in the tomb
 
@@ -200,17 +94,25 @@ partly_gradable = refl
 pub one_for_each_stem : answer_fits things (answer.Match (1 ∷ 1 ∷ 1 ∷ 3 ∷ [])) ≡ false
 one_for_each_stem = refl
 
+-- each answer may be chosen, also the last, and none past it
+pub the_last_answer : answer_fits things (answer.Match (3 ∷ 3 ∷ 3 ∷ [])) ≡ true
+the_last_answer = refl
+
+pub past_the_last_answer : answer_fits things (answer.Match (1 ∷ 1 ∷ 4 ∷ [])) ≡ false
+past_the_last_answer = refl
+
 abbrev asking : Kind → Question
 asking k = record { name = []; text = no_text; general = no_text; kind = k; penalty = third; hints = [] }
 
 pub shape_of_things : shape (asking things) ≡ record { kind = 5; first = 3; second = 3 }
 shape_of_things = refl
 
+-- the same stems, and an answer less to choose from
+pub another_shape : same_shape (record { kind = 5; first = 3; second = 3 }) (record { kind = 5; first = 3; second = 2 }) ≡ false
+another_shape = refl
+
 pub shape_of_tomb : shape (asking tomb) ≡ record { kind = 4; first = 4; second = 0 }
 shape_of_tomb = refl
-
-pub shape_of_sky : shape (sky third 0) ≡ record { kind = 2; first = 0; second = 0 }
-shape_of_sky = refl
 
 -- ---- short answers: the first that fits
 
@@ -273,6 +175,14 @@ one_to_five = kind.Numerical (num (pos 10000000) (extent.Between (pos 1000000000
 pub five_is_within : grade_answer one_to_five (answer.Words (codes "5.")) ≡ pos 10000000
 unfolding decimal_in digits_in tens_in exact_size
 five_is_within = refl
+
+pub one_is_within : grade_answer one_to_five (answer.Words (codes "1")) ≡ pos 10000000
+unfolding decimal_in digits_in tens_in exact_size
+one_is_within = refl
+
+pub less_than_one : grade_answer one_to_five (answer.Words (codes "0.9999999999")) ≡ pos 0
+unfolding decimal_in digits_in tens_in exact_size
+less_than_one = refl
 
 pub more_than_five : grade_answer one_to_five (answer.Words (codes "5.01")) ≡ pos 0
 unfolding decimal_in digits_in tens_in exact_size

@@ -5,6 +5,8 @@ pub mod Behaviours
 pub mod Slots
 pub mod Words
 pub mod Examples
+pub mod ExamplesReplays
+pub mod ExamplesQuestions
 pub mod Shapes
 pub mod Canonical
 pub mod ExamplesCanonical

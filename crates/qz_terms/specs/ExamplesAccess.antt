@@ -1,5 +1,5 @@
 -- Worked settings: what is due, what is set otherwise, and what settings refuse.
-use Rattle.std.specs.Prelude.{◌≡◌, ℕ, true, false, [], ◌∷◌, map, Some, None, refl}
+use Rattle.std.specs.Prelude.{◌≡◌, ℕ, true, false, List, [], ◌∷◌, map, replicate, Some, None, refl}
 use Rattle.qz_grading.specs.declared.outcome.State.TheVariants as state
 use Rattle.qz_grading.specs.declared.refusal.Refusal.TheVariants as refusal
 use Rattle.qz_terms.specs.declared.access.Handling.{Handling}
@@ -8,7 +8,12 @@ use Rattle.qz_terms.specs.declared.access.Override.{Override}
 use Rattle.qz_terms.specs.declared.access.Review.{Review}
 use Rattle.qz_terms.specs.declared.access.Review.TheVariants as review
 use Rattle.qz_terms.specs.declared.access.Settings.{Settings}
+use Rattle.qz_terms.specs.declared.people.Role.TheVariants as role
+use Rattle.qz_terms.specs.declared.request.Request.{Request}
+use Rattle.qz_terms.specs.declared.request.Request.TheVariants as request
 use Rattle.qz_terms.specs.Access.{answer_cause, due, effective, expired, finish_cause, start_cause}
+use Rattle.qz_terms.specs.Catalog.{worker}
+use Rattle.qz_terms.specs.Cause.{may_ask, role_may, rule_of}
 use Rattle.qz_terms.specs.Review.{shown_state, shows_grade, shows_marks}
 
 abbrev limited : ℕ → ℕ → Handling → ℕ → Settings
@@ -123,5 +128,28 @@ close_hides_it = refl
 pub without_closing_it_is_shown : shows_grade (shows review.Close 0) 0 ≡ true
 without_closing_it_is_shown = refl
 
-pub states_behind_a_finish : map (shown_state false) (state.NeedsGrading ∷ state.GaveUp ∷ state.GradedPartial ∷ state.MangrRight ∷ state.Complete ∷ state.Invalid ∷ []) ≡ state.Finished ∷ state.Finished ∷ state.Finished ∷ state.Finished ∷ state.Complete ∷ state.Invalid ∷ []
+pub states_behind_a_finish : map (shown_state false) (state.NeedsGrading ∷ state.GaveUp ∷ state.GradedWrong ∷ state.GradedPartial ∷ state.GradedRight ∷ state.MangrWrong ∷ state.MangrPartial ∷ state.MangrRight ∷ []) ≡ replicate 8 state.Finished
 states_behind_a_finish = refl
+
+pub states_before_it : map (shown_state false) (state.Todo ∷ state.Complete ∷ state.Invalid ∷ state.Finished ∷ []) ≡ state.Todo ∷ state.Complete ∷ state.Invalid ∷ state.Finished ∷ []
+states_before_it = refl
+
+-- ---- who may ask what: rules 1 to 5, of users and groups, of quizzes, of answers, of work, of looks
+
+pub managers : map (role_may role.Manager) (1 ∷ 2 ∷ 3 ∷ 4 ∷ 5 ∷ []) ≡ true ∷ true ∷ false ∷ true ∷ true ∷ []
+managers = refl
+
+pub teachers : map (role_may role.Teacher) (1 ∷ 2 ∷ 3 ∷ 4 ∷ 5 ∷ []) ≡ false ∷ true ∷ false ∷ true ∷ true ∷ []
+teachers = refl
+
+pub students : map (role_may role.Student) (1 ∷ 2 ∷ 3 ∷ 4 ∷ 5 ∷ []) ≡ false ∷ false ∷ true ∷ false ∷ true ∷ []
+students = refl
+
+abbrev of_five : List Request
+of_five = request.Group [] ∷ request.Ready 1 ∷ request.Finish (record { user = 2; nth = 1 }) ∷ request.Jobs ∷ request.Grade 1 2 ∷ []
+
+pub their_rules : map rule_of of_five ≡ 1 ∷ 2 ∷ 3 ∷ 4 ∷ 5 ∷ []
+their_rules = refl
+
+pub workers : map (may_ask worker) of_five ≡ false ∷ false ∷ false ∷ true ∷ false ∷ []
+workers = refl

@@ -94,6 +94,24 @@ nothing_for_a_description = refl
 pub but_zero : told described 100 (by_root (codes "d3") (request.Slot 2 2 (pos 0))) ≡ reply.Ok 10 (done.Slot 1)
 but_zero = refl
 
+-- a quiz that is ready refuses a slot before its max mark
+pub ready_before_range : told school 100 (by_root (codes "d4") (request.Slot 1 1 (negsuc 0))) ≡ reply.Refused (refusal.Closed 7)
+ready_before_range = refl
+
+pub ready_once : told school 100 (by_root (codes "d5") (request.Ready 1)) ≡ reply.Refused (refusal.Closed 7)
+ready_once = refl
+
+-- an import of nothing has no first entry, and one of two has
+pub nothing_imported : told school 100 (by_root (codes "i1") (request.Import (record { items = [] }))) ≡ reply.Ok 8 (done.Imported 0 0)
+nothing_imported = refl
+
+pub two_imported : told school 100 (by_root (codes "i1") (request.Import (record { items = record { category = []; question = sky true } ∷ record { category = []; question = sky false } ∷ [] }))) ≡ reply.Ok 8 (done.Imported 2 2)
+two_imported = refl
+
+-- a job pins what stands at its position: nothing is bound to slots that a later quiz has, and jobs are counted
+pub one_job : told pinned 180 (look root request.Jobs) ≡ reply.Ok 9 (done.Jobs 1)
+one_job = refl
+
 -- ---- tokens and keys
 
 -- a token that a user has, with the place of the record that made this user

@@ -1,5 +1,5 @@
 -- Worked lines: an attempt from its start to its grade, and what is refused around it.
-use Rattle.std.specs.Prelude.{◌≡◌, ℕ, true, List, pos, None, codes, refl}
+use Rattle.std.specs.Prelude.{◌≡◌, ℕ, true, List, [], ◌∷◌, pos, Some, None, codes, refl}
 use Rattle.qz_grading.specs.declared.outcome.State.TheVariants as state
 use Rattle.qz_grading.specs.declared.refusal.Refusal.TheVariants as refusal
 use Rattle.qz_grading.specs.declared.refusal.Thing.TheVariants as thing
@@ -71,6 +71,17 @@ students_make_no_users = refl
 pub nobody_has_the_token : told finished 200 (asked_with (codes "zed") (codes "k1") (request.Start 1)) ≡ reply.Refused refusal.UnknownToken
 nobody_has_the_token = refl
 
+-- ---- looks
+
+pub the_page : told started 112 (look ann (request.Page first_attempt)) ≡ reply.Ok 1 (done.Page first_attempt (codes "Q") None (record { text = codes "Sky"; state = state.Todo; mark = shown.None; hint = None; feedback = []; general = [] } ∷ []))
+the_page = refl
+
+pub one_step_is_viewed : told saved 125 (look ann (request.View first_attempt 1)) ≡ reply.Ok 2 (done.SlotView state.Complete shown.None 1 1)
+one_step_is_viewed = refl
+
+pub the_report : told finished 210 (look (codes "root") (request.Report 1)) ≡ reply.Ok 7 (done.Report (record { user = 2; name = codes "ann"; grade = Some (pos 1000000) } ∷ []))
+the_report = refl
+
 -- ---- what else is refused after the start
 
 pub first_goes_on : told started 115 (asked_with ann (codes "k9") (request.Start 1)) ≡ reply.Refused (refusal.Unfinished first_attempt)
@@ -79,7 +90,7 @@ first_goes_on = refl
 pub managers_start_nothing : told started 116 (asked_with (codes "root") (codes "k1") (request.Start 1)) ≡ reply.Refused (refusal.Forbidden 3)
 managers_start_nothing = refl
 
-pub no_such_quiz : told started 100 (asked_with (codes "root") (codes "a9") (request.Ready 7)) ≡ reply.Refused (refusal.Unknown thing.Quiz)
+pub no_such_quiz : told school 100 (asked_with (codes "root") (codes "a9") (request.Ready 7)) ≡ reply.Refused (refusal.Unknown thing.Quiz)
 no_such_quiz = refl
 
 pub slots_are_fixed : told school 101 (asked_with (codes "root") (codes "b1") (request.Slot 1 1 (pos 20000000))) ≡ reply.Refused (refusal.Closed 7)

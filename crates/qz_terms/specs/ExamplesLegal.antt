@@ -26,7 +26,7 @@ use Rattle.qz_terms.specs.Kept.{IsKept}
 use Rattle.qz_terms.specs.Legal.{Agrees, IsAllowed}
 
 -- the plan of the quiz before and after the correction
-abbrev plan_at_7 : Plan
+abbrev pub plan_at_7 : Plan
 plan_at_7 = record {
   at = 7;
   quiz = 1;
@@ -42,7 +42,7 @@ plan_at_7 = record {
 pub the_plan : catalog.plan school.records 1 2 ≡ Some plan_at_7
 the_plan = refl
 
-abbrev ann : User
+abbrev pub ann : User
 ann = record { number = 2; name = codes "ann"; role = role.Student; token = codes "ann" }
 
 abbrev start : Ask
@@ -54,37 +54,37 @@ save = asked_with (codes "ann") (codes "k2") (request.Save first_attempt 1 0 (an
 abbrev finish : Ask
 finish = asked_with (codes "ann") (codes "k3") (request.Finish first_attempt)
 
-abbrev terms : Option Terms
+abbrev pub terms : Option Terms
 terms = Some (record { at = 7; settings = default_settings })
 
-abbrev anns : ℕ → List ℕ → Event → Record
+abbrev pub anns : ℕ → List ℕ → Event → Record
 anns moment key e = record { moment = moment; caller = 2; owner = 2; key = Some key; terms = terms; event = e }
 
-abbrev sky_1 : Learned
+abbrev pub sky_1 : Learned
 sky_1 = record { entry = 1; version = 1; question = true_false (codes "Sky") true }
 
 abbrev sky_2 : Learned
 sky_2 = record { entry = 1; version = 2; question = true_false (codes "Sky") false }
 
-abbrev bound_at_7 : Bound
+abbrev pub bound_at_7 : Bound
 bound_at_7 = record { entry = 1; version = 1; max = pos 20000000; at = 7 }
 
-abbrev bound_at_9 : Bound
+abbrev pub bound_at_9 : Bound
 bound_at_9 = record { entry = 1; version = 2; max = pos 20000000; at = 9 }
 
-abbrev start_record : Record
+abbrev pub start_record : Record
 start_record = anns 110 (codes "k1") (event.Started 1 1 Deferred (bound_at_7 ∷ []) (sky_1 ∷ []))
 
-abbrev save_record : Record
+abbrev pub save_record : Record
 save_record = anns 120 (codes "k2") (event.Acted first_attempt 1 (step.Save (record { answer = answer.Pick 1; certainty = 0 })))
 
-abbrev finish_record : Record
+abbrev pub finish_record : Record
 finish_record = anns 130 (codes "k3") (event.Ended first_attempt how.Finished)
 
-abbrev rebind_record : Record
+abbrev pub rebind_record : Record
 rebind_record = record { moment = 180; caller = 1; owner = 2; key = None; terms = None; event = event.Rebound 1 first_attempt 1 bound_at_9 (sky_2 ∷ []) }
 
-abbrev done_record : Record
+abbrev pub done_record : Record
 done_record = record { moment = 183; caller = 1; owner = 0; key = None; terms = None; event = event.JobDone 1 1 9 }
 
 pub start_is_allowed : IsAllowed 0 1 [] start_record

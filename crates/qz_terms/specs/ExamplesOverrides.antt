@@ -4,6 +4,7 @@ use Rattle.qz_grading.specs.declared.refusal.Refusal.TheVariants as refusal
 use Rattle.qz_grading.specs.declared.refusal.Thing.TheVariants as thing
 use Rattle.qz_terms.specs.declared.access.Handling.TheVariants as handling
 use Rattle.qz_terms.specs.declared.access.Review.TheVariants as review
+use Rattle.qz_terms.specs.declared.ask.Ask.{Ask}
 use Rattle.qz_terms.specs.declared.record.How.TheVariants as how
 use Rattle.qz_terms.specs.declared.reply.Done.TheVariants as done
 use Rattle.qz_terms.specs.declared.reply.Reply.TheVariants as reply
@@ -23,8 +24,11 @@ root = codes "root"
 abbrev for_group : ℕ → Option ℕ → Request
 for_group number limit = request.Override 1 whom.Group number None None limit None
 
+abbrev limit_to_400 : Ask
+limit_to_400 = asked_with root (codes "b1") (request.Times 1 0 0 400 0 handling.AutoSubmit 0 review.Always)
+
 abbrev limited : School
-limited = then_has school 100 (asked_with root (codes "b1") (request.Times 1 0 0 400 0 handling.AutoSubmit 0 review.Always))
+limited = then_has school 100 limit_to_400
 
 abbrev with_red : School
 with_red = then_has limited 100 (asked_with root (codes "b2") (request.Group (codes "red")))
@@ -50,11 +54,14 @@ blue_has_none = then_has ann_started 1005 (asked_with root (codes "b7") (for_gro
 abbrev red_has_500 : School
 red_has_500 = then_has blue_has_none 1006 (asked_with root (codes "b9") (for_group 1 (Some 500)))
 
-abbrev ann_has_300 : School
+abbrev pub ann_has_300 : School
 ann_has_300 = then_has red_has_500 1012 (asked_with root (codes "b8") (request.Override 1 whom.User 2 None None (Some 300) None))
 
 abbrev settled : School
 settled = then_has ann_has_300 1301 (look root (request.Settle first_attempt))
+
+pub times_are_set : told school 100 limit_to_400 ≡ reply.Ok 8 done.Done
+times_are_set = refl
 
 pub red_is_made : told limited 100 (asked_with root (codes "b2") (request.Group (codes "red"))) ≡ reply.Ok 9 (done.Made 1)
 red_is_made = refl

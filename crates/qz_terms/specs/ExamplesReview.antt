@@ -17,8 +17,11 @@ ann = codes "ann"
 abbrev root : List ℕ
 root = codes "root"
 
+abbrev show_at_close : Ask
+show_at_close = asked_with root (codes "a7") (request.Times 1 0 200 0 0 handling.AutoSubmit 0 review.Close)
+
 abbrev hiding : School
-hiding = then_has school 100 (asked_with root (codes "a7") (request.Times 1 0 200 0 0 handling.AutoSubmit 0 review.Close))
+hiding = then_has school 100 show_at_close
 
 abbrev save_true : Ask
 save_true = asked_with ann (codes "k2") (request.Save first_attempt 1 0 (answer.Pick 1))
@@ -37,6 +40,9 @@ ann_saved = then_has ann_started 120 save_true
 
 abbrev ann_finished : School
 ann_finished = then_has ann_saved 130 finish
+
+pub times_are_set : told school 100 show_at_close ≡ reply.Ok 8 done.Done
+times_are_set = refl
 
 pub it_is_due : told hiding 110 (asked_with ann (codes "k1") (request.Start 1)) ≡ reply.Ok 1 (done.Started first_attempt 1 (Some 200))
 it_is_due = refl

@@ -1,12 +1,20 @@
--- A worked serial run: a line without a reading, and a start.
-use Rattle.std.specs.Prelude.{◌≡◌, ℕ, Bool, true, false, [], ◌∷◌, map, length, is_some, None, codes, refl}
+-- Worked serial runs: a line without a reading and a start; then a save that the keeper fails to keep, and the same line again.
+use Rattle.std.specs.Prelude.{◌≡◌, ℕ, zero, suc, Bool, true, false, List, [], ◌∷◌, map, length, is_some, slice_get, Some, None, codes, Option, refl}
+use Rattle.std.proofs.Common.{true≢false}
+use Rattle.qz_grading.specs.declared.outcome.State.TheVariants as state
 use Rattle.qz_grading.specs.declared.refusal.Refusal.TheVariants as refusal
+use Rattle.qz_grading.specs.declared.response.Answer.TheVariants as answer
 use Rattle.qz_terms.specs.declared.ask.Ask.{Ask}
+use Rattle.qz_terms.specs.declared.record.Record.{Record}
 use Rattle.qz_terms.specs.declared.reply.Done.TheVariants as done
+use Rattle.qz_terms.specs.declared.reply.Reply.{Reply}
 use Rattle.qz_terms.specs.declared.reply.Reply.TheVariants as reply
+use Rattle.qz_terms.specs.declared.reply.Shown.TheVariants as shown
 use Rattle.qz_terms.specs.declared.request.Request.TheVariants as request
-use Rattle.qz_terms.specs.ExamplesSchool.{asked_with, first_attempt, school}
-use Rattle.qz_terms.specs.Serial.{Asking, Asks, Held, Lists, Serial, Unread, answered, doubt_over, ended, is_settled, lists_over, next, reply_over, stays}
+use Rattle.qz_terms.specs.ExamplesFirstAttempt.{started}
+use Rattle.qz_terms.specs.ExamplesLegal.{save_record, start_record}
+use Rattle.qz_terms.specs.ExamplesSchool.{asked_with, first_attempt, look, school}
+use Rattle.qz_terms.specs.Serial.{Asking, Asks, Held, Lists, Serial, Unread, adopted, answered, doubt_over, dropped, ended, is_settled, lists_over, next, no_memory, puts_record, put_in_doubt, reads_part, reply_over, stayed_in_doubt, stays}
 
 abbrev one_shard : Lists
 one_shard = record { records = record { list = school.records; doubt = None }; parts = record { list = []; doubt = None } ∷ [] }
@@ -46,3 +54,77 @@ doubt_stays = refl
 -- her total is read of the shard, which is mended before
 pub reads_the_shard : is_settled in_doubt (record anns_start { key = None; request = request.Total first_attempt }) ≡ false
 reads_the_shard = refl
+
+-- ---- ann saves, and the keeper fails
+
+abbrev list_of_one : List Record → Option Record → Lists
+list_of_one part doubt = record { records = record { list = started.records; doubt = None }; parts = record { list = part; doubt = doubt } ∷ [] }
+
+abbrev begun : Lists
+begun = list_of_one (start_record ∷ []) None
+
+abbrev doubtful : Lists
+doubtful = list_of_one (start_record ∷ []) (Some save_record)
+
+abbrev kept : Lists
+kept = list_of_one (start_record ∷ save_record ∷ []) None
+
+abbrev save_true : Ask
+save_true = asked_with (codes "ann") (codes "k2") (request.Save first_attempt 1 0 (answer.Pick 1))
+
+abbrev view : Ask
+view = look (codes "ann") (request.View first_attempt 1)
+
+abbrev no_part_differs : (old new : Lists) (ask : Ask) → Type 0
+no_part_differs old new ask = (k : ℕ) → reads_part new ask k ≡ false → slice_get new.parts k ≡ slice_get old.parts k
+
+-- the shard is read, so it may be mended
+mended_is_read : no_part_differs doubtful kept save_true
+mended_is_read zero unread = absurd (true≢false unread)
+mended_is_read (suc k) unread = refl
+
+dropped_is_read : no_part_differs doubtful begun save_true
+dropped_is_read zero unread = absurd (true≢false unread)
+dropped_is_read (suc k) unread = refl
+
+keeper_fails : Asks begun doubtful 120 save_true (reply.Refused refusal.KeepFault)
+keeper_fails = record { mended = begun; mends = record { records = stays begun.records; parts = (stays (record { list = start_record ∷ []; doubt = None }), tt) }; keeps = record { same = λ k unread. refl }; turn = put_in_doubt begun 120 save_true refl refl }
+
+abbrev it_is_saved : Reply
+it_is_saved = reply.Ok 2 (done.Stepped state.Complete shown.None)
+
+-- the record was kept after all: it is adopted, and the same line gets its reply
+adopted_then_answered : Asks doubtful kept 120 save_true it_is_saved
+adopted_then_answered = record { mended = kept; mends = record { records = stays begun.records; parts = (adopted (start_record ∷ []) save_record, tt) }; keeps = record { same = mended_is_read }; turn = answered kept 120 save_true refl }
+
+-- it wasn't: it is dropped, and the same line puts it anew
+dropped_then_answered : Asks doubtful kept 120 save_true it_is_saved
+dropped_then_answered = record { mended = begun; mends = record { records = stays begun.records; parts = (dropped (start_record ∷ []) save_record, tt) }; keeps = record { same = dropped_is_read }; turn = answered begun 120 save_true refl }
+
+-- the keeper fails once more while the list is mended
+stays_doubtful : Asks doubtful doubtful 120 save_true (reply.Refused refusal.KeepFault)
+stays_doubtful = record { mended = doubtful; mends = record { records = stays begun.records; parts = (stays (record { list = start_record ∷ []; doubt = Some save_record }), tt) }; keeps = record { same = λ k unread. refl }; turn = stayed_in_doubt doubtful 120 save_true refl }
+
+wants_memory : Asks begun begun 120 save_true (reply.Refused refusal.Memory)
+wants_memory = record { mended = begun; mends = record { records = stays begun.records; parts = (stays (record { list = start_record ∷ []; doubt = None }), tt) }; keeps = record { same = λ k unread. refl }; turn = no_memory begun 120 save_true }
+
+-- one step, whichever it was
+it_is_viewed : Asks kept kept 130 view (reply.Ok 2 (done.SlotView state.Complete shown.None 1 1))
+it_is_viewed = record { mended = kept; mends = record { records = stays begun.records; parts = (stays (record { list = start_record ∷ save_record ∷ []; doubt = None }), tt) }; keeps = record { same = λ k unread. refl }; turn = answered kept 130 view refl }
+
+pub three_lines : Serial begun (Asking 120 save_true ∷ Asking 120 save_true ∷ Asking 130 view ∷ []) (reply.Refused refusal.KeepFault ∷ it_is_saved ∷ reply.Ok 2 (done.SlotView state.Complete shown.None 1 1) ∷ []) kept
+three_lines =
+    next begun doubtful kept (Asking 120 save_true) (reply.Refused refusal.KeepFault) (Asking 120 save_true ∷ Asking 130 view ∷ []) (it_is_saved ∷ reply.Ok 2 (done.SlotView state.Complete shown.None 1 1) ∷ []) keeper_fails (
+    next doubtful kept kept (Asking 120 save_true) it_is_saved (Asking 130 view ∷ []) (reply.Ok 2 (done.SlotView state.Complete shown.None 1 1) ∷ []) adopted_then_answered (
+    next kept kept kept (Asking 130 view) (reply.Ok 2 (done.SlotView state.Complete shown.None 1 1)) [] [] it_is_viewed (ended kept)))
+
+-- a report reads the list of each shard, which has to be mended, and a look at the catalogue reads none
+pub a_report_reads_it : is_settled doubtful (look (codes "root") (request.Report 1)) ≡ false
+a_report_reads_it = refl
+
+pub jobs_read_none : is_settled doubtful (look (codes "root") request.Jobs) ≡ true
+jobs_read_none = refl
+
+-- a look puts no record, so none is left in doubt
+pub a_look_puts_nothing : puts_record kept 130 view ≡ false
+a_look_puts_nothing = refl

@@ -27,10 +27,10 @@ choice weight text = record { weight = weight; text = plain text; feedback = pla
 abbrev choose : List Choice → Question
 choose choices = record { name = codes "Pick"; text = plain (codes "Pick"); general = plain []; kind = kind.One choices; penalty = pos 3333333; hints = [] }
 
-abbrev three : Question
+abbrev pub three : Question
 three = choose (choice (pos 10000000) (codes "a") ∷ choice (pos 0) (codes "b") ∷ choice (pos 0) (codes "c") ∷ [])
 
-abbrev two : Question
+abbrev pub two : Question
 two = choose (choice (pos 10000000) (codes "a") ∷ choice (pos 0) (codes "b") ∷ [])
 
 abbrev with_ann : School
@@ -69,7 +69,7 @@ submitted = then_has ann_started 120 submit
 abbrev edited : School
 edited = then_has submitted 140 edit
 
-abbrev with_job : School
+abbrev pub with_job : School
 with_job = then_has edited 150 regrade
 
 abbrev skipped : School

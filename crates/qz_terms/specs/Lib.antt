@@ -28,4 +28,9 @@ pub mod ExamplesBank
 pub mod ExamplesSchedule
 pub mod ExamplesKeys
 pub mod ExamplesLegal
+pub mod ExamplesAllowed
+pub mod ExamplesKept
+pub mod ExamplesLimits
+pub mod ExamplesParts
+pub mod ExamplesShards
 pub mod ExamplesSerial

@@ -104,10 +104,16 @@ pub data Choice : Type 0 where
   LeavesInDoubt : Choice
   LacksMemory : Choice
 
--- a turn of a caller, which begins this ask where it is in none; a mending of the catalogue or of a shard; or a stop, which
--- tells for each list the record more that is kept there, if any
+-- the first turn of an ask, by a caller that is in none; or the next turn of the ask that the caller is in, so many of whose
+-- turns were made
+pub data Next : Type 0 where
+  Begins : Ask → Next
+  GoesOn : (made : ℕ) → Next
+
+-- a turn of a caller; a mending of the catalogue or of a shard; or a stop, which tells for each list the record more that is
+-- kept there, if any
 pub data Happening : Type 0 where
-  Turns : (caller moment made : ℕ) → Ask → Mending → Choice → Happening
+  Turns : (caller moment : ℕ) → Next → Mending → Choice → Happening
   Mends : (part : Option ℕ) → (adopts : Bool) → Happening
   Stops : (records : Option Record) → (parts : List (Option Record)) → Happening
 
@@ -281,18 +287,29 @@ turn_at w k moment ask v count mending choice part held stage =
       | None ↦ second_part (with_held w part mended) k moment ask (seeing v part mended.list) part mended.list count choice stage
     ]
 
+-- a shard that isn't there is found without a turn, by a worker too
+abbrev pub not_there : World → ℕ → ℕ → Ask → Visit → Option Refusal → World
+not_there w k moment ask v None = w
+not_there w k moment ask v (Some r) = replied w k moment ask v v (reply.Refused r)
+
 abbrev pub turn_by : World → ℕ → ℕ → Ask → Visit → ℕ → Mending → Choice → Option Stage → World
 turn_by w k moment ask v count mending choice None = w
 turn_by w k moment ask v count mending choice (Some stage) =
     let part = stage_part count (visitor v ask) ask.request stage in
-    if is_there count part then turn_at w k moment ask v count mending choice part (held_at w part) stage else w
+    if is_there count part then turn_at w k moment ask v count mending choice part (held_at w part) stage else not_there w k moment ask v (missing_live count ask.request)
+
+abbrev pub turn_with : World → ℕ → ℕ → Ask → Visit → ℕ → Mending → Choice → World
+turn_with w k moment ask v made mending choice = turn_by w k moment ask v (length w.parts) mending choice (slice_get (stages (length w.parts) ask) made)
 
 -- a turn that isn't the next one of its caller's ask changes nothing
-abbrev pub turn_of : World → ℕ → ℕ → ℕ → Ask → Mending → Choice → Option Visit → World
-turn_of w k moment made ask mending choice None = w
-turn_of w k moment made ask mending choice (Some v) =
-    let asked = unwrap_or v.ask ask in
-    if made == v.made then turn_by w k moment asked v (length w.parts) mending choice (slice_get (stages (length w.parts) asked) made) else w
+abbrev pub turn_in : World → ℕ → ℕ → Visit → Mending → Choice → Next → Option Ask → World
+turn_in w k moment v mending choice (Begins ask) None = turn_with w k moment ask v 0 mending choice
+turn_in w k moment v mending choice (GoesOn made) (Some ask) = if made == v.made then turn_with w k moment ask v made mending choice else w
+turn_in w k moment v mending choice next asking = w
+
+abbrev pub turn_of : World → ℕ → ℕ → Next → Mending → Choice → Option Visit → World
+turn_of w k moment next mending choice None = w
+turn_of w k moment next mending choice (Some v) = turn_in w k moment v mending choice next v.ask
 
 -- ---- the law of motion
 
@@ -317,7 +334,7 @@ stopped w kept parts = record w {
 }
 
 abbrev pub after : World → Happening → World
-after w (Turns caller moment made ask mending choice) = turn_of w caller moment made ask mending choice (slice_get w.visits caller)
+after w (Turns caller moment next mending choice) = turn_of w caller moment next mending choice (slice_get w.visits caller)
 after w (Mends part adopts) = with_held w part (mended_by (adopted_if adopts) (held_at w part) (held_at w part).doubt)
 after w (Stops kept parts) = stopped w kept parts
 
@@ -344,6 +361,11 @@ is_worker caller.Worker = true
 abbrev pub is_formed : Ask → Bool
 is_formed ask = is_keyed ask && (not (is_worker ask.caller) || (rule_of ask.request == 4))
 
+-- so has one that a turn begins; one that goes on was formed when it began
+abbrev pub begins_formed : Next → Bool
+begins_formed (Begins ask) = is_formed ask
+begins_formed (GoesOn made) = true
+
 abbrev pub is_keep_or_memory : Refusal → Bool
 is_keep_or_memory refusal.KeepFault = true
 is_keep_or_memory refusal.Memory = true
@@ -358,10 +380,9 @@ MendingIsPossible (Stays r) = is_keep_or_memory r ≡ true
 pub record CouldPut (w : World) (part : Option ℕ) (r : Record) : Type 0 where
   pub caller : ℕ
   pub moment : ℕ
-  pub made : ℕ
-  pub ask : Ask
-  pub formed : is_formed ask ≡ true
-  pub puts : (held_at (after w (Turns caller moment made ask Drops Answers)) part).list ≡ (held_at w part).list ++ r ∷ []
+  pub next : Next
+  pub formed : begins_formed next ≡ true
+  pub puts : (held_at (after w (Turns caller moment next Drops Answers)) part).list ≡ (held_at w part).list ++ r ∷ []
 
 -- what a stop keeps is the record in doubt, or one that a turn could put there now
 abbrev pub KeepIsPossible : World → Option ℕ → Option Record → Type 0
@@ -372,12 +393,12 @@ pub record StopIsPossible (w : World) (kept : Option Record) (parts : List (Opti
   pub records : KeepIsPossible w None kept
   pub each : (k : ℕ) → KeepIsPossible w (Some k) (unwrap_or (slice_get parts k) None)
 
-pub record TurnIsPossible (ask : Ask) (mending : Mending) : Type 0 where
-  pub formed : is_formed ask ≡ true
+pub record TurnIsPossible (next : Next) (mending : Mending) : Type 0 where
+  pub formed : begins_formed next ≡ true
   pub mends : MendingIsPossible mending
 
 abbrev pub IsPossible : World → Happening → Type 0
-IsPossible w (Turns caller moment made ask mending choice) = TurnIsPossible ask mending
+IsPossible w (Turns caller moment next mending choice) = TurnIsPossible next mending
 IsPossible w (Mends part adopts) = Unit {0}
 IsPossible w (Stops kept parts) = StopIsPossible w kept parts
 

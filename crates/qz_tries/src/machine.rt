@@ -5,7 +5,7 @@ ghost use Rattle.qz_decimal.specs.Numbers.{IsEarnedFraction};
 ghost use Rattle.qz_grading.specs.Grading.{complete, fits};
 ghost use Rattle.qz_grading.specs.Questions.{IsQuestion};
 ghost use Rattle.qz_grading.specs.Steps.{last, is_finish, is_mark};
-ghost use Rattle.qz_grading.specs.Behaviours.{barred, moved, is_wrong_action};
+ghost use Rattle.qz_grading.specs.Behaviours.{barred, barred_showing, moved, is_wrong_action};
 ghost use Rattle.qz_grading.specs.Behaviours as behaviours;
 ghost use Rattle.qz_tries.specs.Progress.{is_adaptive, has_tries};
 ghost use Rattle.qz_tries.specs.After.{is_save, response_at, IsAfter, Starts, StepFits};
@@ -164,7 +164,7 @@ impl TryMachine {
         ensures refused_count { OnErr result (steps.new ≡ steps.old) }
         ensures save { is_save step.now ≡ true → steps.new ≡ steps.old }
     {
-        if let Some(refusal) = self.barred(question, before, step) {
+        if let Some(refusal) = self.barred(question, before, step, self.outcome.state) {
             return Err(refusal);
         }
         if self.moved(before, step) == Moved::Same {
@@ -174,10 +174,17 @@ impl TryMachine {
         Ok(Moved::Kept)
     }
 
-    /// The first cause for which a step is refused.
-    fn barred(&self, question: &Question, before: &[Step], step: &Step) -> Option<Refusal>
+    /// The first cause for which a step is refused, whether or not its response fits. A refusal after the end carries the state
+    /// that is shown.
+    pub fn barred(
+        &self,
+        question: &Question,
+        before: &[Step],
+        step: &Step,
+        shown: State,
+    ) -> Option<Refusal>
         requires { IsAfter self.now question.now before.now }
-        ensures { result ≡ barred self.now.behaviour question.now before.now step.now }
+        ensures { result ≡ barred_showing shown self.now.behaviour question.now before.now step.now }
     {
         if is_wrong_action(self.behaviour, question, before, step) {
             return Some(Refusal::WrongAction {
@@ -185,9 +192,7 @@ impl TryMachine {
             });
         }
         if self.comes_late(step) {
-            return Some(Refusal::SlotEnded {
-                state: self.outcome.state,
-            });
+            return Some(Refusal::SlotEnded { state: shown });
         }
         if self.outcome.needs_again && matches!(step, Step::Save(_) | Step::Submit(_)) {
             return Some(Refusal::NeedsTryAgain);
@@ -207,7 +212,7 @@ impl TryMachine {
     }
 
     /// Whether a step adds something to those before it.
-    fn moved(&self, before: &[Step], step: &Step) -> Moved
+    pub fn moved(&self, before: &[Step], step: &Step) -> Moved
         requires { response_at before.now self.now.last ≡ last before.now }
         ensures { result ≡ moved before.now step.now }
     {

@@ -1,0 +1,5 @@
+pub mod StepCounts
+pub mod MarkRanges
+pub mod Shapes
+pub mod RunLemmas
+pub mod UsageLemmas

@@ -1,0 +1,4 @@
+pub mod Players
+pub mod Runs
+pub mod Tallies
+pub mod Usages

@@ -1,0 +1,124 @@
+//! The slots of an attempt.
+
+ghost use Rattle.std.specs.Prelude.{◌≡◌, ◌≤◌, List, length, map, zip, unwrap_or, option_map, All, IfOk, IfSome, pos};
+ghost use Rattle.std.specs.Option.{option_copied};
+ghost use Rattle.std.specs.Borrow.{LendsIf, sem};
+ghost use Rattle.qz_usage.specs.contracts.usage.Usage.{the_row as usage_row};
+ghost use Rattle.qz_usage.specs.contracts.slot_run.SlotRun.{the_row as run_row};
+ghost use Rattle.qz_decimal.specs.Numbers.{IsMaxMark, IsSlotMark};
+ghost use Rattle.qz_grading.specs.Grading.{at_place};
+ghost use Rattle.qz_grading.specs.Questions.{IsQuestion};
+ghost use Rattle.qz_terms.specs.Answer.{bind};
+ghost use Rattle.qz_terms.specs.Rows.{awaits_mark, total_of};
+ghost use Rattle.qz_usage.specs.Runs.{IsBound};
+ghost use Rattle.qz_usage.specs.Usages.{AreBound, AreOpened, scored, with_slot, most_slots, IsTotal};
+
+use crate::SlotRun;
+use qz_decimal::Mark;
+use qz_grading::{Behaviour, Question, State};
+use qz_terms::{Bound, Plan, Planned};
+use qz_text::NoMemory;
+use std::alloc::Global;
+use std::marker::Model;
+
+/// The slots of an attempt, in order, seen as their list.
+#[derive(Drop)]
+pub struct Usage {
+    slots: Vec<SlotRun>,
+}
+
+impl Model for Usage {
+    ghost use Rattle.std.specs.Prelude.{◌≤◌, List, length};
+    ghost use Rattle.qz_usage.specs.Runs.{Run};
+    ghost use Rattle.qz_usage.specs.Usages.{most_slots};
+
+    ghost Value = { List Run };
+
+    ghost view = { λ u. u.slots.items };
+
+    ghost invariant = { λ u. length u.slots.items ≤ most_slots };
+}
+
+fn bind(at: u64, planned: Planned) -> Bound
+    ensures { result ≡ bind at planned }
+{
+    Bound {
+        entry: planned.entry,
+        version: planned.version,
+        max: planned.max,
+        at,
+    }
+}
+
+/// Whether a teacher's mark is missing that would count.
+fn awaits_mark(slot: &SlotRun) -> bool
+    ensures { (q : Question) → IsBound slot.now q → result ≡ awaits_mark (scored (slot.now, q)) }
+{
+    matches!(slot.state(), State::NeedsGrading) && slot.bound().max.0 > 0
+}
+
+/// What a slot adds to the total (in 10^-7): its mark, or nothing where there is none.
+fn counted(slot: &SlotRun) -> i64
+    ensures value { (q : Question) → IsBound slot.now q → result ≡ unwrap_or (scored (slot.now, q)).mark (pos 0) }
+    ensures range { IsSlotMark result }
+{
+    slot.mark().unwrap_or(Mark(0)).0
+}
+
+impl Usage {
+    /// The slots of a plan, which has one question for each, without a step. Every max mark is from 0 to 10,000.
+    pub fn new(alloc: Global, preferred: Behaviour, plan: &Plan) -> Result<Usage, NoMemory>
+        requires one_each { length plan.now.questions ≡ length plan.now.slots }
+        requires few { length plan.now.slots ≤ most_slots }
+        requires questions { All IsQuestion plan.now.questions }
+        requires maxes { All (λ s. IsMaxMark s.max) plan.now.slots }
+        ensures { IfOk result (AreOpened preferred plan.now.at plan.now.slots plan.now.questions) }
+    {
+        let questions = plan.questions.as_slice();
+        let mut slots = Vec::with_capacity(alloc, questions.len())?;
+        for (place, planned) in plan.slots.as_slice().iter().enumerate() {
+            let bound = bind(plan.at, *planned);
+            slots.push(SlotRun::new(alloc, preferred, &questions[place], bound)?)?;
+        }
+        Ok(Usage { slots })
+    }
+
+    /// The slots that are given, at most 200.
+    pub fn of(slots: Vec<SlotRun>) -> Usage
+        requires { length slots.items ≤ most_slots }
+        ensures { result ≡ slots.items }
+    {
+        Usage { slots }
+    }
+
+    /// The slot with this number, from 1.
+    pub fn slot(&self, k: u16) -> Option<&SlotRun>
+        ensures { option_copied result ≡ at_place self.now k }
+    {
+        self.slots.get(usize::from(k).checked_sub(1)?)
+    }
+
+    /// The slot with this number, from 1, to be changed. No other slot changes.
+    pub fn slot_mut(&mut self, k: u16) -> Option<&mut SlotRun>
+        ensures* writes_back { sem 𝓛 (LendsIf usage_row run_row self.entry result (λ r. with_slot self.old k r) self.old) }
+        ensures value { option_map (λ r. r.now) result ≡ at_place self.old k }
+    {
+        self.slots.get_mut(usize::from(k).wrapping_sub(1))
+    }
+
+    /// The sum of the slots' marks (in 10^-7), where one that is missing counts 0. None while a slot of a max mark above 0 needs
+    /// grading.
+    pub fn total(&self) -> Option<Mark>
+        ensures value { (qs : List Question) → AreBound self.now qs → result ≡ total_of (map scored (zip self.now qs)) }
+        ensures range { IfSome result IsTotal }
+    {
+        let mut total = 0;
+        for slot in &self.slots {
+            if awaits_mark(slot) {
+                return None;
+            }
+            total += counted(slot);
+        }
+        Some(Mark(total))
+    }
+}
