@@ -11,7 +11,7 @@ use Rattle.std.proofs.lemmas.List.Sums.{suffix_len-le-length}
 use Rattle.qz_grading.specs.Words.{in_digits, is_zero, without_zeros}
 
 -- one digit more
-in_digits-step : (k n : ℕ) → 10 ≤ n → n < 2 ^ 64 → 0 < k → in_digits k n ≡ in_digits (k - 1) (n / 10) ++ (48 + n % 10) ∷ []
+pub in_digits-step : (k n : ℕ) → 10 ≤ n → n < 2 ^ 64 → 0 < k → in_digits k n ≡ in_digits (k - 1) (n / 10) ++ (48 + n % 10) ∷ []
 in_digits-step k n long fits some =
     let step = decimal_step n long fits in
     let longer : length (decimal n) ≡ length (decimal (n / 10)) + 1 = ap length step ∙ length-append (decimal (n / 10)) ((48 + n % 10) ∷ []) in

@@ -25,7 +25,7 @@ pub use question::{
 pub use refusal::{AttemptId, Refusal, Thing};
 pub use response::{Answer, Response, Step};
 pub use shape::shape_of;
-pub use sound::is_sound;
+pub use sound::{has_no_blank, has_right_choice, has_stem, is_sound, least_parts, parts};
 pub use spelled::Spelled;
 
 #[cfg(test)]

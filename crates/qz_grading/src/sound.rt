@@ -33,8 +33,8 @@ pub fn is_sound(kind: &Kind) -> bool
         && has_stem(kind)
 }
 
-/// How many choices, pairs or answers.
-fn parts(kind: &Kind) -> usize
+/// How many choices, pairs or answers a kind has.
+pub fn parts(kind: &Kind) -> usize
     ensures { result ≡ parts kind.now }
 {
     match kind {
@@ -46,7 +46,8 @@ fn parts(kind: &Kind) -> usize
     }
 }
 
-fn least_parts(kind: &Kind) -> usize
+/// The fewest of them that a sound kind may have.
+pub fn least_parts(kind: &Kind) -> usize
     ensures { result ≡ least_parts kind.now }
 {
     match kind {
@@ -132,7 +133,7 @@ fn no_blank_pattern(answers: &[Short]) -> bool
 }
 
 /// Whether no choice, pattern or answer of a pair is blank.
-fn has_no_blank(kind: &Kind) -> bool
+pub fn has_no_blank(kind: &Kind) -> bool
     ensures { result ≡ has_no_blank kind.now }
 {
     match kind {
@@ -150,7 +151,7 @@ fn some_choice_right(choices: &[Choice]) -> bool
 }
 
 /// Whether some choice is wholly right, where one choice is to be picked.
-fn has_right_choice(kind: &Kind) -> bool
+pub fn has_right_choice(kind: &Kind) -> bool
     ensures { result ≡ has_right_choice kind.now }
 {
     match kind {
@@ -159,7 +160,8 @@ fn has_right_choice(kind: &Kind) -> bool
     }
 }
 
-fn has_stem(kind: &Kind) -> bool
+/// Whether some stem isn't blank, where there are stems.
+pub fn has_stem(kind: &Kind) -> bool
     ensures { result ≡ has_stem kind.now }
 {
     match kind {

@@ -1,0 +1,45 @@
+-- Which rule is the first that a block breaks.
+use Rattle.std.proofs.Common.{◌≡◌, ℕ, ◌<◌, ◌≤◌, Bool, true, false, ◌||◌, not, List, [], ◌∷◌, Some, None, Err, refl, sym, ap, ◌∙◌}
+use Rattle.std.proofs.lemmas.Bool.{lt-ltb, le-ltb}
+use Rattle.gift_lex.specs.declared.block.Block.{Block}
+use Rattle.qz_grading.specs.Canonical.{canonical_size}
+use Rattle.qz_grading.specs.Questions.{texts, are_no_longer, parts}
+use Rattle.gift_read.specs.Category.{is_category}
+use Rattle.gift_read.specs.FirstFault.{first_of, IsWhole}
+use Rattle.gift_read.specs.Faults.{is_nameless, has_stray_brace, is_unclosed, when, most_bytes, most_parts, most_together, is_long, broken_values, is_large, or_large, broken, line_of}
+use Rattle.gift_read.specs.Gift.{told, told_by}
+use Rattle.gift_read.specs.Parts.{body, answer_part, answers, sort_of}
+use Rattle.gift_read.specs.Values.{question}
+
+or-true : (b : Bool) → (b || true) ≡ true
+or-true true = refl
+or-true false = refl
+
+-- Too many pieces are told before anything else of a question.
+pub too_many_parts : (b : Block) → is_category b.marks ≡ false → is_nameless b.marks ≡ false → has_stray_brace (body b.marks) ≡ false → is_unclosed (body b.marks) ≡ false
+    → most_parts < parts (question b).kind → first_of (broken b) ≡ Some 2
+too_many_parts b asked named no_stray closed many =
+    let short = are_no_longer most_bytes (texts (question b)) in
+    let long : is_long (question b) ≡ true = rw (lt-ltb most_parts (parts (question b).kind) many) (or-true (not short)) in
+    rw (asked, named, no_stray, closed, long) refl
+
+-- where nothing is told before, the length of the whole is
+told_last : (b : Block) (flaws : List ℕ) → None ≡ first_of flaws → first_of (or_large flaws b) ≡ first_of (when (is_large b) 2)
+told_last b [] none = refl
+told_last b (rule ∷ rules) none = cc
+
+-- A question that is short enough and of which nothing else is told is without fault.
+pub told_nothing : (b : Block) → is_category b.marks ≡ false → IsWhole b → None ≡ first_of (broken_values (question b) (sort_of (body b.marks)) (answers (answer_part (body b.marks))))
+    → canonical_size (question b) ≤ most_together → None ≡ first_of (broken b)
+told_nothing b asked whole none short =
+    let small : is_large b ≡ false = rw (asked, le-ltb most_together (canonical_size (question b)) short) refl in
+    let last = told_last b (broken_values (question b) (sort_of (body b.marks)) (answers (answer_part (body b.marks)))) none in
+    sym (ap (λ (found : List ℕ). first_of (or_large found b)) whole.flaws ∙ last ∙ ap (λ (large : Bool). first_of (when large 2)) small)
+
+-- the first rule that a block breaks is its fault
+pub told-fault : (b : Block) (rule : ℕ) → Some rule ≡ first_of (broken b) → told b ≡ Err (record { line = line_of b rule; rule = rule })
+told-fault b rule first = go (broken b) (is_category b.marks) first
+  where
+    go : (rules : List ℕ) (is : Bool) → Some rule ≡ first_of rules → told_by rules is b ≡ Err (record { line = line_of b rule; rule = rule })
+    go [] is e = cc
+    go (found ∷ rules) is e = let same : found ≡ rule = cc in rw same refl

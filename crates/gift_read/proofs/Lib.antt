@@ -1,0 +1,11 @@
+pub mod CategoryLemmas
+pub mod FaultLemmas
+pub mod LimitLemmas
+pub mod LineCounts
+pub mod PartLemmas
+pub mod PieceLemmas
+pub mod PlaceLemmas
+pub mod ReadLemmas
+pub mod TextLemmas
+pub mod ValueLemmas
+pub mod WrittenNumbers
