@@ -1,7 +1,6 @@
 -- A block without a broken rule spells a question.
-use Rattle.std.proofs.Common.{◌≡◌, ℕ, zero, suc, ◌+◌, ◌<◌, ◌≤◌, Bool, true, false, cond, not, ◌&&◌, ◌||◌, ltb, List, [], ◌∷◌, ◌++◌, length, drop, map, ℤ, pos, Option, Some, None, refl, sym, ap, ◌∙◌, arith}
-use Rattle.std.specs.Prelude.{IsTrue, sum_by, nat_lt, All, Result, Ok, Err, codes}
-use Rattle.std.specs.Str.{is_utf8}
+use Rattle.std.proofs.Common.{◌≡◌, ℕ, Bool, true, false, cond, not, ◌&&◌, ◌||◌, List, [], ◌∷◌, ◌++◌, length, map, Option, Some, None, refl, subst, arith}
+use Rattle.std.specs.Prelude.{IsTrue, nat_lt, All, Result, Ok, Err}
 use Rattle.std.proofs.lemmas.Bool.{or_parts, not-false, ltb-false}
 use Rattle.std.proofs.lemmas.List.{append-nil}
 use Rattle.std.proofs.lemmas.List.Elements.{All-cons}
@@ -11,23 +10,21 @@ use Rattle.qz_grading.specs.declared.question.Format.{Format}
 use Rattle.qz_grading.specs.declared.question.Kind.{Kind}
 use Rattle.qz_grading.specs.declared.question.Kind.TheVariants as kind
 use Rattle.qz_grading.specs.declared.question.Question.{Question}
-use Rattle.qz_grading.specs.Canonical.{canonical_question, canonical_size}
+use Rattle.qz_grading.specs.Canonical.{canonical_size}
 use Rattle.qz_grading.specs.Questions.{parts, least_parts, has_no_blank, has_stem, has_right_choice, are_no_longer, texts, IsSound, IsQuestion}
 use Rattle.gift_read.specs.declared.places.Landmark.TheVariants as landmark
 use Rattle.gift_read.specs.declared.parts.Sort.{Sort}
 use Rattle.gift_read.specs.declared.parts.Sort.TheVariants as sort
 use Rattle.gift_read.specs.Places.{Marks, is_at, before, from, occurs, trimmed}
 use Rattle.gift_read.specs.Texts.{rich_of}
-use Rattle.gift_read.specs.Parts.{body, in_braces, answer_part, general_marks, answers, truth, short_unless, sort_in, sort_of}
+use Rattle.gift_read.specs.Parts.{body, answer_part, general_marks, answers, truth, short_unless, sort_in, sort_of}
 use Rattle.gift_read.specs.Values.{kind_in, penalty_of, question}
 use Rattle.gift_read.specs.Category.{is_category}
-use Rattle.gift_read.specs.Faults.{when, is_nameless, has_stray_brace, is_unclosed, most_bytes, most_parts, most_together, is_long, is_matching, lacks_piece, has_stray_arrow, weighed_pieces, is_misweighed, number_pieces, has_blank_number, has_no_number, has_stray_feedback, broken_values, broken_body, broken_question, flaws_in, flaws, is_large, or_large, broken}
-use Rattle.gift_lex.specs.Blocks.{blocks_of}
-use Rattle.qz_grading.specs.declared.question.Bank.{Bank}
+use Rattle.gift_read.specs.Faults.{when, is_nameless, has_stray_brace, is_unclosed, most_bytes, most_parts, most_together, is_long, is_matching, lacks_piece, has_stray_feedback, broken_values, broken_question, flaws, is_large, or_large, broken}
 use Rattle.qz_grading.specs.declared.question.Item.{Item}
 use Rattle.gift_read.specs.declared.reading.Entry.{Entry}
 use Rattle.gift_read.specs.declared.reading.Entry.TheVariants as entry
-use Rattle.gift_read.specs.Gift.{Fault, told_by, told, onto, followed, items_of, in_bank, reading_of, reading}
+use Rattle.gift_read.specs.Gift.{Fault, told_by, told, onto, followed, items_of}
 use Rattle.gift_read.proofs.SoundLemmas.{kind_in-numbers, pieces-whole}
 use Rattle.gift_read.proofs.TogetherLemmas.{together-length}
 
@@ -174,14 +171,6 @@ items_of-kept : (names : List (List ℕ)) (blocks : List Block) → KeptIfRead (
 items_of-kept names [] = λ k d lt. absurd (omega arith)
 items_of-kept names (b ∷ blocks) = followed-kept names (told b) (λ n. items_of n blocks) (told-kept b) (λ n. items_of-kept n blocks)
 
--- the questions of a text's reading
-pub reading-kept : (text : List ℕ) (bank : Bank) → reading text ≡ Ok bank → All IsQuestion (map (λ (i : Item). i.question) bank.items)
-reading-kept text bank e = go (is_utf8 text) e
-  where
-    held : (items : Result (List Item) Fault) → KeptIfRead items → in_bank items ≡ Ok bank → All IsQuestion (questions bank.items)
-    held (Ok items) kept e = let same : record { items = items } ≡ bank = cc in rw (← same) kept
-    held (Err fault) kept e = cc
-
-    go : (b : Bool) → reading_of b text ≡ Ok bank → All IsQuestion (questions bank.items)
-    go true e = held (items_of (codes "Default" ∷ []) (blocks_of text)) (items_of-kept (codes "Default" ∷ []) (blocks_of text)) e
-    go false e = cc
+-- the questions that are read keep what every question keeps
+pub items-kept : (names : List (List ℕ)) (blocks : List Block) (items : List Item) → items_of names blocks ≡ Ok items → All IsQuestion (map (λ (i : Item). i.question) items)
+items-kept names blocks items e = subst KeptIfRead e (items_of-kept names blocks)

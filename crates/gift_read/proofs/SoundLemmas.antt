@@ -1,11 +1,11 @@
 -- What the question of a block keeps where no rule is broken.
-use Rattle.std.proofs.Common.{◌≡◌, ℕ, zero, suc, ◌+◌, ◌^◌, ◌<◌, ◌≤◌, Bool, true, false, cond, not, ◌&&◌, ◌||◌, eqb, ltb, List, [], ◌∷◌, ◌++◌, length, drop, map, ℤ, pos, neg_ℤ, Option, Some, None, refl, sym, ap, ◌∙◌, arith}
-use Rattle.std.specs.Prelude.{codes, int_le, unsigned_abs, unwrap_or, ◌≤ℤ◌, is_none}
+use Rattle.std.proofs.Common.{◌≡◌, ℕ, zero, suc, ◌+◌, ◌^◌, Bool, true, false, cond, not, ◌&&◌, ◌||◌, eqb, List, [], ◌∷◌, drop, map, ℤ, pos, neg_ℤ, Option, Some, None, refl, sym, ◌∙◌}
+use Rattle.std.specs.Prelude.{codes, int_le, unsigned_abs, unwrap_or}
 use Rattle.std.specs.List.{list_all}
 use Rattle.std.proofs.Math.Dec.{T}
-use Rattle.std.proofs.lemmas.Bool.{and_from, and_parts, or_parts, not-true, not-false, ltb-true, ltb-false, lt-ltb}
-use Rattle.std.proofs.lemmas.List.Folds.{list_all-append, list_all-map}
-use Rattle.qz_decimal.specs.Decimals.{decimal_in, is_minus, IsDecimal}
+use Rattle.std.proofs.lemmas.Bool.{and_from, or_parts, not-false, lt-ltb}
+use Rattle.std.proofs.lemmas.List.Folds.{list_all-append}
+use Rattle.qz_decimal.specs.Decimals.{is_minus, IsDecimal}
 use Rattle.qz_decimal.specs.Numbers.{one, signed, IsWithin}
 use Rattle.qz_decimal.specs.Percent.{weight_in, IsWeight}
 use Rattle.qz_decimal.proofs.DecimalTexts.{decimal-found}
