@@ -1,5 +1,5 @@
 -- The commands of the command line, and how a run of each ends.
-use Rattle.std.specs.Prelude.{ℕ, ◌&&◌, if◌then◌else◌, List, [], ◌∷◌, ◌++◌, Option, Some, None, bytes_eq, codes}
+use Rattle.std.specs.Prelude.{ℕ, true, false, ◌&&◌, if◌then◌else◌, List, [], ◌∷◌, ◌++◌, Option, Some, None, bytes_eq, codes}
 use Rattle.std.specs.Io.KnownBytes.{Appends, Keeps}
 use Rattle.qz_outside.specs.Causes.{HasRisen}
 use Rattle.qz_outside.specs.Sources.{AppendsFront}
@@ -12,11 +12,18 @@ use Rattle.quizd.specs.Replay.{newline}
 use Rattle.quizd.specs.Plain.{first_lists}
 use Rattle.quizd.specs.ReplayEndings.{ReplayEnds, ReplaysAll}
 use Rattle.quizd.specs.Scripts.{ServeEnds, ServesAll, script_limit}
+use Rattle.quizd.specs.GiftEndings.{GiftEnds, GiftsAll}
+
+-- what is done with a GIFT text
+abbrev pub gift_command : List ℕ → Option Command
+gift_command word = if bytes_eq word (codes "check") then Some command.GiftCheck else (if bytes_eq word (codes "fmt") then Some command.GiftFormat else None)
 
 -- the command that these words are; any others are none
 abbrev pub command_of : List (List ℕ) → Option Command
 command_of (word ∷ []) = if bytes_eq word (codes "replay") then Some command.Replay else None
-command_of (word ∷ folder ∷ []) = if bytes_eq word (codes "script") && bytes_eq folder (codes "memory") then Some command.Script else None
+command_of (word ∷ second ∷ []) =
+    if bytes_eq word (codes "script") && bytes_eq second (codes "memory") then Some command.Script
+    else (if bytes_eq word (codes "gift") then gift_command second else None)
 command_of words = None
 
 -- ---- words that are no command
@@ -45,6 +52,8 @@ abbrev pub CommandEnds : Option Command → Outside → Outside → Option Stop 
 CommandEnds None old new s = UsageEnds old new s
 CommandEnds (Some command.Replay) old new s = ReplayEnds old new s
 CommandEnds (Some command.Script) old new s = ServeEnds script_limit first_lists old new s
+CommandEnds (Some command.GiftCheck) old new s = GiftEnds false old new s
+CommandEnds (Some command.GiftFormat) old new s = GiftEnds true old new s
 
 abbrev pub RunEnds : List (List ℕ) → Outside → Outside → Option Stop → Type 0
 RunEnds words old new s = CommandEnds (command_of words) old new s
@@ -53,6 +62,8 @@ abbrev pub CommandDoesAll : Option Command → Outside → Outside → ℕ → T
 CommandDoesAll None old new status = Unit {0}
 CommandDoesAll (Some command.Replay) old new status = ReplaysAll old new status
 CommandDoesAll (Some command.Script) old new status = ServesAll script_limit old new status
+CommandDoesAll (Some command.GiftCheck) old new status = GiftsAll old new status
+CommandDoesAll (Some command.GiftFormat) old new status = GiftsAll old new status
 
 abbrev pub RunsAll : List (List ℕ) → Outside → Outside → ℕ → Type 0
 RunsAll words old new status = CommandDoesAll (command_of words) old new status

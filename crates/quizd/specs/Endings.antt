@@ -18,6 +18,7 @@ abbrev pub status_of : Option Stop → ℕ
 status_of None = 0
 status_of (Some stop.BadWords) = 2
 status_of (Some (stop.Malformed line)) = 3
+status_of (Some (stop.Unreadable line rule)) = 3
 status_of (Some stop.SourceFault) = 4
 status_of (Some stop.SinkFault) = 5
 status_of (Some stop.Memory) = 8

@@ -12,4 +12,5 @@ pub mod Endings
 pub mod Scripts
 pub mod Plain
 pub mod ReplayEndings
+pub mod GiftEndings
 pub mod Commands

@@ -1,7 +1,7 @@
 //! The commands that the words of the command line name.
 
 ghost use Rattle.std.specs.Prelude.{◌≡◌};
-ghost use Rattle.quizd.specs.Commands.{command_of};
+ghost use Rattle.quizd.specs.Commands.{command_of, gift_command};
 
 use qz_text::Text;
 
@@ -12,6 +12,10 @@ pub enum Command {
     Replay,
     /// The requests of a script are answered over a school in memory.
     Script,
+    /// A GIFT text is read, and its questions counted.
+    GiftCheck,
+    /// A GIFT text is laid out anew.
+    GiftFormat,
 }
 
 /// The command that these words are. Any other words are none.
@@ -23,6 +27,18 @@ pub fn command_of(words: &[Text]) -> Option<Command>
         [word, folder] if word.as_str() == "script" && folder.as_str() == "memory" => Some(
             Command::Script,
         ),
+        [word, second] if word.as_str() == "gift" => gift_command(second),
+        _ => None,
+    }
+}
+
+/// What is done with a GIFT text.
+fn gift_command(word: &Text) -> Option<Command>
+    ensures { result ≡ gift_command word.now }
+{
+    match word.as_str() {
+        "check" => Some(Command::GiftCheck),
+        "fmt" => Some(Command::GiftFormat),
         _ => None,
     }
 }

@@ -5,6 +5,7 @@ mod asked;
 mod asking;
 mod command;
 mod desk;
+mod gift;
 mod lines;
 mod plain;
 mod played;
@@ -26,6 +27,7 @@ mod words;
 
 use qz_outside::{StdSink, StdSource};
 use qz_text::{NoMemory, Text};
+pub use gift::gift;
 pub use replay::replay;
 pub use run::run;
 pub use script::script;

@@ -4,6 +4,7 @@ ghost use Rattle.quizd.specs.Commands.{UsageWritten, RunEnds, RunsAll};
 ghost use Rattle.quizd.specs.Endings.{Ended};
 
 use crate::command::{Command, command_of};
+use crate::gift::gift;
 use crate::replay::replay;
 use crate::script::script;
 use crate::stop::Stop;
@@ -32,6 +33,8 @@ pub fn run<S: Source, O: Sink>(alloc: Global, words: &[Text], source: &mut S, si
     match command_of(words) {
         Some(Command::Replay) => replay(alloc, source, sink),
         Some(Command::Script) => script(alloc, source, sink),
+        Some(Command::GiftCheck) => gift(alloc, false, source, sink),
+        Some(Command::GiftFormat) => gift(alloc, true, source, sink),
         None => show_usage(sink).status(),
     }
 }

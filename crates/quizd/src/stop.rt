@@ -14,6 +14,8 @@ pub enum Stop {
     BadWords,
     /// The text has no reading, and this is the first line without one, from 1: status 3.
     Malformed { line: u32 },
+    /// The GIFT text has no reading: a block at this line breaks this rule, and none before breaks any: status 3.
+    Unreadable { line: u32, rule: u8 },
     /// The source failed: status 4.
     SourceFault,
     /// The sink failed: status 5.
@@ -34,7 +36,7 @@ impl Stop {
     {
         match self {
             Stop::BadWords => 2,
-            Stop::Malformed { .. } => 3,
+            Stop::Malformed { .. } | Stop::Unreadable { .. } => 3,
             Stop::SourceFault => 4,
             Stop::SinkFault => 5,
             Stop::Memory => 8,
