@@ -10,3 +10,4 @@ pub mod InputLemmas
 pub mod ScriptLemmas
 pub mod DeskLemmas
 pub mod PlainLemmas
+pub mod GiftLemmas

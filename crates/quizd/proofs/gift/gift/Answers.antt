@@ -1,0 +1,7 @@
+use Rattle.quizd.specs.GiftEndings.{GiftsAll}
+use Rattle.std.proofs.Common.{sym, subst}
+use Rattle.quizd.proofs.GiftLemmas.{gifts_all}
+use Rattle.quizd.proofs.gift.gift.Goals as goal
+
+pub returns-in-Err-clause-complete : goal.returns-in-Err-clause-complete
+returns-in-Err-clause-complete g c = rw c.status.ensures (gifts_all c.args.writes _ _ c.in-Err.stop c.in-Err.ensures)
