@@ -9,6 +9,7 @@ mod fates;
 mod grades;
 mod history;
 mod keys;
+mod looking;
 mod missing;
 mod putting;
 mod replies;
