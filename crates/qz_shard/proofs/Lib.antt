@@ -10,3 +10,4 @@ pub mod Allowing
 pub mod Making
 pub mod StepLemmas
 pub mod GradeLemmas
+pub mod Again

@@ -9,6 +9,8 @@ mod fates;
 mod grades;
 mod history;
 mod keys;
+pub mod laws;
+mod looking;
 mod missing;
 mod putting;
 mod replies;

@@ -10,6 +10,7 @@ ghost use Rattle.qz_shard.specs.Holdings.{is_shard, is_change, is_look, IsAsked,
 use qz_grading::{AttemptId, Refusal, Steps, Thing};
 use crate::decision::{Decision, decide};
 use crate::history::{floor, start};
+use crate::looking::seen;
 use crate::putting::{moment_of, put, record_of};
 use crate::replies::said;
 use qz_terms::{Ask, Plan, Record, Reply, Request, User};
@@ -135,7 +136,11 @@ impl Shard {
         ensures answer { Answers self.old.records moment user.now plan.now ask.now result self.old.records }
         ensures unchanged { self.new ≡ self.old }
     {
-        Reply::Refused(Refusal::Memory)
+        let records = self.records.as_slice();
+        match seen(alloc, records, user, plan, ask, moment, steps) {
+            Ok(reply) => reply,
+            Err(NoMemory) => Reply::Refused(Refusal::Memory),
+        }
     }
 
     /// Answers a request, and puts the record that it makes. Where memory is wanting the list is as before.
