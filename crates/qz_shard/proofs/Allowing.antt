@@ -1,8 +1,8 @@
 -- A record that a request makes may stand at the end of the list.
-use Rattle.std.proofs.Common.{◌≡◌, ℕ, ◌+◌, ◌<◌, ◌≤◌, max, eqb, ltb, leb, Bool, true, false, not, ◌&&◌, ◌||◌, List, [], ◌∷◌, ◌++◌, Option, Some, None, length, map, refl, sym, ap, subst, ◌∙◌, arith, option_map, eq-eqb}
-use Rattle.std.specs.Prelude.{filter, filter_map, is_none, if◌then◌else◌, nat_le, nat_lt, unwrap_or}
+use Rattle.std.proofs.Common.{◌≡◌, ℕ, ltb, leb, Bool, true, false, not, ◌||◌, List, [], ◌∷◌, Option, Some, None, length, map, refl, ap, arith, option_map, eq-eqb}
+use Rattle.std.specs.Prelude.{filter, is_none, if◌then◌else◌}
 use Rattle.std.specs.List.{list_all, list_any}
-use Rattle.std.proofs.lemmas.Bool.{eqb-true, ltb-false, le-leb}
+use Rattle.std.proofs.lemmas.Bool.{ltb-false, le-leb}
 use Rattle.qz_grading.specs.declared.outcome.Moved.{Moved}
 use Rattle.qz_grading.specs.declared.outcome.Moved.TheVariants as moved
 use Rattle.qz_grading.specs.declared.refusal.AttemptId.{AttemptId}
@@ -11,11 +11,9 @@ use Rattle.qz_grading.specs.declared.refusal.Refusal.TheVariants as refusal
 use Rattle.qz_grading.specs.declared.refusal.Thing.TheVariants as thing
 use Rattle.qz_grading.specs.declared.response.Step.{Step}
 use Rattle.qz_grading.specs.Behaviours.{first_some, when}
-use Rattle.qz_grading.specs.Grading.{is_place}
 use Rattle.qz_terms.specs.declared.ask.Ask.{Ask}
 use Rattle.qz_terms.specs.declared.people.Caller.{Caller}
 use Rattle.qz_terms.specs.declared.people.User.{User}
-use Rattle.qz_terms.specs.declared.plan.Bound.{Bound}
 use Rattle.qz_terms.specs.declared.plan.Plan.{Plan}
 use Rattle.qz_terms.specs.declared.plan.Planned.{Planned}
 use Rattle.qz_terms.specs.declared.record.Event.{Event}
@@ -25,15 +23,15 @@ use Rattle.qz_terms.specs.declared.record.Record.{Record}
 use Rattle.qz_terms.specs.declared.request.Request.{Request}
 use Rattle.qz_terms.specs.declared.request.Request.TheVariants as request
 use Rattle.qz_terms.specs.Access.{start_cause}
-use Rattle.qz_terms.specs.Answer.{acted_or_noted, bind, event_here, moment_of, named_user, put_here, record_under, started_by, stepped_by, terms_under}
-use Rattle.qz_terms.specs.Cause.{Granted, by_key, cause_here, has_key, is_anothers, is_keyed, missing_attempt, missing_here, repeated_or_reused, spells, too_many, unfinished_at, verdict_here}
-use Rattle.qz_terms.specs.Legal.{EventIsAllowed, IsAllowed, IsLegal, IsPut, StartIsAllowed, at_least_floor, bound_at, is_here, is_plan_for, new_key_by, owner_by}
-use Rattle.qz_terms.specs.Lists.{first_of, up_to_first}
-use Rattle.qz_terms.specs.History.{Start, attempts, floor, start, time}
+use Rattle.qz_terms.specs.Answer.{acted_or_noted, bind, put_here, record_under, started_by, terms_under}
+use Rattle.qz_terms.specs.Cause.{Granted, by_key, cause_here, has_key, is_anothers, is_keyed, missing_attempt, missing_here, spells, too_many, unfinished_at, verdict_here}
+use Rattle.qz_terms.specs.Legal.{EventIsAllowed, IsAllowed, IsLegal, IsPut, bound_at, is_here, is_plan_for, new_key_by, owner_by}
+use Rattle.qz_terms.specs.Lists.{first_of}
+use Rattle.qz_terms.specs.History.{attempts, floor, start, time}
 use Rattle.qz_shard.specs.Holdings.{older}
 use Rattle.qz_shard.proofs.Keeping.{start-here}
 use Rattle.qz_shard.proofs.Learning.{learns-new}
-use Rattle.qz_shard.proofs.Legality.{IsFree, free-by, never-granted, told_event, told-pair}
+use Rattle.qz_shard.proofs.Legality.{IsFree, free-by, never-granted}
 
 -- ---- the moment and the key
 

@@ -1,13 +1,11 @@
 -- What stands under a key, and the first refusal of a request.
-use Rattle.std.proofs.Common.{◌≡◌, ℕ, ◌+◌, Bool, true, false, List, [], ◌∷◌, Option, Some, None, length, take, get_or, refl, sym, ap, ◌∙◌, option_map}
-use Rattle.std.specs.Prelude.{slice_get, position, filter, unwrap_or}
+use Rattle.std.proofs.Common.{◌≡◌, ℕ, ◌+◌, Bool, true, false, List, Some, None, length, take, get_or, refl, ap, ◌∙◌}
+use Rattle.std.specs.Prelude.{slice_get, position, filter}
 use Rattle.std.proofs.lemmas.Option.{slice_get_read}
-use Rattle.qz_grading.specs.declared.refusal.Refusal.{Refusal}
 use Rattle.qz_grading.specs.declared.refusal.Refusal.TheVariants as refusal
-use Rattle.qz_grading.specs.Behaviours.{first_some}
 use Rattle.qz_terms.specs.declared.record.Record.{Record}
-use Rattle.qz_terms.specs.Cause.{Verdict, Denied, Repeated, Granted, by_key, denied, has_key, repeated_or_reused, said_at}
-use Rattle.qz_terms.specs.Lists.{first_of, up_to_first}
+use Rattle.qz_terms.specs.Cause.{Denied, Repeated, by_key, has_key, repeated_or_reused, said_at}
+use Rattle.qz_terms.specs.Lists.{first_of}
 use Rattle.qz_terms.proofs.Walks.{IsFirstAt, found_up_to, found_nowhere}
 use Rattle.qz_shard.specs.declared.keys.Found.TheVariants as found
 use Rattle.qz_shard.specs.Decisions.{IsFound}

@@ -1,6 +1,6 @@
 -- The greatest total, one attempt more at a time, and the grade of one total.
-use Rattle.std.proofs.Common.{◌≡◌, ℕ, suc, ◌+◌, ◌*◌, ◌<◌, ◌≤◌, Bool, true, false, List, [], ◌∷◌, ◌++◌, Option, Some, None, length, take, get_or, map, append-nil, refl, sym, ap, ◌∙◌, arith}
-use Rattle.std.specs.Prelude.{ℤ, pos, negsuc, neg_ℤ, ◌+ℤ◌, ◌≤ℤ◌, filter, filter_map, fold, if◌then◌else◌, option_to_list, unsigned_abs, IfSome}
+use Rattle.std.proofs.Common.{◌≡◌, ℕ, ◌+◌, ◌*◌, ◌<◌, ◌≤◌, Bool, true, false, List, [], ◌∷◌, ◌++◌, Option, Some, None, length, take, get_or, map, append-nil, refl, sym, ap, ◌∙◌, arith}
+use Rattle.std.specs.Prelude.{ℤ, pos, negsuc, neg_ℤ, ◌≤ℤ◌, filter, filter_map, fold, option_to_list, unsigned_abs}
 use Rattle.std.specs.Int.{int_max}
 use Rattle.std.proofs.lemmas.Grind.{fold-append, take_at_read}
 use Rattle.std.proofs.lemmas.Int.{ints}
@@ -9,8 +9,8 @@ use Rattle.std.proofs.lemmas.List.Elements.{filter-append, filter_map-append}
 use Rattle.qz_decimal.specs.Numbers.{one}
 use Rattle.qz_grading.specs.declared.refusal.AttemptId.{AttemptId}
 use Rattle.qz_terms.specs.declared.record.Record.{Record}
-use Rattle.qz_terms.specs.History.{is_finished, scored, slots, total}
-use Rattle.qz_terms.specs.Rows.{greatest_total, total_of}
+use Rattle.qz_terms.specs.History.{is_finished, total}
+use Rattle.qz_terms.specs.Rows.{greatest_total}
 use Rattle.qz_usage.specs.Usages.{IsTotal}
 use Rattle.qz_shard.specs.Grades.{greater, highest_of}
 

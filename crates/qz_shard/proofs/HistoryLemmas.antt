@@ -1,12 +1,11 @@
 -- Where an attempt ended.
-use Rattle.std.proofs.Common.{◌≡◌, ℕ, ◌+◌, Bool, true, false, List, Option, Some, None, length, take, get_or, ◌<◌, arith, inl, inr, refl, sym, ap, ◌∙◌}
-use Rattle.std.specs.Prelude.{is_some, option_map, position, slice_get, filter, filter_map}
+use Rattle.std.proofs.Common.{◌≡◌, ℕ, ◌+◌, Bool, true, false, List, Option, Some, None, length, take, ◌<◌, arith, inl, inr, refl, ap, ◌∙◌}
+use Rattle.std.specs.Prelude.{is_some, option_map, position, slice_get}
 use Rattle.std.proofs.lemmas.Option.{slice_get_cases}
 use Rattle.qz_grading.specs.declared.refusal.AttemptId.{AttemptId}
 use Rattle.qz_terms.specs.declared.record.How.{How}
 use Rattle.qz_terms.specs.declared.record.Record.{Record}
 use Rattle.qz_terms.specs.History.{ends, ended, ended_at, place}
-use Rattle.qz_terms.specs.Lists.{first_of, up_to_first}
 use Rattle.qz_terms.proofs.Walks.{IsFirstAt, found_up_to, found_nowhere, first_told}
 
 abbrev is_end : AttemptId → Record → Bool

@@ -1,12 +1,11 @@
 -- What a list keeps of each record, told of what is read of it.
-use Rattle.std.proofs.Common.{◌≡◌, ℕ, zero, suc, ◌+◌, ◌<◌, ◌≤◌, ◌-◌, eqb, Bool, true, false, ◌&&◌, List, [], ◌∷◌, ◌++◌, Option, Some, None, length, get_or, refl, sym, ap, subst, ◌∙◌, arith, length-append, All, map}
+use Rattle.std.proofs.Common.{◌≡◌, ℕ, zero, suc, ◌-◌, eqb, Bool, true, false, ◌&&◌, List, [], ◌∷◌, ◌++◌, Some, None, length, refl, sym, ap, subst, ◌∙◌, arith, length-append, All, map}
 use Rattle.std.proofs.lemmas.List.{map-append}
 use Rattle.std.proofs.lemmas.List.Elements.{All-nil}
 use Rattle.std.specs.Prelude.{◌==◌, filter_map, if◌then◌else◌, nat_le, slice_get}
-use Rattle.std.specs.List.{list_all, last_or}
+use Rattle.std.specs.List.{list_all}
 use Rattle.std.proofs.Math.Seq.{get_or-append_seam}
 use Rattle.std.proofs.lemmas.Bool.{eqb-true}
-use Rattle.std.proofs.lemmas.Option.{slice_get_within, get_or_from_slice_get}
 use Rattle.qz_grading.specs.declared.outcome.Behaviour.{Behaviour}
 use Rattle.qz_grading.specs.declared.question.Question.{Question}
 use Rattle.qz_grading.specs.declared.refusal.AttemptId.{AttemptId}
@@ -17,9 +16,9 @@ use Rattle.qz_terms.specs.declared.record.Event.{Event}
 use Rattle.qz_terms.specs.declared.record.Event.TheVariants as event
 use Rattle.qz_terms.specs.declared.record.Learned.{Learned}
 use Rattle.qz_terms.specs.declared.record.Record.{Record}
-use Rattle.qz_terms.specs.Kept.{AreLearned, AreQuestions, IsKept, KeepsEvent, is_bound, is_moment}
-use Rattle.qz_terms.specs.Legal.{IsLegal, has_its_owner, is_here, owner_by}
-use Rattle.qz_terms.specs.Lists.{first_of, only_if}
+use Rattle.qz_terms.specs.Kept.{AreLearned, IsKept, KeepsEvent, is_bound, is_moment}
+use Rattle.qz_terms.specs.Legal.{IsLegal, is_here, owner_by}
+use Rattle.qz_terms.specs.Lists.{first_of}
 use Rattle.qz_terms.specs.History.{Start, binds, binds_by, bound, learned_by, learned_version, learns, same_attempt, start, started, starts, version}
 use Rattle.qz_terms.proofs.Walks.{IsToldIn, first_told_in, last_told_in}
 
@@ -110,7 +109,7 @@ learns-kept : (ls : List Learned) (e v : ℕ) (q : Question) → AreLearned ls �
 learns-kept ls e v q keeps is =
     let t = first_told_in (learned_version e v) ls q is in
     let all : All IsQuestion (map (λ (l : Learned). l.question) t.front ++ t.item.question ∷ map (λ (l : Learned). l.question) t.rest) =
-      subst (All IsQuestion) (ap (map (λ (l : Learned). l.question)) t.stands ∙ map-append (λ (l : Learned). l.question) t.front (t.item ∷ t.rest)) keeps in
+    subst (All IsQuestion) (ap (map (λ (l : Learned). l.question)) t.stands ∙ map-append (λ (l : Learned). l.question) t.front (t.item ∷ t.rest)) keeps in
     learned-kept t.item q e v ((t.item.entry == e) && (t.item.version == v)) refl t.tells (All-seam IsQuestion _ t.item.question _ all)
 
 none-learned : AreLearned []

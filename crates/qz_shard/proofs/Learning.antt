@@ -1,12 +1,11 @@
 -- What a start learns: the versions that it binds and that are new to the list, each once, in order.
-use Rattle.std.proofs.Common.{◌≡◌, ℕ, zero, suc, ◌+◌, ◌<◌, ◌≤◌, inl, inr, Bool, true, false, not, ◌&&◌, ◌||◌, List, [], ◌∷◌, ◌++◌, Option, Some, None, length, take, map, get_or, refl, sym, ap, ◌∙◌, append-nil, arith}
+use Rattle.std.proofs.Common.{◌≡◌, ℕ, zero, suc, ◌+◌, ◌<◌, ◌≤◌, inl, inr, Bool, true, false, not, ◌&&◌, ◌||◌, List, [], ◌∷◌, ◌++◌, length, take, map, get_or, refl, sym, ap, ◌∙◌, append-nil, arith}
 use Rattle.std.specs.Prelude.{filter, zip, is_none, if◌then◌else◌, ◌==◌}
 use Rattle.std.specs.List.{list_any}
 use Rattle.std.proofs.lemmas.List.{take_all}
 use Rattle.std.proofs.lemmas.List.Elements.{filter-append}
 use Rattle.std.proofs.lemmas.Option.{slice_get_cases}
 use Rattle.qz_grading.specs.declared.question.Question.{Question}
-use Rattle.qz_terms.specs.declared.plan.Bound.{Bound}
 use Rattle.qz_terms.specs.declared.plan.Planned.{Planned}
 use Rattle.qz_terms.specs.declared.record.Learned.{Learned}
 use Rattle.qz_terms.specs.declared.record.Record.{Record}
@@ -112,9 +111,9 @@ new_versions-new h ss qs n s q long inside is asks new =
 pub new_versions-old : (h : List Record) (ss : List Planned) (qs : List Question) (n : ℕ) (s : Planned) → length qs ≡ length ss → n < length ss → s ≡ get_or ss n s → is_new h (take n ss) s ≡ false
     → new_versions h (take (n + 1) (learned_all ss qs)) ≡ new_versions h (take n (learned_all ss qs))
 new_versions-old h ss qs n s long inside is old = elim (slice_get_cases qs n).1 [
-      inl w ↦ new_versions-one_more h ss qs n s w.0 long inside is (sym w.3) ∙ ap (λ (b : Bool). new_versions h (take n (learned_all ss qs)) ++ (if b then learned_as (s, w.0) ∷ [] else [])) old ∙ append-nil (new_versions h (take n (learned_all ss qs)))
-    | inr w ↦ absurd (let past : length qs ≤ n = w.0 in omega arith)
-    ]
+  | inl w ↦ new_versions-one_more h ss qs n s w.0 long inside is (sym w.3) ∙ ap (λ (b : Bool). new_versions h (take n (learned_all ss qs)) ++ (if b then learned_as (s, w.0) ∷ [] else [])) old ∙ append-nil (new_versions h (take n (learned_all ss qs)))
+  | inr w ↦ absurd (let past : length qs ≤ n = w.0 in omega arith)
+]
 
 pub learned-whole : (ss : List Planned) (qs : List Question) (n : ℕ) → length qs ≡ length ss → length ss ≤ n → take n (learned_all ss qs) ≡ learned_all ss qs
 learned-whole ss qs n long past = take_all n (learned_all ss qs) (let long_all = long-learned ss qs long in omega arith)

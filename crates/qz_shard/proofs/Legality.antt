@@ -1,6 +1,6 @@
 -- What a legal list tells, of each record and of the lists before it.
-use Rattle.std.proofs.Common.{◌≡◌, ℕ, ◌+◌, ◌<◌, ◌≤◌, ◌⊎◌, inl, inr, Bool, true, false, not, ◌&&◌, ◌||◌, List, [], ◌∷◌, ◌++◌, Option, Some, None, length, refl, sym, ap, subst, ◌∙◌, append_assoc, append-nil, arith, option_map}
-use Rattle.std.specs.Prelude.{filter_map, if◌then◌else◌, unwrap_or, option_and_then}
+use Rattle.std.proofs.Common.{◌≡◌, ℕ, ◌⊎◌, inl, inr, Bool, true, false, List, [], ◌∷◌, ◌++◌, Option, Some, None, refl, sym, ap, subst, ◌∙◌, append_assoc, append-nil, option_map}
+use Rattle.std.specs.Prelude.{if◌then◌else◌, unwrap_or}
 use Rattle.qz_grading.specs.declared.outcome.Moved.{Moved}
 use Rattle.qz_grading.specs.declared.outcome.Moved.TheVariants as moved
 use Rattle.qz_grading.specs.declared.refusal.AttemptId.{AttemptId}
@@ -18,11 +18,11 @@ use Rattle.qz_terms.specs.declared.record.Record.{Record}
 use Rattle.qz_terms.specs.declared.request.Request.{Request}
 use Rattle.qz_terms.specs.declared.request.Request.TheVariants as request
 use Rattle.qz_grading.specs.declared.outcome.Behaviour.{Behaviour}
-use Rattle.qz_terms.specs.Answer.{acted_or_noted, event_here, put_here, record_under, is_overdue, started_by}
+use Rattle.qz_terms.specs.Answer.{acted_or_noted, event_here, record_under, is_overdue, started_by}
 use Rattle.qz_terms.specs.Access.{settled_by}
-use Rattle.qz_terms.specs.Cause.{Verdict, Denied, Repeated, Granted, by_key, cause_here, denied, forbidden, has_key, missing_here, repeated_or_reused, spells, verdict_here}
+use Rattle.qz_terms.specs.Cause.{Verdict, Granted, by_key, cause_here, denied, forbidden, has_key, missing_here, repeated_or_reused, spells}
 use Rattle.qz_terms.specs.Legal.{IsAllowed, IsLegal, IsPut}
-use Rattle.qz_terms.specs.Lists.{first_of, up_to_first}
+use Rattle.qz_terms.specs.Lists.{up_to_first}
 use Rattle.qz_terms.specs.History.{next_attempt}
 
 -- ---- the lists before
@@ -50,17 +50,17 @@ split-push (z ∷ l) (w ∷ k) x y rest e =
     let head : z ≡ w = cc in
     let tail : l ++ x ∷ [] ≡ k ++ y ∷ rest = cc in
     elim (split-push l k x y rest tail) [
-      inl same ↦ inl (let lists : l ≡ k = same.0 in cc, same.1)
-    | inr behind ↦ inr (behind.0, let lists : l ≡ k ++ y ∷ behind.0 = behind.1 in cc)
+      | inl same ↦ inl (let lists : l ≡ k = same.0 in cc, same.1)
+      | inr behind ↦ inr (behind.0, let lists : l ≡ k ++ y ∷ behind.0 = behind.1 in cc)
     ]
 
 -- one more record that is allowed
 pub legal-push : (index count : ℕ) (l : List Record) (r : Record) → IsLegal index count l → IsAllowed index count l r → IsLegal index count (l ++ r ∷ [])
 legal-push index count l r legal allowed = record {
   each = λ k s rest e. elim (split-push l k r s rest e) [
-      inl same ↦ subst (λ (t : List Record). IsAllowed index count t s) same.0 (subst (λ (t : Record). IsAllowed index count l t) same.1 allowed)
+    | inl same ↦ subst (λ (t : List Record). IsAllowed index count t s) same.0 (subst (λ (t : Record). IsAllowed index count l t) same.1 allowed)
     | inr behind ↦ legal.each k s behind.0 behind.1
-    ];
+  ];
 }
 
 -- ---- what a record that a request put tells
@@ -105,7 +105,7 @@ free-by None None None None never e = (refl, refl, refl, refl)
 pub free-put : (l : List Record) (r : Record) → (p : IsPut l r) → IsFree l r.moment p.user p.plan p.ask.key p.ask.request
 free-put l r p =
     let parts = free-by (forbidden p.user p.ask.request) (missing_here l p.user p.ask.request) (by_key (spells p.ask.request) p.user.number p.ask.key l) (cause_here l r.moment p.user p.plan p.ask.request)
-      (never-granted (spells p.ask.request) p.user.number p.ask.key l) p.granted in
+    (never-granted (spells p.ask.request) p.user.number p.ask.key l) p.granted in
     record { allowed = parts.0; there = parts.1; fresh = parts.2; causeless = parts.3 }
 
 -- ---- a start is numbered

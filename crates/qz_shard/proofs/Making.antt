@@ -1,7 +1,7 @@
 -- The record that a decision makes may be put next, and what is then answered.
-use Rattle.std.proofs.Common.{◌≡◌, ℕ, suc, ℤ, ◌+◌, ◌-◌, ◌<◌, ◌≤◌, ◌^◌, max, eqb, ltb, leb, Bool, true, false, not, ◌&&◌, ◌||◌, List, [], ◌∷◌, ◌++◌, Option, Some, None, Result, Ok, Err, length, length-append, map, take, drop, get_or, refl, sym, ap, subst, ◌∙◌, arith, option_map, eq-eqb, All}
-use Rattle.std.specs.Prelude.{IfOk, OnErr, OnOk, ◌==◌, filter, filter_map, is_none, if◌then◌else◌, nat_le, nat_lt, option_to_list, slice_get, unwrap_or, zip}
-use Rattle.std.specs.List.{list_all, list_any, last_or}
+use Rattle.std.proofs.Common.{◌≡◌, ℕ, suc, ℤ, ◌+◌, ◌-◌, ◌<◌, ◌≤◌, ◌^◌, max, Bool, true, false, List, [], ◌∷◌, ◌++◌, Option, Some, None, Result, Ok, Err, length, length-append, map, take, drop, get_or, refl, sym, ap, subst, ◌∙◌, arith, option_map, All}
+use Rattle.std.specs.Prelude.{IfOk, OnErr, OnOk, ◌==◌, filter_map, is_none, if◌then◌else◌, unwrap_or}
+use Rattle.std.specs.List.{list_all, last_or}
 use Rattle.std.proofs.lemmas.Bool.{le-leb, leb-true}
 use Rattle.std.proofs.lemmas.List.{take-append-drop}
 use Rattle.std.proofs.lemmas.List.Elements.{All-cons, All-filter, All-head, All-map, All-nil, All-push, All-tail, All-take}
@@ -10,18 +10,15 @@ use Rattle.std.proofs.lemmas.Option.{get_or_from_slice_get, slice_get_within}
 use Rattle.qz_grading.specs.declared.question.Question.{Question}
 use Rattle.qz_grading.specs.declared.refusal.AttemptId.{AttemptId}
 use Rattle.qz_grading.specs.declared.refusal.Refusal.{Refusal}
-use Rattle.qz_grading.specs.declared.refusal.Refusal.TheVariants as refusal
 use Rattle.qz_grading.specs.declared.response.Step.{Step}
 use Rattle.qz_grading.specs.declared.response.Step.TheVariants as step
 use Rattle.qz_grading.specs.declared.outcome.Moved.{Moved}
 use Rattle.qz_grading.specs.declared.outcome.Moved.TheVariants as moved_as
 use Rattle.qz_grading.specs.Behaviours.{moved}
-use Rattle.qz_grading.specs.Grading.{is_place}
 use Rattle.qz_grading.specs.Questions.{IsQuestion}
 use Rattle.qz_terms.specs.declared.ask.Ask.{Ask}
 use Rattle.qz_terms.specs.declared.people.Caller.{Caller}
 use Rattle.qz_terms.specs.declared.people.User.{User}
-use Rattle.qz_terms.specs.declared.plan.Bound.{Bound}
 use Rattle.qz_terms.specs.declared.plan.Plan.{Plan}
 use Rattle.qz_terms.specs.declared.plan.Planned.{Planned}
 use Rattle.qz_terms.specs.declared.record.Event.{Event}
@@ -37,18 +34,18 @@ use Rattle.qz_terms.specs.declared.request.Request.TheVariants as request
 use Rattle.qz_terms.specs.Access.{settled_by}
 use Rattle.qz_terms.specs.Answer.{acted_or_noted, answer_here, bind, event_here, is_overdue, list_after, moment_of, named_user, new_versions, put_here, record_under, said, same_version, started_by, stepped_by}
 use Rattle.qz_terms.specs.Cause.{Verdict, Denied, Granted, Repeated, by_key, cause_here, forbidden, spells, is_keyed, missing_attempt, missing_here, missing_slot, verdict_here}
-use Rattle.qz_terms.specs.Kept.{AreLearned, AreQuestions, IsKept, IsKeptPlan, KeepsAsked, KeepsEvent, are_settings, is_bound, is_moment, is_planned, is_step}
-use Rattle.qz_terms.specs.Legal.{IsAllowed, IsLegal, is_here, is_plan_for}
-use Rattle.qz_terms.specs.Lists.{first_of, once}
+use Rattle.qz_terms.specs.Kept.{AreLearned, AreQuestions, IsKept, IsKeptPlan, KeepsAsked, KeepsEvent, is_bound, is_moment, is_planned, is_step}
+use Rattle.qz_terms.specs.Legal.{is_plan_for}
+use Rattle.qz_terms.specs.Lists.{once}
 use Rattle.qz_terms.specs.History.{next_attempt, owned_moment, slot_count, time}
 use Rattle.qz_terms.specs.History as history
-use Rattle.qz_terms.proofs.Walks.{IsToldIn, last_told_in}
+use Rattle.qz_terms.proofs.Walks.{last_told_in}
 use Rattle.qz_shard.specs.declared.decision.Decision.TheVariants as decision
 use Rattle.qz_shard.specs.Answering.{IsAnswered, IsPosed}
 use Rattle.qz_shard.specs.Decisions.{IsDecision, IsRepeated, IsSound}
 use Rattle.qz_shard.specs.Holdings.{Holding, IsHeld, StartsHere, is_change, is_students, is_students_event, older}
 use Rattle.qz_shard.specs.Nexts.{IsNext}
-use Rattle.qz_shard.proofs.Allowing.{IsGranted, IsOn, acted, ask_of, ended, first-none, made_ready, noted, on-allowed, on-step, start-allowed}
+use Rattle.qz_shard.proofs.Allowing.{IsGranted, IsOn, acted, ask_of, ended, first-none, made_ready, on-allowed, on-step, start-allowed}
 use Rattle.qz_shard.proofs.Keeping.{All-seam, and-left, and-right}
 use Rattle.qz_shard.proofs.Learning.{learned_all}
 use Rattle.qz_shard.proofs.Legality.{free-by, legal-before, legal-push, never-granted, told_event, told-pair}
@@ -204,7 +201,7 @@ next-made index count h now user plan who key (request.Settle a) e change here m
     let made : event.Ended a (settled_by plan.settings.handling) ≡ e = settles-by (is_overdue h (time h a.user now) plan a) a.user a.user a (settled_by plan.settings.handling) e m.makes in
     let g = granting index count h now user plan who key x e m in
     let put : put_here h (time h a.user now) user (made_ready plan) (ask_of who key x) ≡ Some (record_under (time h a.user now) user a.user key plan e) =
-      ap (option_map (λ (d : ℕ × Event). record_under (time h a.user now) user d.0 key plan d.1)) m.makes in
+    ap (option_map (λ (d : ℕ × Event). record_under (time h a.user now) user d.0 key plan d.1)) m.makes in
     next-on index count h now user plan who key x a e g (again-granted index count h (time h a.user now) user plan who key x g m.of_quiz m.granted) m.there
     (subst (IsOn a) made (ended a (settled_by plan.settings.handling))) put m.held.kept m.moment m.plan_kept (subst KeepsEvent made tt) m.students
 next-made index count h now user plan who key x e change here m = absurd cc
@@ -279,7 +276,7 @@ decided-next-here : (s : Holding) (now : ℕ) (user : User) (plan : Plan) (ask :
     → IsNext s.index s.count s.records (record_under (moment_of s.records now user ask.request) user (named_user user ask.request) ask.key plan e)
 decided-next-here s now user plan ask e held posed d =
     let parts = free-by (forbidden user ask.request) (missing_here s.records user ask.request) (by_key (spells ask.request) user.number ask.key s.records) (cause_here s.records (moment_of s.records now user ask.request) user plan ask.request)
-      (never-granted (spells ask.request) user.number ask.key s.records) d.0 in
+    (never-granted (spells ask.request) user.number ask.key s.records) d.0 in
     next-made s.index s.count s.records now user plan ask.caller ask.key ask.request e posed.change posed.here (record {
       held = held;
       keyed = posed.asked.keyed;

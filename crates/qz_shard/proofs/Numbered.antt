@@ -1,18 +1,15 @@
 -- A user's attempts in a legal list stand in order, and each start stands in a record of its own.
-use Rattle.std.proofs.Common.{◌≡◌, ℕ, ◌+◌, ◌<◌, ◌≤◌, eqb, ltb, Bool, true, false, not, ◌&&◌, ◌||◌, List, [], ◌∷◌, ◌++◌, Option, Some, None, length, refl, sym, ap, subst, ◌∙◌, append_assoc, append-nil, arith, option_map, eq-eqb}
+use Rattle.std.proofs.Common.{◌≡◌, ℕ, ◌+◌, ◌<◌, ◌≤◌, eqb, ltb, Bool, true, false, ◌&&◌, ◌||◌, List, [], ◌∷◌, ◌++◌, Option, Some, None, refl, sym, ap, subst, ◌∙◌, append-nil, arith, option_map, eq-eqb}
 use Rattle.std.specs.Prelude.{filter_map, option_to_list, is_some, if◌then◌else◌, ◌==◌}
 use Rattle.std.proofs.lemmas.Bool.{eqb-true, lt-ltb}
-use Rattle.qz_grading.specs.declared.outcome.Behaviour.{Behaviour}
 use Rattle.qz_grading.specs.declared.refusal.AttemptId.{AttemptId}
-use Rattle.qz_terms.specs.declared.plan.Bound.{Bound}
 use Rattle.qz_terms.specs.declared.record.Event.{Event}
 use Rattle.qz_terms.specs.declared.record.Event.TheVariants as event
-use Rattle.qz_terms.specs.declared.record.Learned.{Learned}
 use Rattle.qz_terms.specs.declared.record.Record.{Record}
-use Rattle.qz_terms.specs.Legal.{EventIsAllowed, IsAllowed, IsLegal, StartIsAllowed, is_here}
-use Rattle.qz_terms.specs.Lists.{first_of, how_many, in_order, placed, only_if}
-use Rattle.qz_terms.specs.History.{Start, attempt_before, attempts, is_owned, next_attempt, same_attempt, start, start_by, started, starts, starts_at}
-use Rattle.qz_terms.proofs.Walks.{IsToldIn, all_of-push, first_told_in, how_many-push}
+use Rattle.qz_terms.specs.Legal.{EventIsAllowed, IsLegal}
+use Rattle.qz_terms.specs.Lists.{how_many, in_order, placed}
+use Rattle.qz_terms.specs.History.{Start, attempt_before, attempts, is_owned, next_attempt, started, starts_at}
+use Rattle.qz_terms.proofs.Walks.{all_of-push, how_many-push}
 use Rattle.qz_shard.proofs.Legality.{by-prefixes, started-number}
 
 -- ---- lists in order
@@ -132,9 +129,10 @@ rising-by l r q u (Some a) is numbered_it so_far =
     let n = numbered_it a is in
     let number : a.nth ≡ made l u + 1 = n.number in
     let same : filter_map (starts_at q u) (l ++ r ∷ []) ≡ filter_map (starts_at q u) l ++ a ∷ [] = all_of-push (starts_at q u) l r ∙ ap (λ (o : Option AttemptId). filter_map (starts_at q u) l ++ option_to_list o) is in
-    let more : made (l ++ r ∷ []) u ≡ made l u + 1 = how_many-push (starts_one u) l r true n.counts in
-    (subst Rising (sym same) (rising-push _ a so_far.0 (all-before u (made l u) _ a so_far.1 n.user (omega arith))),
-     subst (Below u (made (l ++ r ∷ []) u)) (sym same) (below-push u (made (l ++ r ∷ []) u) _ a (below-more u (made l u) (made (l ++ r ∷ []) u) _ (omega arith) so_far.1) n.user (omega arith)))
+    let more : made (l ++ r ∷ []) u ≡ made l u + 1 = how_many-push (starts_one u) l r true n.counts in (
+      subst Rising (sym same) (rising-push _ a so_far.0 (all-before u (made l u) _ a so_far.1 n.user (omega arith))),
+      subst (Below u (made (l ++ r ∷ []) u)) (sym same) (below-push u (made (l ++ r ∷ []) u) _ a (below-more u (made l u) (made (l ++ r ∷ []) u) _ (omega arith) so_far.1) n.user (omega arith)),
+    )
 
 rising-none : (q u : ℕ) → AreRising q u []
 unfolding Rising Below

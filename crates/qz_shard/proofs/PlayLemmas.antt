@@ -1,5 +1,5 @@
 -- The slots of an attempt that are played again, one after another.
-use Rattle.std.proofs.Common.{◌≡◌, ℕ, zero, suc, ◌+◌, List, [], ◌∷◌, ◌++◌, Option, Some, None, length, map, refl, sym, ap, ◌∙◌, append-nil, arith}
+use Rattle.std.proofs.Common.{◌≡◌, ℕ, zero, suc, ◌+◌, List, [], ◌∷◌, ◌++◌, Option, Some, None, map, refl, sym, ap, ◌∙◌, append-nil, arith}
 use Rattle.std.specs.Prelude.{zip, filter_map, option_to_list}
 use Rattle.std.specs.List.{range_with_len}
 use Rattle.std.proofs.lemmas.List.{map-append}
@@ -55,9 +55,9 @@ played-more h a n runs p so_far here = record {
   questions = so_far.questions ++ p.question.now ∷ [];
   bound = bound-push runs so_far.questions p.run p.question.now so_far.bound here.1;
   count =
-    scored-push runs so_far.questions p.run p.question.now so_far.bound
-    ∙ ap (λ (t : List Scored). t ++ scored (p.run, p.question.now) ∷ []) so_far.count
-    ∙ sym (slots-more h a n (Some (slot_of p.run p.question.now)) here.0);
+      scored-push runs so_far.questions p.run p.question.now so_far.bound
+      ∙ ap (λ (t : List Scored). t ++ scored (p.run, p.question.now) ∷ []) so_far.count
+      ∙ sym (slots-more h a n (Some (slot_of p.run p.question.now)) here.0);
 }
 
 pub played-same : (h : List Record) (a : AttemptId) (n : ℕ) (runs : List Run) → ArePlayed h a n runs → IsSlot None (slot h a (n + 1)) → ArePlayed h a (n + 1) runs

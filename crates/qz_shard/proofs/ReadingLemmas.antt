@@ -1,10 +1,10 @@
 -- What is kept of each record, told of what a walk over the list found.
-use Rattle.std.proofs.Common.{◌≡◌, ℕ, ◌≤◌, Bool, true, false, List, Option, Some, None, sym, ap, subst, ◌*◌, length, ◌∙◌, arith, option_map, All, Bor}
+use Rattle.std.proofs.Common.{◌≡◌, ℕ, ◌≤◌, true, List, Option, Some, None, sym, subst, ◌*◌, length, option_map, All, Bor}
 use lib.Signed.{le_z_yes}
 use Rattle.std.specs.List.{list_all}
 use Rattle.std.proofs.lemmas.Bool.{leb-true}
 use lib.Dec.{T}
-use Rattle.std.specs.Prelude.{option_copied, IfSome, ◌&&◌, int_le, nat_le, pos, ◌≤ℤ◌, ℤ}
+use Rattle.std.specs.Prelude.{option_copied, IfSome, int_le, nat_le, pos, ◌≤ℤ◌, ℤ}
 use Rattle.qz_decimal.specs.Numbers.{IsMaxMark, one}
 use Rattle.qz_grading.specs.declared.question.Question.{Question}
 use Rattle.qz_grading.specs.declared.refusal.AttemptId.{AttemptId}

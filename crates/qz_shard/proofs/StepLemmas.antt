@@ -1,5 +1,5 @@
 -- What a step on a slot comes to.
-use Rattle.std.proofs.Common.{◌≡◌, ℕ, Bool, true, false, not, List, [], ◌∷◌, Option, Some, None, Ok, Err, refl, sym, ap, ◌∙◌, option_map}
+use Rattle.std.proofs.Common.{◌≡◌, ℕ, true, false, not, List, Option, Some, None, Ok, Err, refl, sym, ap, ◌∙◌, option_map}
 use Rattle.std.specs.Prelude.{option_and_then}
 use Rattle.qz_grading.specs.declared.outcome.Moved.{Moved}
 use Rattle.qz_grading.specs.declared.outcome.Moved.TheVariants as moved_as
@@ -49,10 +49,11 @@ time_of h moment plan a = time_cause (λ began. answer_cause plan.settings began
 
 pub fate-taken : (h : List Record) (moment : ℕ) (user : User) (plan : Plan) (a : AttemptId) (k : ℕ) (x : Step) (s : Slot) (m : Moved) (e : Event) → time_of h moment plan a ≡ None → slot h a k ≡ Some s → step_cause s.behaviour s.question s.bound.max s.steps x ≡ None → m ≡ moved s.steps x → e ≡ acted_or_noted m a k x → is_mark x ≡ false
     → IsStepFate h moment user plan a k x (Ok e)
-fate-taken h moment user plan a k x s m e early found free moves made unmarked =
-    (rw (early, found, free) refl,
-     made ∙ ap (λ (v : Moved). acted_or_noted v a k x) (moves ∙ ap (λ (t : List Step). moved t x) (slot-steps h a k s found)),
-     ap is_students_event made ∙ students-step m a k x unmarked)
+fate-taken h moment user plan a k x s m e early found free moves made unmarked = (
+  rw (early, found, free) refl,
+  made ∙ ap (λ (v : Moved). acted_or_noted v a k x) (moves ∙ ap (λ (t : List Step). moved t x) (slot-steps h a k s found)),
+  ap is_students_event made ∙ students-step m a k x unmarked,
+)
 
 pub fate-refused : (h : List Record) (moment : ℕ) (user : User) (plan : Plan) (a : AttemptId) (k : ℕ) (x : Step) (s : Slot) (r shown : Refusal) → time_of h moment plan a ≡ None → slot h a k ≡ Some s → step_cause s.behaviour s.question s.bound.max s.steps x ≡ Some r → shown ≡ refusal_shown (sees_marks h plan.settings user a moment) r
     → IsStepFate h moment user plan a k x (Err shown)

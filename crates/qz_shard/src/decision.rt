@@ -62,7 +62,9 @@ fn fate<L: Ledger>(
             response,
         } => {
             let step = Step::Save(response_of(alloc, response, *certainty)?);
-            fate_of_step(alloc, records, moment, user, plan, *attempt, *slot, step, steps)
+            fate_of_step(
+                alloc, records, moment, user, plan, *attempt, *slot, step, steps,
+            )
         }
         Request::Submit {
             attempt,
@@ -71,7 +73,9 @@ fn fate<L: Ledger>(
             response,
         } => {
             let step = Step::Submit(response_of(alloc, response, *certainty)?);
-            fate_of_step(alloc, records, moment, user, plan, *attempt, *slot, step, steps)
+            fate_of_step(
+                alloc, records, moment, user, plan, *attempt, *slot, step, steps,
+            )
         }
         Request::Again { attempt, slot } => fate_of_step(
             alloc,
@@ -84,9 +88,7 @@ fn fate<L: Ledger>(
             Step::Again,
             steps,
         ),
-        Request::Finish { attempt } => {
-            Ok(fate_of_finish(records, moment, user, plan, *attempt))
-        }
+        Request::Finish { attempt } => { Ok(fate_of_finish(records, moment, user, plan, *attempt)) }
         _ => Err(NoMemory),
     }
 }

@@ -178,7 +178,9 @@ pub(crate) fn starts_at(quiz: u32, user: u32, record: &Record) -> Option<Attempt
 {
     match &record.event {
         Event::Started {
-            quiz: other, nth, ..
+            quiz: other,
+            nth,
+            ..
         } if *other == quiz && record.owner == user => Some(AttemptId { user, nth: *nth }),
         _ => None,
     }
@@ -189,9 +191,8 @@ fn binds(attempt: AttemptId, slot: u16, record: &Record) -> Option<Bound>
     ensures { result ≡ binds attempt slot «record».now }
 {
     match &record.event {
-        Event::Started { nth, bounds, .. } if attempt.user == record.owner && attempt.nth == *nth => {
-            bound_at(bounds.as_slice(), slot)
-        }
+        Event::Started { nth, bounds, .. } if attempt.user == record.owner && attempt.nth == *nth =>
+            { bound_at(bounds.as_slice(), slot) }
         Event::Rebound {
             attempt: other,
             slot: place,

@@ -21,12 +21,7 @@ fn missing_attempt(records: &[Record], user: &User, attempt: AttemptId) -> Optio
 }
 
 /// The refusal of a request that names a slot that isn't there.
-fn missing_slot(
-    records: &[Record],
-    user: &User,
-    attempt: AttemptId,
-    slot: u16,
-) -> Option<Refusal>
+fn missing_slot(records: &[Record], user: &User, attempt: AttemptId, slot: u16) -> Option<Refusal>
     ensures { result ≡ missing_slot records.now user.now attempt slot }
 {
     if let Some(refusal) = missing_attempt(records, user, attempt) {

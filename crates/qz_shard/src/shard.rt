@@ -7,12 +7,12 @@ ghost use Rattle.qz_terms.specs.Legal.{IsLegal};
 ghost use Rattle.qz_shard.specs.Answering.{IsAnswered, IsPosed};
 ghost use Rattle.qz_shard.specs.Holdings.{is_shard, is_change, is_look, IsAsked, StartsHere, older, Answers, IsAnsweredAgain};
 
-use qz_grading::{AttemptId, Refusal, Steps, Thing};
 use crate::decision::{Decision, decide};
 use crate::history::{floor, start};
 use crate::looking::seen;
 use crate::putting::{moment_of, put, record_of};
 use crate::replies::said;
+use qz_grading::{AttemptId, Refusal, Steps, Thing};
 use qz_terms::{Ask, Plan, Record, Reply, Request, User};
 use qz_text::{Listed, NoMemory};
 use std::alloc::Global;

@@ -33,9 +33,7 @@ fn bounds_of(alloc: Global, plan: &Plan) -> Result<Listed<Bound>, NoMemory>
 fn stands_in(slot: &Planned, earlier: &[Planned]) -> bool
     ensures { result ≡ stands_in slot.now earlier.now }
 {
-    earlier
-        .iter()
-        .any(|other| other.entry == slot.entry && other.version == slot.version)
+    earlier.iter().any(|other| other.entry == slot.entry && other.version == slot.version)
 }
 
 /// Whether the version of a slot is new to the shard, behind the slots before.

@@ -13,8 +13,8 @@ loop-record-preserved c =
     let all = all_kept (starts_at c.args.quiz c.args.user) c.args.records.now c.loop-record.record-index c.record-item.result c.loop-record-test.true c.record-item.is in
     let before = filter_map (starts_at c.args.quiz c.args.user) (take c.loop-record.record-index c.args.records.now) in
     elim c.match-starts_at.branch [
-      in-Some+in_ok-push w ↦ rw w.found-is (w.in_ok-push.ensures.items ∙ ap (λ (t : List AttemptId). t ++ option_to_list (Some w.in-Some.attempt)) c.loop-record.invariant ∙ ap (λ (o : Option AttemptId). before ++ option_to_list o) w.in-Some.ensures ∙ sym all)
-    | in_default w ↦ rw w.found-is (c.loop-record.invariant ∙ sym (append-nil before) ∙ ap (λ (o : Option AttemptId). before ++ option_to_list o) w.in_default.ensures ∙ sym all)
+      | in-Some+in_ok-push w ↦ rw w.found-is (w.in_ok-push.ensures.items ∙ ap (λ (t : List AttemptId). t ++ option_to_list (Some w.in-Some.attempt)) c.loop-record.invariant ∙ ap (λ (o : Option AttemptId). before ++ option_to_list o) w.in-Some.ensures ∙ sym all)
+      | in_default w ↦ rw w.found-is (c.loop-record.invariant ∙ sym (append-nil before) ∙ ap (λ (o : Option AttemptId). before ++ option_to_list o) w.in_default.ensures ∙ sym all)
     ]
 
 pub returns : goal.returns

@@ -1,6 +1,6 @@
 use Rattle.qz_terms.specs.History.{binds}
 use Rattle.qz_terms.proofs.Walks.{last_kept}
-use Rattle.std.proofs.Common.{◌≡◌, List, ap, ◌∙◌, option_map, option_copied}
+use Rattle.std.proofs.Common.{List, ap, ◌∙◌}
 use Rattle.std.proofs.lemmas.List.{take_all}
 use Rattle.qz_terms.specs.declared.record.Record.{Record}
 use Rattle.qz_terms.specs.History.{bound}

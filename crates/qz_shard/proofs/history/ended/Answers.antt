@@ -1,4 +1,3 @@
-use Rattle.std.proofs.Common.{sym, ◌∙◌}
 use Rattle.qz_terms.specs.History.{ends}
 use Rattle.qz_terms.proofs.Walks.{first_kept}
 use Rattle.qz_shard.proofs.history.ended.Goals as goal

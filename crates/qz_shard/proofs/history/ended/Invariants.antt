@@ -1,6 +1,5 @@
-use Rattle.std.proofs.Common.{◌≡◌, take, option_map}
+use Rattle.std.proofs.Common.{◌≡◌, take}
 use Rattle.qz_terms.specs.History.{ended}
-use Rattle.qz_shard.specs.Readings.{start_of}
 use Rattle.qz_shard.proofs.history.ended.Given as goal
 
 abbrev pub invariant-loop-record : goal.invariant-loop-record

@@ -1,7 +1,7 @@
 use Rattle.std.proofs.Common.{◌≡◌, rules, max, sym, ap, ◌∙◌, Option, ℕ}
 use Rattle.std.specs.Prelude.{unwrap_or}
 use Rattle.qz_terms.specs.declared.record.Record.{Record}
-use Rattle.qz_terms.specs.History.{floor, floor_by}
+use Rattle.qz_terms.specs.History.{floor_by}
 use Rattle.qz_terms.proofs.Walks.{greatest_kept}
 use Rattle.qz_shard.proofs.history.floor.Goals as goal
 

@@ -1,4 +1,4 @@
-use Rattle.qz_terms.specs.History.{learned_by, learned_version}
+use Rattle.qz_terms.specs.History.{learned_version}
 use Rattle.qz_terms.proofs.Walks.{first_kept, option_map-either}
 use Rattle.qz_shard.proofs.history.learns.Goals as goal
 

@@ -1,7 +1,7 @@
 use Rattle.qz_terms.specs.History.{starts}
 use Rattle.qz_terms.proofs.Walks.{first_kept, option_map-either}
 use Rattle.qz_shard.specs.Readings.{start_of}
-use Rattle.std.proofs.Common.{◌≡◌, List, ap, ◌∙◌, option_map, option_copied}
+use Rattle.std.proofs.Common.{List, ap, ◌∙◌}
 use Rattle.std.proofs.lemmas.List.{take_all}
 use Rattle.qz_terms.specs.declared.record.Record.{Record}
 use Rattle.qz_terms.specs.History.{start}

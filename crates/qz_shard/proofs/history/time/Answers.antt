@@ -1,4 +1,3 @@
-use Rattle.std.proofs.Common.{sym, ◌∙◌}
 use Rattle.qz_terms.specs.History.{owned_moment}
 use Rattle.qz_terms.proofs.Walks.{last_kept}
 use Rattle.qz_shard.proofs.history.time.Goals as goal

@@ -1,6 +1,4 @@
-use Rattle.std.proofs.Common.{◌≡◌, take}
-use Rattle.qz_terms.specs.History.{steps}
-use Rattle.qz_usage.specs.Runs.{IsBound, behaviour_of}
+use Rattle.std.proofs.Common.{take}
 use Rattle.qz_shard.specs.Replays.{IsReplayed}
 use Rattle.qz_shard.proofs.slots.replay.Given as goal
 

@@ -1,4 +1,4 @@
-use Rattle.std.proofs.Common.{◌≡◌, ◌≤◌, length}
+use Rattle.std.proofs.Common.{◌≤◌, length}
 use Rattle.qz_shard.specs.Plays.{ArePlayed}
 use Rattle.qz_shard.proofs.totals.runs_of.Given as goal
 
