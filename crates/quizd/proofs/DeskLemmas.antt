@@ -1,6 +1,6 @@
 -- A request to a school of one shard.
-use Rattle.std.proofs.Common.{◌≡◌, ℕ, ◌%◌, Bool, true, false, not, ◌||◌, List, [], ◌∷◌, Option, Some, None, refl, sym, ap, ◌∙◌, subst, arith}
-use Rattle.std.specs.Prelude.{is_some, is_none, if◌then◌else◌, unwrap_or, option_map}
+use Rattle.std.proofs.Common.{◌≡◌, ℕ, ◌%◌, Bool, true, false, ◌||◌, List, [], ◌∷◌, Option, Some, None, refl, sym, ap, ◌∙◌, subst, arith}
+use Rattle.std.specs.Prelude.{is_some}
 use Rattle.qz_grading.specs.declared.refusal.Refusal.{Refusal}
 use Rattle.qz_grading.specs.declared.refusal.Refusal.TheVariants as refusal
 use Rattle.qz_grading.specs.declared.refusal.Thing.TheVariants as thing
@@ -12,7 +12,7 @@ use Rattle.qz_terms.specs.declared.reply.Reply.{Reply}
 use Rattle.qz_terms.specs.declared.reply.Reply.TheVariants as reply
 use Rattle.qz_terms.specs.declared.request.Request.{Request}
 use Rattle.qz_terms.specs.declared.request.Request.TheVariants as request
-use Rattle.qz_terms.specs.Answer.{after_by, answer_by, answer_here, asked_part, asks_catalog, catalog_list, first_refusal, list_after, part_at, part_of, plan_for, school_answer, school_answer_by, shard_list, user_answer, user_after}
+use Rattle.qz_terms.specs.Answer.{after_by, answer_by, answer_here, asked_part, asks_catalog, catalog_list, first_refusal, list_after, part_at, part_of, plan_for, school_answer, school_answer_by, shard_list, user_answer}
 use Rattle.qz_terms.specs.Catalog as catalog
 use Rattle.qz_terms.specs.Serial.{Asks, Lists, Turn, answered, is_settled, lists_over, no_memory, part_read, reads_part, reply_over, stays, with_list}
 use Rattle.qz_terms.proofs.Joined.{joined_law}

@@ -1,21 +1,19 @@
 -- A line that is read piece by piece.
-use Rattle.std.proofs.Common.{◌≡◌, ℕ, ◌+◌, ◌<◌, ◌≤◌, Bool, true, false, List, [], ◌∷◌, ◌++◌, length, drop, Option, refl, sym, ap, ◌∙◌, subst, append-nil, append_assoc, length-append, MatchBool, arith}
+use Rattle.std.proofs.Common.{◌≡◌, ℕ, ◌+◌, ◌≤◌, Bool, true, false, List, [], ◌∷◌, ◌++◌, length, drop, Option, refl, sym, ap, ◌∙◌, subst, append-nil, append_assoc, length-append, arith}
 use Rattle.std.specs.Io.KnownBytes.{Consumes, IsAtEnd}
 use Rattle.std.specs.Prelude.{nat_lt}
 use Rattle.std.proofs.lemmas.List.{drop-drop, drop_all, drop_at}
 use Rattle.std.proofs.KnownBytes.{Consumes-nil, Consumes-trans}
-use Rattle.qz_outside.specs.Causes.{HasRisen}
-use Rattle.qz_outside.specs.Sources.{FailsReading}
 use Rattle.quizd.specs.declared.script_line.ScriptLine.{ScriptLine}
 use Rattle.quizd.specs.declared.script_line.ScriptLine.TheVariants as script
 use Rattle.quizd.specs.declared.script_input.Given.TheVariants as given
 use Rattle.quizd.specs.declared.stop.Stop.{Stop}
 use Rattle.quizd.specs.declared.stop.Stop.TheVariants as stop
 use Rattle.quizd.specs.Asking.{kept, line_limit, with_piece}
-use Rattle.quizd.specs.Inputs.{Buffer, Ends, Fills, FillStops, Gives, GivesLine, GivesNext, GoesOn, GoesPast, IsUnfed, NextFailed, NextGoesPast, NextStops, Unkept, fed_parts, given_last}
+use Rattle.quizd.specs.Inputs.{Buffer, Ends, Fills, FillStops, Gives, GivesNext, GoesOn, IsUnfed, NextStops, fed_parts, given_last}
 use Rattle.quizd.specs.Words.{IsCutAt}
 use Rattle.quizd.proofs.KeptLemmas.{kept-piece}
-use Rattle.quizd.proofs.PartLemmas.{glued, parts-append}
+use Rattle.quizd.proofs.PartLemmas.{parts-append}
 
 -- some bytes were read, and with what was held they are the front of a line and what is held now
 pub record IsBegun (old now : Buffer) (left rest : Option (List ℕ)) (before later : ℕ) (line : ScriptLine) : Type 0 where

@@ -1,7 +1,7 @@
 -- The lines of a script that are answered in turn.
-use Rattle.std.proofs.Common.{◌≡◌, ◌⊎◌, ℕ, ◌+◌, ◌<◌, ◌≤◌, Bool, true, false, ◌==◌, List, [], ◌∷◌, ◌++◌, length, map, take, Option, Some, None, Ok, Err, Result, MatchResult, refl, sym, ap, ◌∙◌, subst, inl, inr, append-nil, append_assoc, length-append, arith}
+use Rattle.std.proofs.Common.{◌≡◌, ◌⊎◌, ℕ, ◌<◌, ◌≤◌, Bool, true, false, ◌==◌, List, [], ◌∷◌, ◌++◌, length, map, take, Option, Some, None, Ok, Err, Result, MatchResult, refl, sym, ap, ◌∙◌, subst, inl, inr, append-nil, append_assoc, length-append, arith}
 use Rattle.std.specs.Prelude.{flat_map}
-use Rattle.std.specs.Io.KnownBytes.{Appends, Consumes, IsAtEnd, Keeps}
+use Rattle.std.specs.Io.KnownBytes.{Appends, Consumes, Keeps}
 use Rattle.std.specs.List.{onto_first}
 use Rattle.std.proofs.KnownBytes.{Appends-kept, Appends-nil, Appends-trans, Consumes-nil, Consumes-trans}
 use Rattle.std.proofs.lemmas.List.{take_at}
@@ -9,17 +9,16 @@ use Rattle.qz_outside.specs.Causes.{HasRisen}
 use Rattle.qz_outside.specs.Sources.{AppendsFront}
 use Rattle.qz_terms.specs.declared.reply.Reply.{Reply}
 use Rattle.qz_terms.specs.Serial.{Goes, Lists, Serial, ended, next, Line}
-use Rattle.quizd.specs.declared.script_input.Given.{Given}
 use Rattle.quizd.specs.declared.script_input.Given.TheVariants as given
 use Rattle.quizd.specs.declared.script_line.ScriptLine.{ScriptLine}
 use Rattle.quizd.specs.declared.stop.Stop.{Stop}
 use Rattle.quizd.specs.declared.stop.Stop.TheVariants as stop
 use Rattle.quizd.specs.Asking.{kept, kept_item, line_item}
 use Rattle.quizd.specs.Endings.{Outside, status_of}
-use Rattle.quizd.specs.Inputs.{Buffer, GivesNext, IsUnfed, NextStops, fed_parts}
+use Rattle.quizd.specs.Inputs.{Buffer, GivesNext, NextStops, fed_parts}
 use Rattle.quizd.specs.Lines.{lines_of}
 use Rattle.quizd.specs.Replies.{reply_line}
-use Rattle.quizd.specs.Scripts.{AnswersLine, AnswerStops, Answered, AreFirst, LeavesLine, Says, SayStops, ScriptCut, ScriptDone, ScriptSourceFailed, ScriptTooLong, ServeEnds, ServesAll, but_last, ended_lines}
+use Rattle.quizd.specs.Scripts.{AnswersLine, AnswerStops, Answered, AreFirst, LeavesLine, Says, SayStops, ScriptCut, ScriptDone, ServeEnds, ServesAll, but_last, ended_lines}
 use Rattle.quizd.proofs.PartLemmas.{glued, glued-more, parts-append, some_part}
 
 -- ---- one line

@@ -1,5 +1,3 @@
-use Rattle.std.proofs.Common.{sym, ◌∙◌, inl}
-use Rattle.std.proofs.KnownBytes.{Keeps-refl}
 use Rattle.quizd.proofs.ScriptLemmas.{answers}
 use Rattle.quizd.proofs.script.answer.Goals as goal
 

@@ -1,4 +1,4 @@
-use Rattle.std.proofs.Common.{drop, sym, ap, ◌∙◌}
+use Rattle.std.proofs.Common.{drop, ap, ◌∙◌}
 use Rattle.std.proofs.lemmas.List.{take_rest}
 use Rattle.quizd.proofs.InputLemmas.{ends_at}
 use Rattle.quizd.proofs.script_input.ScriptInput.lengthen.Goals as goal

@@ -1,6 +1,6 @@
-use Rattle.std.proofs.Common.{◌≡◌, ◌<◌, true, false, length, sym, ◌∙◌, arith}
+use Rattle.std.proofs.Common.{arith}
 use Rattle.std.proofs.lemmas.Result.{err_from_is_err_and}
-use Rattle.quizd.specs.Inputs.{Ends, Fills, GoesOn}
+use Rattle.quizd.specs.Inputs.{Ends, GoesOn}
 use Rattle.quizd.proofs.InputLemmas.{begins, gives_line, gives_last, goes_on, holds_line, stops_next}
 use Rattle.quizd.proofs.script_input.ScriptInput.next.Goals as goal
 

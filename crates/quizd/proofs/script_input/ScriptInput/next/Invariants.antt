@@ -1,4 +1,4 @@
-use Rattle.std.proofs.Common.{◌-◌, ◌<◌, ℕ, length}
+use Rattle.std.proofs.Common.{◌-◌, ◌<◌, length}
 use Rattle.quizd.proofs.InputLemmas.{IsBegun}
 use Rattle.quizd.proofs.script_input.ScriptInput.next.Given as goal
 
