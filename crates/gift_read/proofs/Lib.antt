@@ -6,6 +6,9 @@ pub mod PartLemmas
 pub mod PieceLemmas
 pub mod PlaceLemmas
 pub mod ReadLemmas
+pub mod SoundLemmas
+pub mod TogetherLemmas
+pub mod QuestionLemmas
 pub mod TextLemmas
 pub mod ValueLemmas
 pub mod WrittenNumbers

@@ -1,5 +1,5 @@
 -- The items of a text, block by block.
-use Rattle.std.proofs.Common.{◌≡◌, ℕ, List, [], ◌∷◌, ◌++◌, refl, sym, ap, ◌∙◌, append_assoc}
+use Rattle.std.proofs.Common.{◌≡◌, ℕ, List, [], ◌∷◌, ◌++◌, refl, append_assoc}
 use Rattle.std.specs.Prelude.{Result, Ok, Err}
 use Rattle.qz_grading.specs.declared.question.Item.{Item}
 use Rattle.gift_read.specs.declared.reading.Entry.{Entry}

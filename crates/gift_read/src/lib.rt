@@ -21,4 +21,6 @@ pub use fault::GiftFault;
 pub use reading::read;
 
 #[cfg(test)]
+mod tests;
+#[cfg(test)]
 mod tests_faults;

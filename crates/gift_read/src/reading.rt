@@ -1,8 +1,10 @@
 //! The reading of a text.
 
-ghost use Rattle.std.specs.Prelude.{◌≡◌, true, [], ◌∷◌, codes, IfOk, OnOk};
+ghost use Rattle.std.specs.Prelude.{◌≡◌, true, [], ◌∷◌, All, map, codes, IfOk, OnOk};
 ghost use Rattle.gift_lex.specs.Blocks.{blocks_of};
 ghost use Rattle.qz_grading.specs.declared.question.Bank.{Bank};
+ghost use Rattle.qz_grading.specs.declared.question.Item.{Item};
+ghost use Rattle.qz_grading.specs.Questions.{IsQuestion};
 ghost use Rattle.gift_read.specs.declared.fault.GiftFault.TheVariants.{Malformed};
 ghost use Rattle.gift_read.specs.Category.{is_category};
 ghost use Rattle.gift_read.specs.Faults.{line_of};
@@ -24,8 +26,11 @@ use std::alloc::Global;
 /// `Malformed` is the first fault: the line of the first block at fault (or of the first byte that isn't UTF-8, which comes
 /// before all blocks), and the least rule that it breaks. Only want of memory may stand in its place, or in that of a bank; a
 /// text with more lines than a `u32` counts is taken so. Nothing is left behind by either.
+///
+/// Each question of a bank keeps what every question keeps: the limits of its texts and pieces, and the ranges of its numbers.
 pub fn read(alloc: Global, text: &[u8]) -> Result<Bank, GiftFault>
-    ensures { Answers result (reading text.now) }
+    ensures reading { Answers result (reading text.now) }
+    ensures questions { IfOk result (λ bank. All IsQuestion (map (λ (i : Item). i.question) bank.items)) }
 {
     match as_text(text) {
         Ok(text) => Ok(Bank {
