@@ -7,3 +7,6 @@ mod usage;
 
 pub use slot_run::SlotRun;
 pub use usage::Usage;
+
+#[cfg(test)]
+mod tests;

@@ -1,0 +1,240 @@
+ghost use Rattle.std.specs.Prelude.{◌≡◌, ◌<◌, ◌∷◌, [], pos, IfOk, IfSome, codes};
+ghost use Rattle.qz_decimal.specs.Numbers.{IsMaxMark};
+ghost use Rattle.qz_grading.specs.Questions.{IsQuestion};
+ghost use Rattle.qz_grading.specs.Steps.{given};
+ghost use Rattle.qz_usage.specs.Runs.{IsBound};
+
+use super::*;
+use qz_decimal::{Fraction, Mark};
+use qz_grading::{
+    Answer, Behaviour, Choice, Format, Kind, Moved, Question, Refusal, Response, Rich, Shape, Step,
+    Steps,
+};
+use qz_terms::Bound;
+use qz_text::{Listed, NoMemory, Text};
+use std::alloc::Global;
+use std::marker::Brand;
+use std::sync::ledger::{Blank, Ledger};
+use std::test::Fail;
+
+/// The units in 1.
+const ONE: i64 = 10_000_000;
+
+fn no_text(alloc: Global) -> Rich
+    ensures { result.text ≡ [] }
+{
+    Rich {
+        format: Format::Moodle,
+        text: Text {
+            items: String::new(alloc),
+        },
+    }
+}
+
+fn question(alloc: Global, kind: Kind) -> Question
+    ensures kind { result.kind ≡ kind }
+    ensures name { result.name ≡ [] }
+    ensures text { result.text.text ≡ [] }
+    ensures general { result.general.text ≡ [] }
+    ensures penalty { result.penalty ≡ pos 0 }
+    ensures hints { result.hints ≡ [] }
+{
+    Question {
+        name: Text {
+            items: String::new(alloc),
+        },
+        text: no_text(alloc),
+        general: no_text(alloc),
+        kind,
+        penalty: Fraction(0),
+        hints: Listed::empty(alloc),
+    }
+}
+
+fn truth(alloc: Global, right: bool) -> Question
+    ensures { IsQuestion result }
+{
+    question(
+        alloc,
+        Kind::TrueFalse {
+            right,
+            on_wrong: no_text(alloc),
+            on_right: no_text(alloc),
+        },
+    )
+}
+
+fn choice(alloc: Global, weight: Fraction) -> Result<Choice, NoMemory>
+    ensures weight { IfOk result (λ c. c.weight ≡ weight) }
+    ensures text { IfOk result (λ c. c.text.text ≡ codes "a") }
+    ensures feedback { IfOk result (λ c. c.feedback.text ≡ []) }
+{
+    Ok(Choice {
+        weight,
+        text: Rich {
+            format: Format::Moodle,
+            text: Text::of(alloc, "a")?,
+        },
+        feedback: no_text(alloc),
+    })
+}
+
+/// The first of two choices is right.
+fn two_choices(alloc: Global) -> Result<Question, NoMemory>
+    ensures { IfOk result IsQuestion }
+{
+    let right = choice(alloc, Fraction(ONE))?;
+    let wrong = choice(alloc, Fraction(0))?;
+    let items = vec![in alloc; right, wrong]?;
+    Ok(question(alloc, Kind::One(Listed { items })))
+}
+
+fn bound(max: i64) -> Bound
+    ensures { result.max ≡ max }
+{
+    Bound {
+        entry: 1,
+        version: 1,
+        max: Mark(max),
+        at: 7,
+    }
+}
+
+/// True, or false.
+fn save(right: bool) -> Step
+    ensures { given result ≡ None }
+{
+    Step::Save(Response {
+        answer: Answer::Pick(if right { 1 } else { 2 }),
+        certainty: 0,
+    })
+}
+
+/// What comes of a step, of which gradings are counted by nobody.
+fn acted<L: Ledger>(
+    blank: Blank,
+    run: &mut SlotRun,
+    question: &Question,
+    step: Step,
+) -> Result<Result<Moved, Refusal>, NoMemory>
+    requires name { blank.name ≡ L.name }
+    requires parts { blank.parts ≡ L.parts }
+    requires some_part { 0 < blank.parts }
+    requires question { IsBound run.old question.now }
+    requires max { IfSome (given step) (λ m. m.1 ≡ run.old.bound.max) }
+    ensures question { IsBound run.new question.now }
+    ensures bound { run.new.bound ≡ run.old.bound }
+{
+    run.reserve()?;
+    Ok(run.act(question, step, &mut Steps::<L>::open(blank)))
+}
+
+fn act(
+    run: &mut SlotRun,
+    question: &Question,
+    step: Step,
+) -> Result<Result<Moved, Refusal>, NoMemory>
+    requires question { IsBound run.old question.now }
+    requires max { IfSome (given step) (λ m. m.1 ≡ run.old.bound.max) }
+    ensures question { IsBound run.new question.now }
+    ensures bound { run.new.bound ≡ run.old.bound }
+{
+    acted::<Brand>(Blank::new(1), run, question, step)
+}
+
+fn rebound<L: Ledger>(
+    blank: Blank,
+    run: &mut SlotRun,
+    old: &Question,
+    newer: &Question,
+) -> Result<(), Refusal>
+    requires name { blank.name ≡ L.name }
+    requires parts { blank.parts ≡ L.parts }
+    requires some_part { 0 < blank.parts }
+    requires question { IsBound run.old old.now }
+    requires newer { IsQuestion newer.now }
+{
+    run.bind(old, newer, bound(4 * ONE), &mut Steps::<L>::open(blank))
+}
+
+fn rebind(run: &mut SlotRun, old: &Question, newer: &Question) -> Result<(), Refusal>
+    requires question { IsBound run.old old.now }
+    requires newer { IsQuestion newer.now }
+{
+    rebound::<Brand>(Blank::new(1), run, old, newer)
+}
+
+/// A slot whose answer is saved and finished.
+fn finished(
+    alloc: Global,
+    behaviour: Behaviour,
+    question: &Question,
+    max: i64,
+) -> Result<SlotRun, NoMemory>
+    requires question { IsQuestion question.now }
+    requires max { IsMaxMark max }
+    ensures question { IfOk result (λ run. IsBound run question.now) }
+    ensures max { IfOk result (λ run. run.bound.max ≡ max) }
+{
+    let mut run = SlotRun::new(alloc, behaviour, question, bound(max))?;
+    let _ = act(&mut run, question, save(true))?;
+    let _ = act(&mut run, question, Step::Finish)?;
+    Ok(run)
+}
+
+#[test]
+fn a_slot_is_bound_anew(rt: HostRuntime) -> Result<(), Fail> {
+    let alloc = rt.alloc();
+    let (old, newer) = (truth(alloc, true), truth(alloc, false));
+    let mut run = finished(alloc, Behaviour::Deferred, &old, 2 * ONE)?;
+    assert!(rt; run.mark() == Some(Mark(2 * ONE)));
+    assert!(rt; rebind(&mut run, &old, &newer).is_ok());
+    assert!(rt; run.mark() == Some(Mark(0)));
+    Ok(())
+}
+
+#[test]
+fn another_shape_is_refused(rt: HostRuntime) -> Result<(), Fail> {
+    let alloc = rt.alloc();
+    let (old, other) = (truth(alloc, true), two_choices(alloc)?);
+    let mut run = finished(alloc, Behaviour::Deferred, &old, 2 * ONE)?;
+    let truth = Shape {
+        kind: 2,
+        first: 0,
+        second: 0,
+    };
+    let choices = Shape {
+        kind: 3,
+        first: 2,
+        second: 0,
+    };
+    match rebind(&mut run, &old, &other) {
+        Err(Refusal::Incompatible { bound, newer }) => {
+            assert!(rt; bound == truth && newer == choices)
+        }
+        _ => panic!(rt; "another shape is bound"),
+    }
+    Ok(())
+}
+
+/// A slot with 2 of 2, and one whose teacher gives a half of 1 later.
+#[test]
+fn a_total_waits_for_the_teacher(rt: HostRuntime) -> Result<(), Fail> {
+    let alloc = rt.alloc();
+    let truth = truth(alloc, true);
+    let unmarked = finished(alloc, Behaviour::Manual, &truth, ONE)?;
+    let waiting = Usage::of(vec![in alloc; unmarked]?);
+    assert!(rt; waiting.total().is_none());
+
+    let graded = finished(alloc, Behaviour::Deferred, &truth, 2 * ONE)?;
+    let mut marked = finished(alloc, Behaviour::Manual, &truth, ONE)?;
+    let half = Step::Mark {
+        mark: Mark(ONE / 2),
+        max: Mark(ONE),
+    };
+    assert!(rt; act(&mut marked, &truth, half)? == Ok(Moved::Kept));
+    let usage = Usage::of(vec![in alloc; graded, marked]?);
+    assert!(rt; usage.total() == Some(Mark(5 * ONE / 2)));
+    assert!(rt; usage.slot(0).is_none() && usage.slot(2).is_some() && usage.slot(3).is_none());
+    Ok(())
+}
