@@ -84,7 +84,7 @@ ask_of words = do
   asked ← request_of command.0 command.1
   Ok (moment.0, record { caller = caller.Token token.0; key = key; request = asked })
 
--- what the law of a shard asks of a request: it has a key where it has to, and all is in range
+-- what a shard asks of a request: it has a key where it has to, and all is in range
 pub record CanBeAsked (ask : Ask) (moment : ℕ) : Type 0 where
   pub keyed : is_keyed ask ≡ true
   pub kept : KeepsAsked ask.request

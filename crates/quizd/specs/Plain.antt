@@ -97,7 +97,7 @@ the_plan u = refl
 
 -- ---- how it answers a request that is read
 
--- what the law of a shard asks of the plan of a request
+-- the plan of a request is the one quiz's
 pub record IsPlanned (h : List Record) (user : User) (x : Request) : Type 0 where
   pub plan_is : plan_for catalogue h user x ≡ Some plan
   pub of_quiz : is_plan_for h plan x ≡ true
