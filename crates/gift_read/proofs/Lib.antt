@@ -5,10 +5,10 @@ pub mod LineCounts
 pub mod PartLemmas
 pub mod PieceLemmas
 pub mod PlaceLemmas
+pub mod QuestionLemmas
 pub mod ReadLemmas
 pub mod SoundLemmas
-pub mod TogetherLemmas
-pub mod QuestionLemmas
 pub mod TextLemmas
+pub mod TogetherLemmas
 pub mod ValueLemmas
 pub mod WrittenNumbers
