@@ -1,0 +1,4 @@
+pub mod PlaceLemmas
+pub mod TextLemmas
+pub mod PartLemmas
+pub mod ValueLemmas

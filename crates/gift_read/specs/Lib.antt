@@ -1,0 +1,11 @@
+pub mod Places
+pub mod Texts
+pub mod Parts
+pub mod Values
+pub mod Category
+pub mod Faults
+pub mod Gift
+pub mod Computing
+pub mod Examples
+pub mod ExamplesKinds
+pub mod ExamplesFaults
