@@ -2,3 +2,14 @@ pub mod PlaceLemmas
 pub mod TextLemmas
 pub mod PartLemmas
 pub mod ValueLemmas
+pub mod ReadBackPlaces
+pub mod ReadBackMarks
+pub mod ReadBackRich
+pub mod ReadBackFrame
+pub mod ReadBackGeneral
+pub mod ReadBackTold
+pub mod ReadBackPlain
+pub mod ReadBackTruth
+pub mod ReadBackLines
+pub mod ReadBackBank
+pub mod ReadBackWriting

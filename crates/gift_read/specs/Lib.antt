@@ -9,3 +9,4 @@ pub mod Computing
 pub mod Examples
 pub mod ExamplesKinds
 pub mod ExamplesFaults
+pub mod Written

@@ -3,6 +3,7 @@
 
 mod fault;
 mod kinds;
+pub mod laws;
 mod parts;
 mod places;
 mod question;

@@ -14,7 +14,7 @@ use Rattle.gift_write.specs.Escapes.{written_text}
 -- ---- one character beyond ASCII
 
 -- no byte of it is below 128, so it is written as it is where such bytes are
-flat_map-wide : (f : ℕ → List ℕ) → ((b : ℕ) → 128 ≤ b → f b ≡ b ∷ []) → (c : ℕ) → 128 ≤ c → flat_map f (encode_utf8 c) ≡ encode_utf8 c
+pub flat_map-wide : (f : ℕ → List ℕ) → ((b : ℕ) → 128 ≤ b → f b ≡ b ∷ []) → (c : ℕ) → 128 ≤ c → flat_map f (encode_utf8 c) ≡ encode_utf8 c
 unfolding encode_utf8
 flat_map-wide f plain c wide =
     let P : List ℕ → Type 0 = λ bs. flat_map f bs ≡ bs in
@@ -27,7 +27,7 @@ flat_map-wide f plain c wide =
     (λ _. cond_both (ltb c 65536) three four P (λ _. rw (plain (224 + c / 4096) (omega arith), more (c / 64), more c) refl)
     (λ _. rw (plain (240 + c / 262144) (omega arith), more (c / 4096), more (c / 64), more c) refl)))
 
-escaped_byte-wide : (b : ℕ) → 128 ≤ b → escaped_byte b ≡ b ∷ []
+pub escaped_byte-wide : (b : ℕ) → 128 ≤ b → escaped_byte b ≡ b ∷ []
 escaped_byte-wide b wide =
     rw (ne_eqb b 10 (λ e. omega arith), ne_eqb b 126 (λ e. omega arith), ne_eqb b 61 (λ e. omega arith), ne_eqb b 35 (λ e. omega arith), ne_eqb b 123 (λ e. omega arith), ne_eqb b 125 (λ e. omega arith), ne_eqb b 58 (λ e. omega arith), ne_eqb b 92 (λ e. omega arith)) refl
 

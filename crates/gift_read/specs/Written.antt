@@ -1,0 +1,69 @@
+-- Questions as a reading makes them.
+use Rattle.std.specs.Prelude.{◌≡◌, ◌≢◌, ℕ, ◌≤◌, ◌==◌, Bool, true, not, IsTrue, List, [], ◌∷◌}
+use Rattle.std.specs.List.{list_all}
+use Rattle.std.specs.Str.{IsUtf8, chars}
+use Rattle.qz_grading.specs.declared.question.Format.{Format}
+use Rattle.qz_grading.specs.declared.question.Kind.{Kind}
+use Rattle.qz_grading.specs.declared.question.Kind.TheVariants as kind
+use Rattle.qz_grading.specs.declared.question.Question.{Question}
+use Rattle.qz_grading.specs.declared.question.Rich.{Rich}
+use Rattle.qz_grading.specs.Canonical.{canonical_size}
+use Rattle.qz_grading.specs.Grading.{is_space}
+use Rattle.qz_grading.specs.Questions.{IsSound, are_no_longer, texts}
+use Rattle.gift_lex.specs.Blocks.{carriage_return}
+use Rattle.gift_read.specs.Faults.{most_bytes, most_together}
+use Rattle.gift_read.specs.Values.{penalty_of}
+
+-- ---- texts
+
+-- characters that don't begin with white space
+abbrev pub begins_ink : List ℕ → Bool
+begins_ink [] = true
+begins_ink (c ∷ cs) = not (is_space c)
+
+-- or end with it
+abbrev pub ends_ink : List ℕ → Bool
+ends_ink [] = true
+ends_ink (c ∷ []) = not (is_space c)
+ends_ink (c ∷ d ∷ cs) = ends_ink (d ∷ cs)
+
+abbrev pub has_no_return : List ℕ → Bool
+has_no_return cs = list_all (λ c. not (c == carriage_return)) cs
+
+-- a text in UTF-8 without outer white space and without a carriage return
+pub record IsText (text : List ℕ) : Type 0 where
+  pub utf8 : IsUtf8 text
+  pub begins : IsTrue (begins_ink (chars text))
+  pub ends : IsTrue (ends_ink (chars text))
+  pub no_return : IsTrue (has_no_return (chars text))
+
+-- where such a text is empty it has the default format
+pub record IsRich (default : Format) (r : Rich) : Type 0 where
+  pub text : IsText r.text
+  pub empty : r.text ≡ [] → r.format ≡ default
+
+-- ---- questions
+
+-- the texts of a kind are such
+abbrev pub IsKind : Format → Kind → Type 0
+IsKind default kind.Description = Unit {0}
+IsKind default kind.Essay = Unit {0}
+IsKind default (kind.TrueFalse right on_wrong on_right) = IsRich default on_wrong × IsRich default on_right
+IsKind default k = ⊥
+
+pub record IsWritten (q : Question) : Type 0 where
+  pub name : IsText q.name
+  pub named : q.name ≢ []
+  pub text : IsText q.text.text
+  pub general : IsRich q.text.format q.general
+  -- a description has no braces for it
+  pub described : q.kind ≡ kind.Description → q.general.text ≡ []
+  pub kind : IsKind q.text.format q.kind
+  pub sound : IsSound q.kind
+  pub penalty : q.penalty ≡ penalty_of q.kind
+  pub no_hints : q.hints ≡ []
+  pub lengths : IsTrue (are_no_longer most_bytes (texts q))
+  pub size : canonical_size q ≤ most_together
+
+pub record ReadsBack : Type 0 where
+  pub same : (n : ℕ) → n ≡ n
