@@ -13,3 +13,7 @@ pub mod ReadBackTruth
 pub mod ReadBackLines
 pub mod ReadBackBank
 pub mod ReadBackWriting
+pub mod ReadBackParts
+pub mod ReadBackKinds
+pub mod ReadBackCategory
+pub mod ReadBackLaw

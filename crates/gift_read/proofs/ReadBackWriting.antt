@@ -49,7 +49,7 @@ Writes-append text more cs ds ms ns first second = record {
 
 -- ---- escaped texts
 
-scalars-all : (cs : List ℕ) → scalars cs ≡ list_all scalar cs
+pub scalars-all : (cs : List ℕ) → scalars cs ≡ list_all scalar cs
 scalars-all [] = refl
 scalars-all (c ∷ cs) = ap (λ (b : Bool). scalar c && b) (scalars-all cs)
 

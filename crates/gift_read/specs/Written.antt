@@ -1,5 +1,5 @@
 -- Questions as a reading makes them.
-use Rattle.std.specs.Prelude.{◌≡◌, ◌≢◌, ℕ, ◌≤◌, ◌==◌, Bool, true, not, IsTrue, List, [], ◌∷◌}
+use Rattle.std.specs.Prelude.{◌≡◌, ◌≢◌, ℕ, ◌≤◌, ◌==◌, Bool, true, false, not, IsTrue, List, [], ◌∷◌, Result, Ok}
 use Rattle.std.specs.List.{list_all}
 use Rattle.std.specs.Str.{IsUtf8, chars}
 use Rattle.qz_grading.specs.declared.question.Format.{Format}
@@ -7,10 +7,14 @@ use Rattle.qz_grading.specs.declared.question.Kind.{Kind}
 use Rattle.qz_grading.specs.declared.question.Kind.TheVariants as kind
 use Rattle.qz_grading.specs.declared.question.Question.{Question}
 use Rattle.qz_grading.specs.declared.question.Rich.{Rich}
-use Rattle.qz_grading.specs.Canonical.{canonical_size}
+use Rattle.qz_grading.specs.declared.question.Bank.{Bank}
+use Rattle.qz_grading.specs.declared.question.Item.{Item}
+use Rattle.qz_grading.specs.Canonical.{canonical, canonical_size}
 use Rattle.qz_grading.specs.Grading.{is_space}
 use Rattle.qz_grading.specs.Questions.{IsSound, are_no_longer, texts}
-use Rattle.gift_lex.specs.Blocks.{carriage_return}
+use Rattle.gift_lex.specs.Blocks.{carriage_return, line_feed}
+use Rattle.gift_read.specs.Category.{slash}
+use Rattle.gift_read.specs.Gift.{reading}
 use Rattle.gift_read.specs.Faults.{most_bytes, most_together}
 use Rattle.gift_read.specs.Values.{penalty_of}
 
@@ -65,5 +69,34 @@ pub record IsWritten (q : Question) : Type 0 where
   pub lengths : IsTrue (are_no_longer most_bytes (texts q))
   pub size : canonical_size q ≤ most_together
 
+-- ---- categories
+
+-- a name that doesn't begin with a slash
+abbrev pub begins_name : List ℕ → Bool
+begins_name [] = false
+begins_name (c ∷ cs) = not (c == slash)
+
+-- a name of a category isn't empty and has no line feed
+pub record IsName (name : List ℕ) : Type 0 where
+  pub text : IsText name
+  pub begins : IsTrue (begins_name (chars name))
+  pub feedless : IsTrue (list_all (λ c. not (c == line_feed)) (chars name))
+
+abbrev pub AreNames : List (List ℕ) → Type 0
+AreNames [] = Unit {0}
+AreNames (name ∷ names) = IsName name × AreNames names
+
+-- ---- banks
+
+pub record IsItem (i : Item) : Type 0 where
+  pub named : i.category ≢ []
+  pub names : AreNames i.category
+  pub question : IsWritten i.question
+
+abbrev pub AreItems : List Item → Type 0
+AreItems [] = Unit {0}
+AreItems (i ∷ is) = IsItem i × AreItems is
+
+-- a bank of such questions is what its canonical text is read as
 pub record ReadsBack : Type 0 where
-  pub same : (n : ℕ) → n ≡ n
+  pub same : (bank : Bank) → AreItems bank.items → reading (canonical bank) ≡ Ok bank
