@@ -17,3 +17,6 @@ pub mod ReadBackParts
 pub mod ReadBackKinds
 pub mod ReadBackCategory
 pub mod ReadBackLaw
+pub mod ReadBackPieces
+pub mod ReadBackLayout
+pub mod ReadBackMatching

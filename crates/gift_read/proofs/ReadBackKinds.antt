@@ -35,7 +35,7 @@ pub record IsFramed (name : List ℕ) (r general : Rich) (k : Kind) : Type 0 whe
 
 -- ---- descriptions
 
-asks-description : (name : List ℕ) (r general : Rich) → IsFramed name r general kind.Description → general.text ≡ [] → IsQuestionText (question_with name r general kind.Description)
+pub asks-description : (name : List ℕ) (r general : Rich) → IsFramed name r general kind.Description → general.text ≡ [] → IsQuestionText (question_with name r general kind.Description)
 asks-description name r general is none =
     one-line (question_with name r general kind.Description) [] [] [] is.own_name is.own_text refl Writes-nil is.small
     (λ b marks. reads-description b name r general is.own_name is.named is.own_text is.own_general none is.short (marks ∙ ap (named_marks name) (append-nil (rich_marks format.Moodle r))))
@@ -50,7 +50,7 @@ pub Writes-opening : Writes (codes "{") (codes "{") (Sign 123 ∷ [])
 unfolding encode_utf8
 Writes-opening = Writes-ascii (codes "{") refl refl refl refl refl
 
-asks-essay : (name : List ℕ) (r general : Rich) → IsFramed name r general kind.Essay → (none : Bool) → is_nothing general.text ≡ none → IsQuestionText (question_with name r general kind.Essay)
+pub asks-essay : (name : List ℕ) (r general : Rich) → IsFramed name r general kind.Essay → (none : Bool) → is_nothing general.text ≡ none → IsQuestionText (question_with name r general kind.Essay)
 asks-essay name r general is true e =
     one-line (question_with name r general kind.Essay) (codes "{}") (codes "{}") (Sign 123 ∷ Sign 125 ∷ []) is.own_name is.own_text (rw e refl) Writes-braces is.small
     (λ b marks. reads-essay b name r general is.own_name is.named is.own_text is.own_general is.short true e marks)
@@ -98,7 +98,7 @@ truth-marks f right on_wrong on_right general no_wrong no_right none =
     ap (λ (t : Marks). Sign 123 ∷ ((t ++ cond none [] (hashes ++ rich_marks f general)) ++ (Sign 125 ∷ [])))
     (append_assoc (word right) w r ∙ ap (λ (t : Marks). word right ++ t) (tail-parts f on_wrong on_right no_wrong no_right))
 
-asks-truth : (name : List ℕ) (r general on_wrong on_right : Rich) (right : Bool) → IsFramed name r general (kind.TrueFalse right on_wrong on_right) → IsRich r.format on_wrong → IsRich r.format on_right
+pub asks-truth : (name : List ℕ) (r general on_wrong on_right : Rich) (right : Bool) → IsFramed name r general (kind.TrueFalse right on_wrong on_right) → IsRich r.format on_wrong → IsRich r.format on_right
     → IsQuestionText (question_with name r general (kind.TrueFalse right on_wrong on_right))
 asks-truth name r general on_wrong on_right right is is_wrong is_right =
     let f = r.format in
@@ -115,36 +115,3 @@ asks-truth name r general on_wrong on_right right is is_wrong is_right =
     one-line (question_with name r general (kind.TrueFalse right on_wrong on_right)) _ _ _ is.own_name is.own_text refl writes is.small
     (λ b marks. reads-truth b name r general on_wrong on_right right is.own_name is.named is.own_text is.own_general is_wrong is_right is.short no_wrong no_right none refl refl refl
     (marks ∙ ap (λ (t : Marks). named_marks name (rich_marks format.Moodle r ++ t)) (truth-marks f right on_wrong on_right general no_wrong no_right none)))
-
--- ---- every kind
-
-asks-kind : (name : List ℕ) (r general : Rich) (k : Kind) → IsFramed name r general k → IsKind r.format k → (k ≡ kind.Description → general.text ≡ []) → IsQuestionText (question_with name r general k)
-asks-kind name r general kind.Description is own described = asks-description name r general is (described refl)
-asks-kind name r general kind.Essay is own described = asks-essay name r general is (is_nothing general.text) refl
-asks-kind name r general (kind.TrueFalse right on_wrong on_right) is own described = asks-truth name r general on_wrong on_right right is own.0 own.1
-asks-kind name r general (kind.One choices) is own described = absurd own
-asks-kind name r general (kind.Several choices) is own described = absurd own
-asks-kind name r general (kind.Matching pairs) is own described = absurd own
-asks-kind name r general (kind.ShortAnswer answers) is own described = absurd own
-asks-kind name r general (kind.Numerical answers) is own described = absurd own
-
-written-whole : (q : Question) → IsWritten q → question_with q.name q.text q.general q.kind ≡ q
-written-whole q is =
-    sym (ap (λ (p : ℤ). record { name = q.name; text = q.text; general = q.general; kind = q.kind; penalty = p; hints = q.hints }) is.penalty
-    ∙ ap (λ (h : List (List ℕ)). question_with_hints q h) is.no_hints)
-  where
-    question_with_hints : Question → List (List ℕ) → Question
-    question_with_hints q h = record (question_with q.name q.text q.general q.kind) { hints = h }
-
-pub asks-written : (q : Question) → IsWritten q → IsQuestionText q
-asks-written q is =
-    let whole = written-whole q is in
-    let framed : IsFramed q.name q.text q.general q.kind = record {
-      own_name = is.name;
-      named = is.named;
-      own_text = is.text;
-      own_general = is.general;
-      short = is.lengths;
-      small = subst (λ (p : Question). canonical_size p ≤ most_together) (sym whole) is.size;
-    } in
-    subst IsQuestionText whole (asks-kind q.name q.text q.general q.kind framed is.kind is.described)

@@ -1,5 +1,5 @@
 -- A bank of written questions is what its canonical text is read as.
-use Rattle.std.proofs.Common.{◌≡◌, ◌≢◌, ℕ, Bool, true, false, cond, ◌&&◌, ◌==◌, List, [], ◌∷◌, ◌++◌, length, Ok, refl, sym, ap, ◌∙◌, subst, codes, arith, append_assoc}
+use Rattle.std.proofs.Common.{◌≡◌, ◌≢◌, ◌≤◌, ℕ, ℤ, Bool, true, false, cond, ◌&&◌, ◌==◌, List, [], ◌∷◌, ◌++◌, length, Ok, refl, sym, ap, ◌∙◌, subst, codes, arith, append_assoc}
 use Rattle.std.specs.List.{list_all}
 use Rattle.std.specs.Prelude.{zip, bytes_eq}
 use Rattle.std.proofs.lemmas.Slice.Eq.{bytes_eq-Decides}
@@ -7,10 +7,52 @@ use Rattle.std.proofs.lemmas.Bool.{and_parts, eqb-true}
 use Rattle.qz_grading.specs.declared.question.Bank.{Bank}
 use Rattle.qz_grading.specs.declared.question.Item.{Item}
 use Rattle.qz_grading.specs.Canonical.{same_path, category_path, category_line, canonical_question, canonical_items, canonical}
-use Rattle.gift_read.specs.Written.{AreNames, AreItems, ReadsBack}
-use Rattle.gift_read.proofs.ReadBackBank.{ReadsItems, reads-none, reads-question, reading-items}
-use Rattle.gift_read.proofs.ReadBackKinds.{asks-written}
+use Rattle.qz_grading.specs.Canonical.{is_nothing, canonical_size}
+use Rattle.qz_grading.specs.Questions.{IsSound}
+use Rattle.qz_grading.specs.declared.question.Kind.{Kind}
+use Rattle.qz_grading.specs.declared.question.Kind.TheVariants as kind
+use Rattle.qz_grading.specs.declared.question.Question.{Question}
+use Rattle.qz_grading.specs.declared.question.Rich.{Rich}
+use Rattle.gift_read.specs.Faults.{most_together}
+use Rattle.gift_read.specs.Values.{question_with}
+use Rattle.gift_read.specs.Written.{IsKind, IsWritten, AreNames, AreItems, ReadsBack}
+use Rattle.gift_read.proofs.ReadBackBank.{IsQuestionText, ReadsItems, reads-none, reads-question, reading-items}
+use Rattle.gift_read.proofs.ReadBackKinds.{IsFramed, asks-description, asks-essay, asks-truth}
+use Rattle.gift_read.proofs.ReadBackMatching.{asks-matching}
 use Rattle.gift_read.proofs.ReadBackCategory.{reads-category}
+
+-- ---- every kind
+
+asks-kind : (name : List ℕ) (r general : Rich) (k : Kind) → IsFramed name r general k → IsKind r.format k → IsSound k → (k ≡ kind.Description → general.text ≡ []) → IsQuestionText (question_with name r general k)
+asks-kind name r general kind.Description is own whole described = asks-description name r general is (described refl)
+asks-kind name r general kind.Essay is own whole described = asks-essay name r general is (is_nothing general.text) refl
+asks-kind name r general (kind.TrueFalse right on_wrong on_right) is own whole described = asks-truth name r general on_wrong on_right right is own.0 own.1
+asks-kind name r general (kind.One choices) is own whole described = absurd own
+asks-kind name r general (kind.Several choices) is own whole described = absurd own
+asks-kind name r general (kind.Matching pairs) is own whole described = asks-matching name r general pairs is own whole
+asks-kind name r general (kind.ShortAnswer answers) is own whole described = absurd own
+asks-kind name r general (kind.Numerical answers) is own whole described = absurd own
+
+written-whole : (q : Question) → IsWritten q → question_with q.name q.text q.general q.kind ≡ q
+written-whole q is =
+    sym (ap (λ (p : ℤ). record { name = q.name; text = q.text; general = q.general; kind = q.kind; penalty = p; hints = q.hints }) is.penalty
+    ∙ ap (λ (h : List (List ℕ)). question_with_hints q h) is.no_hints)
+  where
+    question_with_hints : Question → List (List ℕ) → Question
+    question_with_hints q h = record (question_with q.name q.text q.general q.kind) { hints = h }
+
+pub asks-written : (q : Question) → IsWritten q → IsQuestionText q
+asks-written q is =
+    let whole = written-whole q is in
+    let framed : IsFramed q.name q.text q.general q.kind = record {
+      own_name = is.name;
+      named = is.named;
+      own_text = is.text;
+      own_general = is.general;
+      short = is.lengths;
+      small = subst (λ (p : Question). canonical_size p ≤ most_together) (sym whole) is.size;
+    } in
+    subst IsQuestionText whole (asks-kind q.name q.text q.general q.kind framed is.kind is.sound is.described)
 
 -- ---- the same path
 

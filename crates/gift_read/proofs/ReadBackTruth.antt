@@ -71,7 +71,7 @@ two_hashes (m ∷ marks) more plain also =
 ends-hash : (marks : Marks) → ends_ink marks ≡ true → ends_ink (Sign 35 ∷ marks) ≡ true
 ends-hash marks ends = ends-append (35 ∷ []) (map character marks) refl ends
 
-ends-two : (marks more : Marks) → ends_ink marks ≡ true → ends_ink more ≡ true → ends_ink (marks ++ more) ≡ true
+pub ends-two : (marks more : Marks) → ends_ink marks ≡ true → ends_ink more ≡ true → ends_ink (marks ++ more) ≡ true
 ends-two marks more first second = ap written.ends_ink (map-append character marks more) ∙ ends-append (map character marks) (map character more) first second
 
 tail-one : (marks : Marks) → are_plain marks ≡ true → ends_ink marks ≡ true → IsTail (Sign 35 ∷ marks)
@@ -121,7 +121,7 @@ no_equals_there : (right : Bool) (tail : Marks) → IsTail tail → occurs (is_a
 no_equals_there right tail is = passes-occurs (is_at landmark.Equals) (word right ++ tail) (passes-append (is_at landmark.Equals) (word right) tail (passes-plain 61 [] (word right) (word-plain right)) is.no_equals)
 
 -- what is told where neither a tilde nor an equals sign stands
-abbrev sort_by : Bool → Bool → Bool → Bool → Marks → Sort
+abbrev pub sort_by : Bool → Bool → Bool → Bool → Marks → Sort
 sort_by hash tilde equals arrow front =
     cond hash sort.Numerical (cond tilde (cond equals sort.One sort.Several) (cond (equals && arrow) sort.Matching (short_unless (truth (trimmed front)))))
 

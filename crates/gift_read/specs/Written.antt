@@ -1,10 +1,11 @@
 -- Questions as a reading makes them.
-use Rattle.std.specs.Prelude.{◌≡◌, ◌≢◌, ℕ, ◌≤◌, ◌==◌, Bool, true, false, not, IsTrue, List, [], ◌∷◌, Result, Ok}
+use Rattle.std.specs.Prelude.{◌≡◌, ◌≢◌, ℕ, ◌≤◌, ◌==◌, ◌&&◌, ◌||◌, Bool, true, false, not, IsTrue, List, [], ◌∷◌, Result, Ok}
 use Rattle.std.specs.List.{list_all}
 use Rattle.std.specs.Str.{IsUtf8, chars}
 use Rattle.qz_grading.specs.declared.question.Format.{Format}
 use Rattle.qz_grading.specs.declared.question.Kind.{Kind}
 use Rattle.qz_grading.specs.declared.question.Kind.TheVariants as kind
+use Rattle.qz_grading.specs.declared.question.Pair.{Pair}
 use Rattle.qz_grading.specs.declared.question.Question.{Question}
 use Rattle.qz_grading.specs.declared.question.Rich.{Rich}
 use Rattle.qz_grading.specs.declared.question.Bank.{Bank}
@@ -46,14 +47,35 @@ pub record IsRich (default : Format) (r : Rich) : Type 0 where
   pub text : IsText r.text
   pub empty : r.text ≡ [] → r.format ≡ default
 
--- ---- questions
+-- each of a list is such
+abbrev pub Each : {T : Type 0} → (T → Type 0) → List T → Type 0
+Each P [] = Unit {0}
+Each P (x ∷ xs) = P x × Each P xs
+
+-- ---- kinds
+
+-- a minus and a greater sign behind it
+abbrev pub has_arrow : List ℕ → Bool
+has_arrow [] = false
+has_arrow (c ∷ []) = false
+has_arrow (c ∷ d ∷ cs) = (c == 45 && d == 62) || has_arrow (d ∷ cs)
+
+-- a stem has no arrow, and an answer isn't empty
+pub record IsPair (default : Format) (p : Pair) : Type 0 where
+  pub stem : IsRich default p.stem
+  pub no_arrow : has_arrow (chars p.stem.text) ≡ false
+  pub answer : IsText p.answer
+  pub some : p.answer ≢ []
 
 -- the texts of a kind are such
 abbrev pub IsKind : Format → Kind → Type 0
 IsKind default kind.Description = Unit {0}
 IsKind default kind.Essay = Unit {0}
 IsKind default (kind.TrueFalse right on_wrong on_right) = IsRich default on_wrong × IsRich default on_right
+IsKind default (kind.Matching pairs) = Each (IsPair default) pairs
 IsKind default k = ⊥
+
+-- ---- questions
 
 pub record IsWritten (q : Question) : Type 0 where
   pub name : IsText q.name
