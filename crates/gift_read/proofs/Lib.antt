@@ -20,3 +20,4 @@ pub mod ReadBackLaw
 pub mod ReadBackPieces
 pub mod ReadBackLayout
 pub mod ReadBackMatching
+pub mod ReadBackWeights
