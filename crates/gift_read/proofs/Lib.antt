@@ -20,4 +20,3 @@ pub mod ReadBackLaw
 pub mod ReadBackPieces
 pub mod ReadBackLayout
 pub mod ReadBackMatching
-pub mod ReadBackWeights
