@@ -21,3 +21,6 @@ pub mod ReadBackPieces
 pub mod ReadBackLayout
 pub mod ReadBackMatching
 pub mod ReadBackWeights
+pub mod ReadBackWeighed
+pub mod ReadBackAnswers
+pub mod ReadBackChoices

@@ -19,6 +19,7 @@ use Rattle.gift_read.specs.Written.{IsKind, IsWritten, AreNames, AreItems, Reads
 use Rattle.gift_read.proofs.ReadBackBank.{IsQuestionText, ReadsItems, reads-none, reads-question, reading-items}
 use Rattle.gift_read.proofs.ReadBackKinds.{IsFramed, asks-description, asks-essay, asks-truth}
 use Rattle.gift_read.proofs.ReadBackMatching.{asks-matching}
+use Rattle.gift_read.proofs.ReadBackChoices.{asks-one, asks-several}
 use Rattle.gift_read.proofs.ReadBackCategory.{reads-category}
 
 -- ---- every kind
@@ -27,8 +28,8 @@ asks-kind : (name : List ℕ) (r general : Rich) (k : Kind) → IsFramed name r 
 asks-kind name r general kind.Description is own whole described = asks-description name r general is (described refl)
 asks-kind name r general kind.Essay is own whole described = asks-essay name r general is (is_nothing general.text) refl
 asks-kind name r general (kind.TrueFalse right on_wrong on_right) is own whole described = asks-truth name r general on_wrong on_right right is own.0 own.1
-asks-kind name r general (kind.One choices) is own whole described = absurd own
-asks-kind name r general (kind.Several choices) is own whole described = absurd own
+asks-kind name r general (kind.One choices) is own whole described = asks-one name r general choices is own whole
+asks-kind name r general (kind.Several choices) is own whole described = asks-several name r general choices is own whole
 asks-kind name r general (kind.Matching pairs) is own whole described = asks-matching name r general pairs is own whole
 asks-kind name r general (kind.ShortAnswer answers) is own whole described = absurd own
 asks-kind name r general (kind.Numerical answers) is own whole described = absurd own

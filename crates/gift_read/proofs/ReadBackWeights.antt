@@ -99,7 +99,7 @@ shorter-value (d ∷ ds) = go ((d == 48) && is_nothing (without_zeros ds)) refl 
 
 -- ---- five places of a percentage
 
-abbrev places : ℕ → List ℕ
+abbrev pub places : ℕ → List ℕ
 places part = without_zeros (in_digits 5 part)
 
 abbrev decimals_of : List ℕ → Option (List ℕ)
@@ -125,9 +125,12 @@ record IsPlaces (ds : List ℕ) : Type 0 where
   each : all_ascii_digits ds ≡ true
   few : length ds ≤ 5
 
+pub places-digits : (part : ℕ) → part < 10 ^ 5 → all_ascii_digits (places part) ≡ true
+places-digits part fits = shorter-digits (in_digits 5 part) (in_digits-digits 5 part (omega arith))
+
 is_places : (part : ℕ) → part < 10 ^ 5 → IsPlaces (places part)
 is_places part fits = record {
-  each = shorter-digits (in_digits 5 part) (in_digits-digits 5 part (omega arith));
+  each = places-digits part fits;
   few = omega (arith, shorter-length (in_digits 5 part), in_digits-length 5 part (omega arith) fits (omega arith));
 }
 
@@ -139,7 +142,7 @@ some_decimals : (ds : List ℕ) → IfSome (decimals_of ds) (λ decimals. (0 < l
 some_decimals [] = tt
 some_decimals (d ∷ ds) = inl (omega arith)
 
-size-spelled : (negative : Bool) (n : ℕ) → n ≤ one → IsSpelled percent_form (sign_text negative ++ short_natural 5 n) (signed negative n)
+pub size-spelled : (negative : Bool) (n : ℕ) → n ≤ one → IsSpelled percent_form (sign_text negative ++ short_natural 5 n) (signed negative n)
 size-spelled negative n le =
     let whole = n / 10 ^ 5 in
     let part = n % 10 ^ 5 in
