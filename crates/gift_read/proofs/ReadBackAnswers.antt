@@ -1,29 +1,20 @@
 -- Pieces with a weight, an answer and a feedback, read back.
-use Rattle.std.proofs.Common.{◌≡◌, ◌≢◌, ℕ, Bool, true, false, cond, not, ◌&&◌, ◌==◌, List, [], ◌∷◌, ◌++◌, map, drop, Option, Some, unwrap_or, refl, sym, ap, ◌∙◌, append_assoc, append-nil, codes, ℤ, pos}
+use Rattle.std.proofs.Common.{◌≡◌, ℕ, Bool, true, false, cond, ◌&&◌, List, [], ◌∷◌, ◌++◌, map, drop, Option, unwrap_or, refl, sym, ap, ◌∙◌, append_assoc, append-nil, ℤ, pos}
 use Rattle.std.specs.Option.{is_none}
-use Rattle.std.specs.Ordering.{int_eq}
-use Rattle.std.specs.List.{list_all}
-use Rattle.std.proofs.lemmas.Bool.{and_parts}
-use Rattle.std.proofs.lemmas.Bool.Decides.{Decides-int_eq}
-use Rattle.std.proofs.lemmas.List.{map-append}
-use Rattle.std.proofs.lemmas.List.Folds.{list_all-append}
-use Rattle.gift_lex.specs.declared.block.Piece.TheVariants.{Escaped, Sign, Plain}
+use Rattle.gift_lex.specs.declared.block.Piece.TheVariants.{Sign, Plain}
 use Rattle.qz_grading.specs.declared.question.Format.{Format}
 use Rattle.qz_grading.specs.declared.question.Rich.{Rich}
-use Rattle.qz_grading.specs.Canonical.{is_nothing, weight_text, rich_behind, rich_text}
+use Rattle.qz_grading.specs.Canonical.{is_nothing, weight_text}
 use Rattle.qz_grading.specs.Questions.{is_weight}
 use Rattle.gift_read.specs.declared.places.Landmark.TheVariants as landmark
-use Rattle.gift_read.specs.Places.{Marks, character, is_at, is_blank, before, from, occurs, trimmed}
+use Rattle.gift_read.specs.Places.{Marks, is_at, is_blank, trimmed}
 use Rattle.gift_read.specs.Texts.{rich_of}
 use Rattle.gift_read.specs.Parts.{answer_marks, feedback_marks}
 use Rattle.gift_read.specs.Values.{is_weighed, weight_told, unweighed, own_weight, weight_of}
-use Rattle.gift_read.specs.Faults.{is_misweighed}
-use Rattle.gift_read.specs.Written as written
-use Rattle.gift_read.specs.Written.{IsText, IsRich}
-use Rattle.gift_read.proofs.ReadBackPlaces.{Passes, passes-plain, passes-append, passes-before, passes-from, found-before, found-from, are_plain, begins_ink, ends_ink, trimmed-around}
-use Rattle.gift_read.proofs.ReadBackRich.{rich_characters, rich_marks, rich_marks-plain, rich_of-nothing, rich_of-around}
+use Rattle.gift_read.specs.Written.{IsRich}
+use Rattle.gift_read.proofs.ReadBackPlaces.{passes-plain, passes-append, passes-before, passes-from, found-before, found-from, are_plain, begins_ink, ends_ink, trimmed-around}
+use Rattle.gift_read.proofs.ReadBackRich.{rich_marks, rich_of-nothing, rich_of-around}
 use Rattle.gift_read.proofs.ReadBackPlain.{no_text}
-use Rattle.gift_read.proofs.ReadBackPieces.{ends-behind}
 use Rattle.gift_read.proofs.ReadBackWriting.{Writes, Writes-nil}
 use Rattle.gift_read.proofs.ReadBackWeighed.{weight_marks_of, Writes-weight, weighed-is, weighed-told, weighed-rest}
 

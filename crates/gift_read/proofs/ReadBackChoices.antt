@@ -1,16 +1,15 @@
 -- Questions with choices, read back.
-use Rattle.std.proofs.Common.{◌≡◌, ◌≢◌, ◌≤◌, ◌<◌, ℕ, suc, Bool, true, false, cond, not, ◌&&◌, ◌||◌, ◌==◌, nat_lt, List, [], ◌∷◌, ◌++◌, map, flat_map, length, encode_utf8_all, refl, sym, ap, ◌∙◌, append_assoc, append-nil, codes, subst, arith, ◌⊎◌, inl, inr, ℤ, pos, lit<}
+use Rattle.std.proofs.Common.{◌≡◌, ◌≢◌, ℕ, Bool, true, false, cond, not, ◌&&◌, ◌||◌, ◌==◌, nat_lt, List, [], ◌∷◌, ◌++◌, map, flat_map, length, encode_utf8_all, refl, sym, ap, ◌∙◌, append-nil, codes, subst, arith, ◌⊎◌, inl, inr, ℤ, pos, lit<}
 use Rattle.std.specs.Char.{encode_utf8}
 use Rattle.std.specs.List.{list_any}
 use Rattle.std.specs.Ordering.{int_eq}
 use Rattle.std.specs.Str.{chars}
 use Rattle.std.proofs.lemmas.Bool.{and_parts, or_parts, not-true, le-ltb, eqb-true, ne_eqb}
 use Rattle.std.proofs.lemmas.Bool.Decides.{Decides-int_eq}
-use Rattle.std.proofs.lemmas.List.{map-append, length-map}
+use Rattle.std.proofs.lemmas.List.{map-append}
 use Rattle.std.proofs.lemmas.List.Folds.{list_all-append}
 use Rattle.std.proofs.lemmas.Str.{encodes-chars, encode_ascii}
-use Rattle.gift_lex.specs.declared.block.Piece.{Piece}
-use Rattle.gift_lex.specs.declared.block.Piece.TheVariants.{Escaped, Sign, Plain}
+use Rattle.gift_lex.specs.declared.block.Piece.TheVariants.{Sign, Plain}
 use Rattle.gift_lex.specs.Blocks as lex
 use Rattle.qz_decimal.specs.Numbers.{one}
 use Rattle.qz_grading.specs.declared.question.Choice.{Choice}
@@ -18,7 +17,6 @@ use Rattle.qz_grading.specs.declared.question.Format.{Format}
 use Rattle.qz_grading.specs.declared.question.Format.TheVariants as format
 use Rattle.qz_grading.specs.declared.question.Kind.{Kind}
 use Rattle.qz_grading.specs.declared.question.Kind.TheVariants as kind
-use Rattle.qz_grading.specs.declared.question.Question.{Question}
 use Rattle.qz_grading.specs.declared.question.Rich.{Rich}
 use Rattle.qz_grading.specs.Canonical as canonical
 use Rattle.qz_grading.specs.Canonical.{begins_with, format_mark, is_nothing, rich_text, rich_behind, weight_if_needed, weight_text, tilde_choice, equals_choice, single_choices, answer_part}
@@ -26,7 +24,7 @@ use Rattle.qz_grading.specs.Questions as sound
 use Rattle.gift_read.specs.declared.places.Landmark.TheVariants as landmark
 use Rattle.gift_read.specs.declared.parts.Sort.{Sort}
 use Rattle.gift_read.specs.declared.parts.Sort.TheVariants as sort
-use Rattle.gift_read.specs.Places.{Marks, character, is_at, is_blank, signs_at, before, from, occurs, trimmed}
+use Rattle.gift_read.specs.Places.{Marks, character, is_at, is_blank, signs_at, before, occurs, trimmed}
 use Rattle.gift_read.specs.Texts.{rich_of}
 use Rattle.gift_read.specs.Parts as parts
 use Rattle.gift_read.specs.Parts.{Part, sort_in, feedback_marks}
@@ -36,7 +34,7 @@ use Rattle.gift_read.specs.Faults.{is_misweighed}
 use Rattle.gift_read.specs.Written as written
 use Rattle.gift_read.specs.Written.{IsText, IsRich, IsChoice, Each}
 use Rattle.gift_read.proofs.ReadBackPlaces.{Passes, passes-nil, passes-cons, passes-append, passes-plain, passes-occurs, is_plain, are_plain, plain-sign, begins_ink, ends_ink}
-use Rattle.gift_read.proofs.ReadBackMarks.{text_marks, text_mark-character, text_marks-characters}
+use Rattle.gift_read.proofs.ReadBackMarks.{text_marks, text_mark-character}
 use Rattle.gift_read.proofs.ReadBackRich.{marks_of_text, is_marked, rich_characters, rich_marks, rich_marks-plain, rich_marks-ink, rich_marks-some, rich_of-rich}
 use Rattle.gift_read.proofs.ReadBackTold.{IsFaultless}
 use Rattle.gift_read.proofs.ReadBackTruth.{sort_by, ends-two}
@@ -46,8 +44,8 @@ use Rattle.gift_read.proofs.ReadBackParts.{gap_before}
 use Rattle.gift_read.proofs.ReadBackPieces
 use Rattle.gift_read.proofs.ReadBackPieces.{parts_marks, spaced, from_first, gap, IsPart, AreParts, EachPasses, EachEnds, IsPieceLine, ReadsPiece}
 use Rattle.gift_read.proofs.ReadBackKinds.{IsFramed, Writes-opening, Writes-hash}
-use Rattle.gift_read.proofs.ReadBackLayout.{Known, known, known-items, flat_map-known, before_general, ReadsAnswers, asks-lines}
-use Rattle.gift_read.proofs.ReadBackAnswers.{weight_or_none, ReadsWeight, reads-weight, Writes-weight_or_none, weight-plain, feedback_or_none, ReadsAnswer, reads-answer}
+use Rattle.gift_read.proofs.ReadBackLayout.{Known, known, flat_map-known, before_general, asks-lines}
+use Rattle.gift_read.proofs.ReadBackAnswers.{weight_or_none, reads-weight, Writes-weight_or_none, weight-plain, feedback_or_none, reads-answer}
 
 -- ---- a choice behind its sign
 
@@ -74,6 +72,9 @@ part_of f t = (t.0, answer_of f t ++ feedback_or_none f t.1.feedback (is_nothing
 abbrev text_of_choice : Format → Signed → List ℕ
 text_of_choice f t = (t.0 ∷ []) ++ weight_if_needed (own_weight t.0) t.1.weight t.1.text.text ++ rich_text f t.1.text ++ rich_behind (codes "#") f t.1.feedback
 
+abbrev behind_sign : Format → Signed → List ℕ
+behind_sign f t = cond (is_needless t) [] (weight_text t.1.weight) ++ rich_characters f t.1.text ++ cond (is_nothing t.1.feedback.text) [] (codes "#" ++ rich_characters f t.1.feedback)
+
 abbrev characters_of_choice : Format → Signed → List ℕ
 characters_of_choice f t = (t.0 ∷ []) ++ cond (is_needless t) [] (weight_text t.1.weight) ++ rich_characters f t.1.text ++ cond (is_nothing t.1.feedback.text) [] (codes "#" ++ rich_characters f t.1.feedback)
 
@@ -95,8 +96,8 @@ choice-line f t is = record {
   writes = Writes-append _ _ _ _ _ _
       (Writes-append _ _ _ _ _ _ (Writes-append _ _ _ _ _ _ (sign-text t.0 is.sign) (Writes-weight_or_none (is_needless t) t.1.weight is.choice.weight)) (Writes-rich f t.1.text is.choice.text.text))
       (Writes-behind (codes "#") (Sign 35 ∷ []) f t.1.feedback Writes-hash is.choice.feedback.text (is_nothing t.1.feedback.text) refl);
-  inked = not_blank t.0 _ is.sign;
-  no_comment = no_comment t.0 _ is.sign;
+  inked = not_blank t.0 (behind_sign f t) is.sign;
+  no_comment = no_comment t.0 (behind_sign f t) is.sign;
 }
 
 -- ---- what is read of it
@@ -323,13 +324,12 @@ known_sign f s ts = list_any (λ (t : Known (IsSigned f)). t.0.0 == s) ts
 
 sign-found : (f : Format) (s : ℕ) (ts : List (Known (IsSigned f))) → known_sign f s ts ≡ true → occurs (signs_at (s ∷ [])) (parts_marks (map (known_part f) ts)) ≡ true
 sign-found f s [] has = cc
-sign-found f s (t ∷ ts) has = go (t.0.0 == s) refl has
+sign-found f s (t ∷ ts) has = go (t.0.0 == s) refl has (λ later. sign-found f s ts later)
   where
-    rest : Marks
-    rest = parts_marks (map (known_part f) ts)
-    go : (b : Bool) → (t.0.0 == s) ≡ b → (b || known_sign f s ts) ≡ true → occurs (signs_at (s ∷ [])) (parts_marks (map (known_part f) (t ∷ ts))) ≡ true
-    go true e has = rw e refl
-    go false e has = occurs-later (signs_at (s ∷ [])) (Plain 10 ∷ Plain 9 ∷ Sign t.0.0 ∷ (part_of f t.0).1) (parts_marks (map (known_part f) ts)) (sign-found f s ts has)
+    go : (b : Bool) → (t.0.0 == s) ≡ b → (b || known_sign f s ts) ≡ true → (known_sign f s ts ≡ true → occurs (signs_at (s ∷ [])) (parts_marks (map (known_part f) ts)) ≡ true)
+        → occurs (signs_at (s ∷ [])) (parts_marks (map (known_part f) (t ∷ ts))) ≡ true
+    go true e has found = rw e refl
+    go false e has found = occurs-later (signs_at (s ∷ [])) (Plain 10 ∷ Plain 9 ∷ Sign t.0.0 ∷ (part_of f t.0).1) (parts_marks (map (known_part f) ts)) (found has)
 
 known-sign : (f : Format) (s : ℕ) (ts : List Signed) (each : Each (IsSigned f) ts) → known_sign f s (known (IsSigned f) ts each) ≡ has_sign s ts
 known-sign f s [] each = refl

@@ -1,10 +1,9 @@
 -- A bank of written questions is what its canonical text is read as.
-use Rattle.std.proofs.Common.{◌≡◌, ◌≢◌, ◌≤◌, ℕ, ℤ, Bool, true, false, cond, ◌&&◌, ◌==◌, List, [], ◌∷◌, ◌++◌, length, Ok, refl, sym, ap, ◌∙◌, subst, codes, arith, append_assoc}
+use Rattle.std.proofs.Common.{◌≡◌, ◌≢◌, ◌≤◌, ℕ, ℤ, Bool, true, false, cond, ◌==◌, List, [], ◌∷◌, ◌++◌, length, refl, sym, ap, ◌∙◌, subst, codes, arith, append_assoc}
 use Rattle.std.specs.List.{list_all}
 use Rattle.std.specs.Prelude.{zip, bytes_eq}
 use Rattle.std.proofs.lemmas.Slice.Eq.{bytes_eq-Decides}
 use Rattle.std.proofs.lemmas.Bool.{and_parts, eqb-true}
-use Rattle.qz_grading.specs.declared.question.Bank.{Bank}
 use Rattle.qz_grading.specs.declared.question.Item.{Item}
 use Rattle.qz_grading.specs.Canonical.{same_path, category_path, category_line, canonical_question, canonical_items, canonical}
 use Rattle.qz_grading.specs.Canonical.{is_nothing, canonical_size}

@@ -1,34 +1,29 @@
 -- Answers with a weight before them, read back.
-use Rattle.std.proofs.Common.{◌≡◌, ◌≢◌, ℕ, suc, ◌+◌, ◌-◌, ◌/◌, ◌%◌, ◌^◌, ◌<◌, ◌≤◌, Bool, true, false, cond, not, ◌==◌, ◌&&◌, ◌||◌, nat_lt, nat_le, List, [], ◌∷◌, ◌++◌, map, length, take, drop, encode_utf8_all, Option, Some, unwrap_or, refl, sym, ap, ◌∙◌, append_assoc, append-nil, arith, ℤ, pos, negsuc, neg_ℤ, codes, lit<, ◌⊎◌, inl, inr}
-use Rattle.std.specs.Char.{encode_utf8, is_ascii_digit}
+use Rattle.std.proofs.Common.{◌≡◌, ℕ, suc, ◌+◌, ◌/◌, ◌%◌, ◌^◌, ◌<◌, ◌≤◌, Bool, true, false, cond, not, ◌==◌, ◌&&◌, nat_lt, nat_le, List, [], ◌∷◌, ◌++◌, map, length, take, drop, encode_utf8_all, Some, refl, sym, ap, ◌∙◌, append_assoc, arith, ℤ, pos, negsuc, codes, ◌⊎◌, inl, inr}
+use Rattle.std.specs.Char.{is_ascii_digit}
 use Rattle.std.specs.Fmt.{decimal}
 use Rattle.std.specs.List.{list_all}
-use Rattle.std.specs.Str.{all_ascii_digits, chars}
-use Rattle.std.proofs.Math.Utf8.{scalars}
+use Rattle.std.specs.Str.{all_ascii_digits}
 use lib.Utf8.{scalar}
-use Rattle.std.proofs.lemmas.Bool.{and_parts, and_from, ne_eqb, eqb-true, leb-true, lt-ltb}
+use Rattle.std.proofs.lemmas.Bool.{and_parts, and_from, ne_eqb, leb-true, lt-ltb}
 use Rattle.std.proofs.lemmas.Bool.Decides.{nat_tests}
 use Rattle.std.proofs.lemmas.Int.{ints}
 use Rattle.std.proofs.lemmas.Fmt.{digits_decimal, decimal_nonempty}
 use Rattle.std.proofs.lemmas.List.{map-append, length-append, length-map, take_at, drop_at}
 use Rattle.std.proofs.lemmas.List.Folds.{list_all-append}
 use Rattle.std.proofs.lemmas.Str.{encode_ascii}
-use Rattle.gift_lex.specs.declared.block.Piece.{Piece}
-use Rattle.gift_lex.specs.declared.block.Piece.TheVariants.{Escaped, Sign, Plain}
-use Rattle.gift_lex.specs.Blocks as lex
+use Rattle.gift_lex.specs.declared.block.Piece.TheVariants.{Plain}
 use Rattle.gift_lex.specs.Blocks.{single}
 use Rattle.qz_decimal.specs.Numbers.{one}
-use Rattle.qz_decimal.specs.Percent.{weight_in, IsWeight}
+use Rattle.qz_decimal.specs.Percent.{weight_in}
 use Rattle.qz_decimal.proofs.Weights.{weight-found}
 use Rattle.qz_grading.specs.Canonical.{behind_point, short_natural, short_number, weight_text}
 use Rattle.qz_grading.specs.Questions.{is_weight}
 use Rattle.gift_read.specs.declared.places.Landmark.TheVariants as landmark
-use Rattle.gift_read.specs.Places.{Marks, character, is_at, before, occurs}
+use Rattle.gift_read.specs.Places.{Marks, character, is_at}
 use Rattle.gift_read.specs.Texts.{spelled}
 use Rattle.gift_read.specs.Values.{without_minus, is_figure, is_figures, percent_marks, is_weighed, weight_marks, unweighed, weight_told}
-use Rattle.gift_read.specs.Written.{has_no_return}
-use Rattle.gift_read.proofs.ReadBackPlaces.{Passes, passes-nil, passes-cons, found-before, found-occurs, is_plain, are_plain}
-use Rattle.gift_read.proofs.ReadBackLines.{is_feedless}
+use Rattle.gift_read.proofs.ReadBackPlaces.{Passes, passes-nil, passes-cons, found-before, found-occurs}
 use Rattle.gift_read.proofs.ReadBackWriting.{Writes, Writes-ascii, scalars-all}
 use Rattle.gift_read.proofs.ReadBackWeights.{numerals, size-spelled, places, places-digits}
 

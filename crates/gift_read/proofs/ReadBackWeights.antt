@@ -1,5 +1,5 @@
 -- A weight is read as it is written.
-use Rattle.std.proofs.Common.{◌≡◌, ℕ, zero, suc, ◌+◌, ◌-◌, ◌*◌, ◌/◌, ◌%◌, ◌^◌, ◌<◌, ◌≤◌, Bool, true, false, cond, ◌==◌, ◌&&◌, List, [], ◌∷◌, ◌++◌, length, replicate, Option, Some, None, refl, sym, ap, ◌∙◌, arith, ℤ, pos, negsuc, neg_ℤ, codes, inl, ◌⊎◌, IfSome, IsTrue}
+use Rattle.std.proofs.Common.{◌≡◌, ℕ, zero, suc, ◌+◌, ◌-◌, ◌*◌, ◌/◌, ◌%◌, ◌^◌, ◌<◌, ◌≤◌, Bool, true, false, cond, ◌==◌, ◌&&◌, List, [], ◌∷◌, ◌++◌, length, replicate, Option, Some, None, refl, sym, ap, ◌∙◌, arith, inl, ◌⊎◌, IfSome, IsTrue}
 use Rattle.std.specs.Fmt.{decimal}
 use Rattle.std.specs.Str.{all_ascii_digits}
 use Rattle.std.specs.Str.Parse.{digits_value}
@@ -9,12 +9,11 @@ use Rattle.std.proofs.lemmas.Bool.{and_parts, and_from, eqb-true}
 use Rattle.std.proofs.lemmas.Fmt.{digits_decimal, digits_value-decimal, length-decimal-le, decimal_nonempty}
 use Rattle.std.proofs.lemmas.List.{length-append, nil_from_length}
 use Rattle.std.proofs.lemmas.Str.Parse.{IsNumeralModel, numerals_by_value, tells_all_ascii_digits}
-use Rattle.qz_decimal.specs.Numbers.{one, signed, IsWithin}
-use Rattle.qz_decimal.specs.Percent.{percent_form, weight_in, IsWeight}
-use Rattle.qz_decimal.specs.Reading.{sign_text, point_text, IsDigits, IsSpelled, point_units, decimal_units}
+use Rattle.qz_decimal.specs.Numbers.{one, signed}
+use Rattle.qz_decimal.specs.Percent.{percent_form}
+use Rattle.qz_decimal.specs.Reading.{sign_text, point_text, IsDigits, IsSpelled, point_units}
 use Rattle.qz_decimal.proofs.DigitRuns.{digits_value-append, all_ascii_digits-append}
-use Rattle.qz_decimal.proofs.Weights.{weight-found}
-use Rattle.qz_grading.specs.Canonical.{without_zeros, behind_point, short_natural, short_number, weight_text, is_nothing}
+use Rattle.qz_grading.specs.Canonical.{without_zeros, behind_point, short_natural, is_nothing}
 use Rattle.qz_grading.specs.Words.{in_digits}
 
 pub numerals : IsNumeralModel (λ ds. all_ascii_digits ds ≡ true) (digits_value 10)
