@@ -20,3 +20,7 @@ pub mod ReadBackLaw
 pub mod ReadBackPieces
 pub mod ReadBackLayout
 pub mod ReadBackMatching
+pub mod ReadBackWeights
+pub mod ReadBackWeighed
+pub mod ReadBackAnswers
+pub mod ReadBackChoices

@@ -1,25 +1,21 @@
 -- Banks, read back question by question.
-use Rattle.std.proofs.Common.{◌≡◌, ℕ, ◌+◌, ◌≤◌, Bool, true, false, cond, not, ◌&&◌, ◌==◌, List, [], ◌∷◌, ◌++◌, map, encode_utf8_all, Result, Ok, refl, sym, ap, ◌∙◌, append_assoc, codes}
-use Rattle.std.specs.List.{enumerate_from, list_all}
+use Rattle.std.proofs.Common.{◌≡◌, ℕ, ◌≤◌, Bool, true, not, ◌==◌, List, [], ◌∷◌, ◌++◌, map, encode_utf8_all, Result, Ok, refl, sym, ap, ◌∙◌, append_assoc, codes}
+use Rattle.std.specs.List.{enumerate_from}
 use Rattle.std.specs.Str.{chars}
 use Rattle.std.proofs.Math.Utf8.{scalars}
-use Rattle.std.proofs.Math.Bool.{and_assoc}
 use Rattle.std.proofs.lemmas.Str.{encodes-append, chars-encodes, is_utf8-from_IsUtf8}
 use Rattle.std.proofs.lemmas.Bool.{and_parts}
 use Rattle.std.proofs.lemmas.List.Folds.{list_all-append}
 use Rattle.gift_lex.specs.declared.block.Block.{Block}
 use Rattle.gift_lex.specs.Blocks as lex
 use Rattle.gift_lex.specs.Blocks.{between_feeds, without_order_mark, with_plain_breaks, lines_of, blocks_of}
-use Rattle.gift_lex.proofs.OneBlock.{Gives}
-use Rattle.qz_grading.specs.declared.question.Bank.{Bank}
 use Rattle.qz_grading.specs.declared.question.Item.{Item}
 use Rattle.qz_grading.specs.declared.question.Question.{Question}
 use Rattle.qz_grading.specs.Canonical.{canonical_question, canonical_size}
 use Rattle.gift_read.specs.declared.read.Told.{Told}
-use Rattle.gift_read.specs.declared.read.Told.TheVariants as told_as
 use Rattle.gift_read.specs.Places.{Marks}
 use Rattle.gift_read.specs.Faults.{most_together}
-use Rattle.gift_read.specs.Gift.{Fault, told, followed, onto, items_of, in_bank, bank_of, reading_of, reading}
+use Rattle.gift_read.specs.Gift.{Fault, followed, onto, items_of, in_bank, bank_of, reading_of, reading}
 use Rattle.gift_read.specs.Written.{has_no_return}
 use Rattle.gift_read.proofs.ReadBackLines.{IsLine, Line, AreLines, joined, joined_marks, characters_of, between_feeds-lines, gives-block, with_plain_breaks-none}
 use Rattle.gift_read.proofs.ReadBackTold.{IsRead, read-told}

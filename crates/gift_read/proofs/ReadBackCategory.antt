@@ -1,17 +1,15 @@
 -- Category lines, read back.
-use Rattle.std.proofs.Common.{◌≡◌, ◌≢◌, ℕ, ◌+◌, ◌<◌, ◌≤◌, Bool, true, false, cond, not, ◌&&◌, ◌||◌, ◌==◌, eqb, nat_lt, List, [], ◌∷◌, ◌++◌, map, flat_map, drop, length, encode_utf8_all, Result, Ok, refl, sym, ap, ◌∙◌, append_assoc, append-nil, codes, arith, lit<}
+use Rattle.std.proofs.Common.{◌≡◌, ◌≢◌, ℕ, Bool, true, false, cond, not, ◌&&◌, ◌==◌, eqb, nat_lt, List, [], ◌∷◌, ◌++◌, map, flat_map, length, encode_utf8_all, Result, Ok, refl, sym, ap, ◌∙◌, append_assoc, append-nil, codes, lit<}
 use Rattle.std.specs.Char.{encode_utf8}
 use Rattle.std.specs.List.{list_all, list_any, onto_first, starts_with}
 use Rattle.std.specs.Str.{chars}
-use Rattle.std.proofs.Math.Utf8.{scalars}
 use lib.Utf8.{scalar}
-use Rattle.std.proofs.lemmas.Bool.{and_parts, and_from, or_parts, eqb-true, eqb-false, ne_eqb, not-true}
+use Rattle.std.proofs.lemmas.Bool.{and_parts, and_from, eqb-true, eqb-false, ne_eqb, not-true}
 use Rattle.std.proofs.lemmas.Grind.{flat_map-append}
 use Rattle.std.proofs.lemmas.List.{map-append, nil_from_length}
 use Rattle.std.proofs.lemmas.List.Folds.{list_all-append}
 use Rattle.std.proofs.lemmas.Str.{encode_ascii, encodes-append, encodes-chars, scalars-chars, chars-nil}
 use Rattle.gift_lex.specs.declared.block.Block.{Block}
-use Rattle.gift_lex.specs.declared.block.Piece.{Piece}
 use Rattle.gift_lex.specs.declared.block.Piece.TheVariants.{Escaped, Sign, Plain}
 use Rattle.gift_lex.specs.Blocks as lex
 use Rattle.gift_lex.specs.Blocks.{between_feeds, marks_of, single}
@@ -22,7 +20,7 @@ use Rattle.qz_grading.specs.Canonical.{category_name, category_path, begins_with
 use Rattle.gift_write.proofs.EscapeLemmas.{category_name-other}
 use Rattle.gift_read.specs.declared.read.Told.{Told}
 use Rattle.gift_read.specs.declared.read.Told.TheVariants as told_as
-use Rattle.gift_read.specs.Places.{Marks, character, is_blank, trimmed}
+use Rattle.gift_read.specs.Places.{Marks, character, is_blank}
 use Rattle.gift_read.specs.Texts.{spelled, text_of}
 use Rattle.gift_read.specs.Values.{question}
 use Rattle.gift_read.specs.Category as category

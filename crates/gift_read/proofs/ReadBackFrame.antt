@@ -1,12 +1,9 @@
 -- The parts of a written question, read back from its marks: what every kind shares.
-use Rattle.std.proofs.Common.{◌≡◌, ◌≢◌, ℕ, Bool, true, false, cond, not, ◌&&◌, ◌||◌, List, [], ◌∷◌, ◌++◌, map, drop, refl, sym, ap, ◌∙◌, append-nil}
+use Rattle.std.proofs.Common.{◌≡◌, ◌≢◌, ℕ, Bool, true, false, ◌||◌, List, [], ◌∷◌, ◌++◌, drop, refl, ap, ◌∙◌}
 use Rattle.std.specs.Str.{chars}
 use Rattle.gift_lex.specs.declared.block.Block.{Block}
-use Rattle.gift_lex.specs.declared.block.Piece.{Piece}
-use Rattle.gift_lex.specs.declared.block.Piece.TheVariants.{Escaped, Sign, Plain}
-use Rattle.qz_grading.specs.declared.question.Format.{Format}
+use Rattle.gift_lex.specs.declared.block.Piece.TheVariants.{Sign}
 use Rattle.qz_grading.specs.declared.question.Format.TheVariants as format
-use Rattle.qz_grading.specs.declared.question.Kind.{Kind}
 use Rattle.qz_grading.specs.declared.question.Kind.TheVariants as kind
 use Rattle.qz_grading.specs.declared.question.Question.{Question}
 use Rattle.qz_grading.specs.declared.question.Rich.{Rich}
@@ -15,14 +12,14 @@ use Rattle.gift_read.specs.declared.parts.Sort.{Sort}
 use Rattle.gift_read.specs.declared.parts.Sort.TheVariants as sort
 use Rattle.gift_read.specs.Places.{Marks, is_at, before, from, occurs}
 use Rattle.gift_read.specs.Texts.{text_of, shown, formatted, rich_of}
-use Rattle.gift_read.specs.Parts.{is_named, in_name, name_marks, body, text_before, in_braces, answer_part, text_behind, question_text, general_marks, answers, sort_in, sort_of}
+use Rattle.gift_read.specs.Parts.{name_marks, body, text_before, in_braces, answer_part, text_behind, question_text, general_marks, answers, sort_in, sort_of}
 use Rattle.gift_read.specs.Values.{name_or, question_with, question_in, question, kind_in}
 use Rattle.gift_read.specs.Faults.{is_nameless, has_stray_brace, is_unclosed, broken_values, broken_body, broken_question, flaws_in, flaws}
 use Rattle.gift_read.specs.Category.{is_category}
 use Rattle.gift_read.specs.Written.{IsText}
 use Rattle.gift_read.proofs.ReadBackPlaces.{Passes, passes-plain, passes-before, passes-from, passes-occurs, found-before, found-from, found-occurs, are_plain}
 use Rattle.gift_read.proofs.ReadBackMarks.{text_marks-plain}
-use Rattle.gift_read.proofs.ReadBackRich.{marks_of_text, rich_marks, rich_marks-plain, shown-rich, formatted-rich, text_of-own}
+use Rattle.gift_read.proofs.ReadBackRich.{marks_of_text, rich_marks, rich_marks-plain, formatted-rich, text_of-own}
 
 -- ---- the name
 

@@ -1,10 +1,9 @@
 -- The general feedback at the end of an answer part, read back.
-use Rattle.std.proofs.Common.{◌≡◌, ℕ, Bool, true, false, cond, not, ◌&&◌, ◌||◌, List, [], ◌∷◌, ◌++◌, drop, refl, sym, ap, ◌∙◌, append-nil}
+use Rattle.std.proofs.Common.{◌≡◌, Bool, true, false, cond, [], ◌∷◌, ◌++◌, drop, refl, ap, ◌∙◌, append-nil}
 use Rattle.std.proofs.lemmas.Bool.{and_parts}
-use Rattle.gift_lex.specs.declared.block.Piece.{Piece}
-use Rattle.gift_lex.specs.declared.block.Piece.TheVariants.{Escaped, Sign, Plain}
+use Rattle.gift_lex.specs.declared.block.Piece.TheVariants.{Sign}
 use Rattle.gift_read.specs.declared.places.Landmark.TheVariants as landmark
-use Rattle.gift_read.specs.Places.{Marks, is_at, is_sign, before, from, occurs, is_last}
+use Rattle.gift_read.specs.Places.{Marks, is_at, before, from, occurs, is_last}
 use Rattle.gift_read.specs.Parts.{general_marks}
 use Rattle.gift_read.proofs.ReadBackPlaces.{Passes, passes-nil, passes-cons, passes-append, passes-plain, passes-occurs, passes-last, last-before, last-from, is_plain, are_plain, plain-sign}
 

@@ -1,23 +1,20 @@
 -- Written questions, kind by kind: their canonical text is read as them.
-use Rattle.std.proofs.Common.{◌≡◌, ◌≢◌, ◌≤◌, ℕ, Bool, true, false, cond, not, ◌&&◌, List, [], ◌∷◌, ◌++◌, map, encode_utf8_all, refl, sym, ap, ◌∙◌, append_assoc, append-nil, codes, subst, ℤ}
+use Rattle.std.proofs.Common.{◌≡◌, ◌≢◌, ◌≤◌, ℕ, Bool, true, false, cond, ◌&&◌, List, [], ◌∷◌, ◌++◌, refl, ap, ◌∙◌, append_assoc, append-nil, codes}
 use Rattle.std.specs.Char.{encode_utf8}
-use Rattle.gift_lex.specs.declared.block.Block.{Block}
-use Rattle.gift_lex.specs.declared.block.Piece.TheVariants.{Escaped, Sign, Plain}
+use Rattle.gift_lex.specs.declared.block.Piece.TheVariants.{Sign}
 use Rattle.qz_grading.specs.declared.question.Format.{Format}
 use Rattle.qz_grading.specs.declared.question.Format.TheVariants as format
 use Rattle.qz_grading.specs.declared.question.Kind.{Kind}
 use Rattle.qz_grading.specs.declared.question.Kind.TheVariants as kind
-use Rattle.qz_grading.specs.declared.question.Question.{Question}
 use Rattle.qz_grading.specs.declared.question.Rich.{Rich}
-use Rattle.qz_grading.specs.Canonical.{is_nothing, rich_text, rich_behind, answer_part, canonical_size, general_line}
+use Rattle.qz_grading.specs.Canonical.{is_nothing, rich_text, canonical_size, general_line}
 use Rattle.gift_read.specs.Places.{Marks}
 use Rattle.gift_read.specs.Faults.{most_together}
 use Rattle.gift_read.specs.Values.{question_with}
-use Rattle.gift_read.specs.Written.{IsText, IsRich, IsKind, IsWritten}
+use Rattle.gift_read.specs.Written.{IsText, IsRich}
 use Rattle.gift_read.proofs.ReadBackRich.{rich_characters, rich_marks}
 use Rattle.gift_read.proofs.ReadBackFrame.{named_marks, braced}
 use Rattle.gift_read.proofs.ReadBackGeneral.{hashes}
-use Rattle.gift_read.proofs.ReadBackTold.{IsRead}
 use Rattle.gift_read.proofs.ReadBackPlain.{IsShort, reads-description, reads-essay}
 use Rattle.gift_read.proofs.ReadBackTruth.{word, tail_of, truth_inner, reads-truth}
 use Rattle.gift_read.proofs.ReadBackBank.{IsQuestionText}

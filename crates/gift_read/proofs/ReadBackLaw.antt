@@ -1,10 +1,9 @@
 -- A bank of written questions is what its canonical text is read as.
-use Rattle.std.proofs.Common.{◌≡◌, ◌≢◌, ◌≤◌, ℕ, ℤ, Bool, true, false, cond, ◌&&◌, ◌==◌, List, [], ◌∷◌, ◌++◌, length, Ok, refl, sym, ap, ◌∙◌, subst, codes, arith, append_assoc}
+use Rattle.std.proofs.Common.{◌≡◌, ◌≢◌, ◌≤◌, ℕ, ℤ, Bool, true, false, cond, ◌==◌, List, [], ◌∷◌, ◌++◌, length, refl, sym, ap, ◌∙◌, subst, codes, arith, append_assoc}
 use Rattle.std.specs.List.{list_all}
 use Rattle.std.specs.Prelude.{zip, bytes_eq}
 use Rattle.std.proofs.lemmas.Slice.Eq.{bytes_eq-Decides}
 use Rattle.std.proofs.lemmas.Bool.{and_parts, eqb-true}
-use Rattle.qz_grading.specs.declared.question.Bank.{Bank}
 use Rattle.qz_grading.specs.declared.question.Item.{Item}
 use Rattle.qz_grading.specs.Canonical.{same_path, category_path, category_line, canonical_question, canonical_items, canonical}
 use Rattle.qz_grading.specs.Canonical.{is_nothing, canonical_size}
@@ -19,6 +18,7 @@ use Rattle.gift_read.specs.Written.{IsKind, IsWritten, AreNames, AreItems, Reads
 use Rattle.gift_read.proofs.ReadBackBank.{IsQuestionText, ReadsItems, reads-none, reads-question, reading-items}
 use Rattle.gift_read.proofs.ReadBackKinds.{IsFramed, asks-description, asks-essay, asks-truth}
 use Rattle.gift_read.proofs.ReadBackMatching.{asks-matching}
+use Rattle.gift_read.proofs.ReadBackChoices.{asks-one, asks-several}
 use Rattle.gift_read.proofs.ReadBackCategory.{reads-category}
 
 -- ---- every kind
@@ -27,8 +27,8 @@ asks-kind : (name : List ℕ) (r general : Rich) (k : Kind) → IsFramed name r 
 asks-kind name r general kind.Description is own whole described = asks-description name r general is (described refl)
 asks-kind name r general kind.Essay is own whole described = asks-essay name r general is (is_nothing general.text) refl
 asks-kind name r general (kind.TrueFalse right on_wrong on_right) is own whole described = asks-truth name r general on_wrong on_right right is own.0 own.1
-asks-kind name r general (kind.One choices) is own whole described = absurd own
-asks-kind name r general (kind.Several choices) is own whole described = absurd own
+asks-kind name r general (kind.One choices) is own whole described = asks-one name r general choices is own whole
+asks-kind name r general (kind.Several choices) is own whole described = asks-several name r general choices is own whole
 asks-kind name r general (kind.Matching pairs) is own whole described = asks-matching name r general pairs is own whole
 asks-kind name r general (kind.ShortAnswer answers) is own whole described = absurd own
 asks-kind name r general (kind.Numerical answers) is own whole described = absurd own

@@ -1,26 +1,25 @@
 -- Questions whose answer part has a line a piece: from what is read of the pieces to what is read of the question.
-use Rattle.std.proofs.Common.{◌≡◌, ◌≢◌, ◌≤◌, ℕ, Bool, true, false, cond, not, ◌&&◌, List, [], ◌∷◌, ◌++◌, map, flat_map, refl, sym, ap, ◌∙◌, append_assoc, append-nil}
+use Rattle.std.proofs.Common.{◌≡◌, ℕ, Bool, true, false, cond, List, [], ◌∷◌, ◌++◌, map, flat_map, refl, ap, ◌∙◌, append_assoc}
 use Rattle.std.proofs.lemmas.List.Folds.{list_all-append}
-use Rattle.gift_lex.specs.declared.block.Block.{Block}
-use Rattle.gift_lex.specs.declared.block.Piece.TheVariants.{Escaped, Sign, Plain}
+use Rattle.gift_lex.specs.declared.block.Piece.TheVariants.{Sign, Plain}
 use Rattle.qz_grading.specs.declared.question.Format.{Format}
 use Rattle.qz_grading.specs.declared.question.Format.TheVariants as format
 use Rattle.qz_grading.specs.declared.question.Kind.{Kind}
 use Rattle.qz_grading.specs.declared.question.Rich.{Rich}
-use Rattle.qz_grading.specs.Canonical.{is_nothing, answer_part, canonical_size, general_line}
+use Rattle.qz_grading.specs.Canonical.{is_nothing, answer_part, general_line}
 use Rattle.gift_read.specs.declared.places.Landmark.TheVariants as landmark
 use Rattle.gift_read.specs.declared.parts.Sort.{Sort}
 use Rattle.gift_read.specs.Places.{Marks, is_at, occurs, trimmed}
 use Rattle.gift_read.specs.Texts.{rich_of}
-use Rattle.gift_read.specs.Parts.{general_marks, sort_in}
+use Rattle.gift_read.specs.Parts.{sort_in}
 use Rattle.gift_read.specs.Values.{question_with, kind_in}
-use Rattle.gift_read.specs.Written.{IsText, IsRich, Each}
+use Rattle.gift_read.specs.Written.{IsRich, Each}
 use Rattle.gift_read.proofs.ReadBackPlaces.{Passes, are_plain}
 use Rattle.gift_read.proofs.ReadBackRich.{rich_marks, rich_marks-plain, rich_of-nothing, rich_of-around}
 use Rattle.gift_read.proofs.ReadBackFrame.{named_marks, braced}
 use Rattle.gift_read.proofs.ReadBackGeneral.{general-before, general-marks, closed-general}
 use Rattle.gift_read.proofs.ReadBackTold.{IsFaultless}
-use Rattle.gift_read.proofs.ReadBackPlain.{IsShort, no_text, reads-braced}
+use Rattle.gift_read.proofs.ReadBackPlain.{no_text, reads-braced}
 use Rattle.gift_read.proofs.ReadBackLines.{Line, joined_marks}
 use Rattle.gift_read.proofs.ReadBackBank.{IsQuestionText}
 use Rattle.gift_read.proofs.ReadBackWriting.{Writes}

@@ -1,16 +1,13 @@
 -- The marks of texts that are written with their signs escaped.
-use Rattle.std.proofs.Common.{◌≡◌, ◌≢◌, ℕ, ◌+◌, ◌<◌, ◌≤◌, Bool, true, false, cond, not, ◌&&◌, ◌||◌, ◌==◌, List, [], ◌∷◌, ◌++◌, map, flat_map, encode_utf8_all, refl, sym, ap, ◌∙◌, append_assoc, arith, inl, inr, codes}
+use Rattle.std.proofs.Common.{◌≡◌, ℕ, ◌<◌, Bool, true, false, cond, not, ◌||◌, ◌==◌, List, [], ◌∷◌, ◌++◌, map, flat_map, encode_utf8_all, refl, sym, ap, ◌∙◌, append_assoc, arith, inl, inr}
 use Rattle.std.specs.Char.{encode_utf8}
 use Rattle.std.specs.List.{list_all}
-use Rattle.std.specs.Str.{IsUtf8, chars}
-use Rattle.std.proofs.Math.Bool.{or_assoc}
-use Rattle.std.proofs.Math.Utf8.{scalars}
-use Rattle.std.proofs.lemmas.Bool.{and_parts, and_from, not-true, or_cases, or_parts, cases_lt, eqb-true, ne_eqb}
-use Rattle.std.proofs.lemmas.List.{append-nil, map-append}
+use Rattle.std.proofs.lemmas.Bool.{and_parts, not-true, or_parts, cases_lt, eqb-true, ne_eqb}
+use Rattle.std.proofs.lemmas.List.{append-nil}
 use Rattle.std.proofs.lemmas.Grind.{flat_map-append}
-use Rattle.std.proofs.lemmas.Str.{encode_ascii, encodes-append, encodes-chars, scalars-chars, chars-encodes}
+use Rattle.std.proofs.lemmas.Str.{encode_ascii, encodes-append}
 use Rattle.gift_lex.specs.declared.block.Piece.{Piece}
-use Rattle.gift_lex.specs.declared.block.Piece.TheVariants.{Escaped, Sign, Plain}
+use Rattle.gift_lex.specs.declared.block.Piece.TheVariants.{Escaped, Plain}
 use Rattle.gift_lex.specs.Blocks as lex
 use Rattle.gift_lex.specs.Blocks.{marks_of, single}
 use Rattle.qz_grading.specs.Canonical as canonical

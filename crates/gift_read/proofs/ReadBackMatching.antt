@@ -1,46 +1,41 @@
 -- Matching questions, read back.
-use Rattle.std.proofs.Common.{◌≡◌, ◌≢◌, ◌≤◌, ℕ, Bool, true, false, cond, not, ◌&&◌, ◌||◌, ◌==◌, List, [], ◌∷◌, ◌++◌, map, flat_map, drop, length, encode_utf8_all, refl, sym, ap, ◌∙◌, append_assoc, append-nil, codes, subst, nat_lt, arith}
+use Rattle.std.proofs.Common.{◌≡◌, ◌≢◌, ℕ, Bool, true, false, cond, not, ◌&&◌, ◌||◌, ◌==◌, List, [], ◌∷◌, ◌++◌, map, flat_map, length, encode_utf8_all, refl, sym, ap, ◌∙◌, append_assoc, append-nil, codes, subst, nat_lt, arith}
 use Rattle.std.specs.Char.{encode_utf8}
 use Rattle.std.specs.Str.{chars}
 use Rattle.std.proofs.lemmas.Bool.{or_parts, le-ltb}
 use Rattle.std.proofs.lemmas.List.{map-append}
 use Rattle.std.proofs.lemmas.List.Folds.{list_all-append}
 use Rattle.std.proofs.lemmas.Str.{encodes-chars}
-use Rattle.gift_lex.specs.declared.block.Piece.{Piece}
-use Rattle.gift_lex.specs.declared.block.Piece.TheVariants.{Escaped, Sign, Plain}
+use Rattle.gift_lex.specs.declared.block.Piece.TheVariants.{Sign, Plain}
 use Rattle.gift_lex.specs.Blocks as lex
 use Rattle.qz_grading.specs.declared.question.Format.{Format}
 use Rattle.qz_grading.specs.declared.question.Format.TheVariants as format
-use Rattle.qz_grading.specs.declared.question.Kind.{Kind}
 use Rattle.qz_grading.specs.declared.question.Kind.TheVariants as kind
 use Rattle.qz_grading.specs.declared.question.Pair.{Pair}
-use Rattle.qz_grading.specs.declared.question.Question.{Question}
 use Rattle.qz_grading.specs.declared.question.Rich.{Rich}
 use Rattle.qz_grading.specs.Canonical as canonical
 use Rattle.qz_grading.specs.Canonical.{format_mark, escaped, rich_text, pair_piece, is_nothing}
 use Rattle.qz_grading.specs.Questions as sound
 use Rattle.gift_read.specs.declared.places.Landmark.TheVariants as landmark
-use Rattle.gift_read.specs.declared.parts.Sort.{Sort}
 use Rattle.gift_read.specs.declared.parts.Sort.TheVariants as sort
-use Rattle.gift_read.specs.Places.{Marks, character, is_at, is_blank, signs_at, before, from, occurs, trimmed}
+use Rattle.gift_read.specs.Places.{Marks, character, is_at, is_blank, signs_at, before, occurs, trimmed}
 use Rattle.gift_read.specs.Texts.{spelled, text_of, rich_of}
 use Rattle.gift_read.specs.Parts.{Part, sort_in}
 use Rattle.gift_read.specs.Values.{question_with, pair_of}
 use Rattle.gift_read.specs.Written as written
 use Rattle.gift_read.specs.Written.{IsText, IsRich, IsPair, Each, has_arrow}
 use Rattle.gift_read.proofs.ReadBackPlaces.{Passes, passes-nil, passes-cons, passes-append, passes-plain, passes-occurs, found-before, found-from, found-occurs, are_plain, ends_ink, trimmed-around}
-use Rattle.gift_read.proofs.ReadBackMarks.{text_marks, text_marks-characters, text_marks-plain}
+use Rattle.gift_read.proofs.ReadBackMarks.{text_marks-characters, text_marks-plain}
 use Rattle.gift_read.proofs.ReadBackRich.{marks_of_text, is_marked, rich_characters, written_characters, rich_marks, rich_marks-plain, rich_of-around, spelled-own}
 use Rattle.gift_read.proofs.ReadBackTruth.{sort_by}
 use Rattle.gift_read.proofs.ReadBackParts.{gap_before}
 use Rattle.gift_read.proofs.ReadBackTold.{IsFaultless}
-use Rattle.gift_read.proofs.ReadBackPlain.{IsShort}
 use Rattle.gift_read.proofs.ReadBackBank.{IsQuestionText}
 use Rattle.gift_read.proofs.ReadBackWriting.{Writes, Writes-append, Writes-ascii, Writes-rich, Writes-text}
 use Rattle.gift_read.proofs.ReadBackPieces
 use Rattle.gift_read.proofs.ReadBackPieces.{parts_marks, spaced, from_first, gap, IsPart, AreParts, EachPasses, EachEnds, IsPieceLine, ReadsPiece}
 use Rattle.gift_read.proofs.ReadBackKinds.{IsFramed, Writes-opening}
-use Rattle.gift_read.proofs.ReadBackLayout.{Known, known, known-items, flat_map-known, before_general, ReadsAnswers, asks-lines}
+use Rattle.gift_read.proofs.ReadBackLayout.{Known, known, known-items, flat_map-known, ReadsAnswers, asks-lines}
 
 abbrev arrow : Marks
 arrow = Plain 32 ∷ Plain 45 ∷ Plain 62 ∷ Plain 32 ∷ []

@@ -1,28 +1,25 @@
 -- Answer parts of several lines, and the canonical text of each kind.
-use Rattle.std.proofs.Common.{◌≡◌, ◌≢◌, ◌≤◌, ℕ, Bool, true, false, cond, not, ◌&&◌, ◌==◌, List, [], ◌∷◌, ◌++◌, map, flat_map, encode_utf8_all, refl, sym, ap, ◌∙◌, append_assoc, append-nil, codes}
+use Rattle.std.proofs.Common.{◌≡◌, ◌≤◌, ℕ, Bool, true, false, cond, List, [], ◌∷◌, ◌++◌, flat_map, encode_utf8_all, refl, sym, ap, ◌∙◌, append_assoc, append-nil, codes}
 use Rattle.std.specs.Char.{encode_utf8}
-use Rattle.std.specs.List.{list_all}
 use Rattle.std.proofs.Math.Utf8.{scalars}
 use Rattle.std.proofs.lemmas.Grind.{flat_map-append}
 use Rattle.gift_lex.specs.declared.block.Block.{Block}
-use Rattle.gift_lex.specs.declared.block.Piece.TheVariants.{Escaped, Sign, Plain}
+use Rattle.gift_lex.specs.declared.block.Piece.TheVariants.{Sign, Plain}
 use Rattle.gift_lex.specs.Blocks as lex
 use Rattle.qz_grading.specs.declared.question.Format.{Format}
 use Rattle.qz_grading.specs.declared.question.Format.TheVariants as format
-use Rattle.qz_grading.specs.declared.question.Kind.{Kind}
-use Rattle.qz_grading.specs.declared.question.Kind.TheVariants as kind
 use Rattle.qz_grading.specs.declared.question.Question.{Question}
 use Rattle.qz_grading.specs.declared.question.Rich.{Rich}
 use Rattle.qz_grading.specs.Canonical as canonical
 use Rattle.qz_grading.specs.Canonical.{is_nothing, rich_text, rich_behind, answer_part, canonical_question, canonical_size, general_line, in_lines}
 use Rattle.gift_read.specs.Places.{Marks}
 use Rattle.gift_read.specs.Faults.{most_together}
-use Rattle.gift_read.specs.Written.{IsText, IsRich, has_no_return}
-use Rattle.gift_read.proofs.ReadBackMarks.{Spells, Spells-append, Spells-single}
+use Rattle.gift_read.specs.Written.{IsText, has_no_return}
+use Rattle.gift_read.proofs.ReadBackMarks.{Spells-single}
 use Rattle.gift_read.proofs.ReadBackRich.{written_characters, rich_characters, rich_marks}
 use Rattle.gift_read.proofs.ReadBackFrame.{named_marks, braced}
 use Rattle.gift_read.proofs.ReadBackGeneral.{hashes, with_general}
-use Rattle.gift_read.proofs.ReadBackLines.{is_feedless, IsLine, Line, AreLines, joined, joined_marks}
+use Rattle.gift_read.proofs.ReadBackLines.{IsLine, Line, AreLines, joined, joined_marks}
 use Rattle.gift_read.proofs.ReadBackTold.{IsRead}
 use Rattle.gift_read.proofs.ReadBackBank.{IsPlainText, plain_text-append, IsQuestionText}
 use Rattle.gift_read.proofs.ReadBackWriting.{Writes, Writes-append, Writes-ascii, Writes-rich, front_text, front_characters, front_marks, Writes-front, front_marks-named}

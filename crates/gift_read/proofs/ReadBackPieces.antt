@@ -1,22 +1,18 @@
 -- Answer parts of several pieces, a line each, read back.
-use Rattle.std.proofs.Common.{◌≡◌, ◌≢◌, ℕ, Bool, true, false, cond, not, ◌&&◌, ◌||◌, List, [], ◌∷◌, ◌++◌, map, flat_map, refl, sym, ap, ◌∙◌, append_assoc, append-nil}
+use Rattle.std.proofs.Common.{◌≡◌, ◌≢◌, ℕ, Bool, true, false, List, [], ◌∷◌, ◌++◌, map, flat_map, refl, sym, ap, ◌∙◌, append_assoc, append-nil}
 use Rattle.std.specs.List.{list_any}
-use Rattle.std.proofs.lemmas.List.{map-append}
-use Rattle.gift_lex.specs.declared.block.Piece.{Piece}
-use Rattle.gift_lex.specs.declared.block.Piece.TheVariants.{Escaped, Sign, Plain}
+use Rattle.gift_lex.specs.declared.block.Piece.TheVariants.{Sign, Plain}
 use Rattle.gift_lex.specs.Blocks as lex
 use Rattle.qz_grading.specs.Canonical as canonical
-use Rattle.gift_read.specs.declared.places.Landmark.TheVariants as landmark
-use Rattle.gift_read.specs.Places.{Marks, character, is_at, before, from, occurs, is_blank, trimmed}
-use Rattle.gift_read.specs.Parts.{Part, cut, pieces, answers}
+use Rattle.gift_read.specs.Places.{Marks, from, trimmed}
+use Rattle.gift_read.specs.Parts.{Part, cut, pieces}
 use Rattle.gift_read.specs.Written as written
 use Rattle.gift_read.proofs.PartLemmas.{later, cut-first}
-use Rattle.gift_read.proofs.ReadBackPlaces.{Passes, passes-nil, passes-cons, passes-append, passes-before, passes-from, passes-occurs, found-before, found-from, are_plain, begins_ink, ends_ink, trimmed-around}
-use Rattle.gift_read.proofs.ReadBackGeneral.{general-before}
+use Rattle.gift_read.proofs.ReadBackPlaces.{Passes, passes-nil, passes-append, passes-before, passes-from, found-before, found-from, begins_ink, ends_ink, trimmed-around}
 use Rattle.gift_read.proofs.ReadBackTruth.{ends-two}
 use Rattle.gift_read.proofs.ReadBackLines.{Line, joined_marks}
 use Rattle.gift_read.proofs.ReadBackWriting.{Writes}
-use Rattle.gift_read.proofs.ReadBackParts.{AreWritten, written-nil, written-append, written-line, gap_before, part_inner}
+use Rattle.gift_read.proofs.ReadBackParts.{AreWritten, written-nil, written-append, written-line, gap_before}
 
 -- ---- the marks of pieces, a line each
 

@@ -1,5 +1,5 @@
 -- Places in marks that are put together.
-use Rattle.std.proofs.Common.{◌≡◌, ℕ, Bool, true, false, cond, not, ◌&&◌, ◌||◌, ◌==◌, List, [], ◌∷◌, ◌++◌, map, take, drop, length, refl, sym, ap, ◌∙◌, append_assoc, codes}
+use Rattle.std.proofs.Common.{◌≡◌, ℕ, Bool, true, false, ◌&&◌, ◌||◌, List, [], ◌∷◌, ◌++◌, map, refl, sym, ap, ◌∙◌, append_assoc}
 use Rattle.std.specs.List.{list_all}
 use Rattle.std.proofs.lemmas.Bool.{and_parts, not-true}
 use Rattle.std.proofs.lemmas.List.{append-nil}
@@ -7,7 +7,7 @@ use Rattle.std.proofs.lemmas.List.Folds.{list_all-append}
 use Rattle.gift_lex.specs.declared.block.Piece.{Piece}
 use Rattle.gift_lex.specs.declared.block.Piece.TheVariants.{Escaped, Sign, Plain}
 use Rattle.gift_read.specs.Written as written
-use Rattle.gift_read.specs.Places.{Marks, character, is_space, is_sign, signs_at, before, from, occurs, is_last, is_blank, is_ink, unled, trimmed}
+use Rattle.gift_read.specs.Places.{Marks, character, is_space, is_sign, signs_at, before, from, occurs, is_last, is_blank, unled, trimmed}
 
 -- ---- marks at which nothing is found, whatever follows them
 

@@ -1,12 +1,10 @@
 -- Descriptions, essays and true-false questions, read back.
-use Rattle.std.proofs.Common.{◌≡◌, ◌≢◌, ℕ, Bool, true, false, cond, not, ◌&&◌, ◌||◌, List, [], ◌∷◌, ◌++◌, map, drop, length, codes, refl, sym, ap, ◌∙◌, append-nil, append_assoc}
-use Rattle.std.proofs.lemmas.Bool.{eqb-true, and_parts}
+use Rattle.std.proofs.Common.{◌≡◌, ◌≢◌, ℕ, Bool, true, false, not, ◌||◌, List, [], ◌∷◌, ◌++◌, length, refl, ap, ◌∙◌}
+use Rattle.std.proofs.lemmas.Bool.{eqb-true}
 use Rattle.std.proofs.lemmas.List.{nil_from_length}
 use Rattle.std.proofs.lemmas.List.Folds.{list_all-append}
 use Rattle.gift_lex.specs.declared.block.Block.{Block}
-use Rattle.gift_lex.specs.declared.block.Piece.{Piece}
-use Rattle.gift_lex.specs.declared.block.Piece.TheVariants.{Escaped, Sign, Plain}
-use Rattle.qz_grading.specs.declared.question.Format.{Format}
+use Rattle.gift_lex.specs.declared.block.Piece.TheVariants.{Plain}
 use Rattle.qz_grading.specs.declared.question.Format.TheVariants as format
 use Rattle.qz_grading.specs.declared.question.Kind.{Kind}
 use Rattle.qz_grading.specs.declared.question.Kind.TheVariants as kind
@@ -17,17 +15,16 @@ use Rattle.qz_grading.specs.Questions.{are_no_longer, texts}
 use Rattle.gift_read.specs.declared.places.Landmark.TheVariants as landmark
 use Rattle.gift_read.specs.declared.parts.Sort.{Sort}
 use Rattle.gift_read.specs.declared.parts.Sort.TheVariants as sort
-use Rattle.gift_read.specs.Places.{Marks, is_at, before, from, occurs, is_last, trimmed}
+use Rattle.gift_read.specs.Places.{Marks, is_at, trimmed}
 use Rattle.gift_read.specs.Texts.{rich_of}
-use Rattle.gift_read.specs.Parts.{answers, general_marks, sort_in, feedback_marks}
+use Rattle.gift_read.specs.Parts.{answers, general_marks, sort_in}
 use Rattle.gift_read.specs.Values.{question_with, question, kind_in}
 use Rattle.gift_read.specs.Faults.{broken_values, most_bytes}
 use Rattle.gift_read.specs.Category.{is_category}
-use Rattle.gift_read.specs.Written as written
 use Rattle.gift_read.specs.Written.{IsText, IsRich}
 use Rattle.gift_read.proofs.ReadBackPlaces
 use Rattle.gift_read.proofs.ReadBackPlaces.{Passes, are_plain}
-use Rattle.gift_read.proofs.ReadBackRich.{rich_marks, rich_marks-plain, rich_of-nothing, rich_of-around, rich_of-rich}
+use Rattle.gift_read.proofs.ReadBackRich.{rich_marks, rich_marks-plain, rich_of-nothing, rich_of-around}
 use Rattle.gift_read.proofs.ReadBackFrame.{named_marks, named-no_category, braced, braced-question, braced-flaws, unbraced-question, unbraced-flaws}
 use Rattle.gift_read.proofs.ReadBackGeneral.{hashes, with_general, general-before, general-marks, closed-general}
 use Rattle.gift_read.proofs.ReadBackTold.{IsFaultless, faultless-values, IsRead}

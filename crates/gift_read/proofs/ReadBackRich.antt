@@ -1,5 +1,5 @@
 -- Texts with a format, read back from their marks.
-use Rattle.std.proofs.Common.{◌≡◌, ◌≢◌, suc, ℕ, Bool, true, false, cond, not, ◌&&◌, ◌||◌, ◌==◌, List, [], ◌∷◌, ◌++◌, map, flat_map, length, encode_utf8_all, Option, Some, None, unwrap_or, refl, sym, ap, ◌∙◌, codes, lit<, arith}
+use Rattle.std.proofs.Common.{◌≡◌, ◌≢◌, suc, ℕ, Bool, true, false, cond, not, ◌||◌, ◌==◌, List, [], ◌∷◌, ◌++◌, map, flat_map, length, encode_utf8_all, None, unwrap_or, refl, sym, ap, ◌∙◌, codes, lit<, arith}
 use Rattle.std.specs.Char.{encode_utf8}
 use Rattle.std.specs.Str.{chars}
 use Rattle.std.proofs.lemmas.Bool.{or_parts, not-false, eqb-true, ne_eqb}

@@ -1,12 +1,11 @@
 -- When a block is read as a question.
-use Rattle.std.proofs.Common.{◌≡◌, ℕ, ◌<◌, ◌≤◌, Bool, true, false, not, ◌&&◌, ◌||◌, nat_lt, List, [], ◌∷◌, ◌++◌, Ok, refl, sym, ap, ◌∙◌}
+use Rattle.std.proofs.Common.{◌≡◌, ℕ, ◌≤◌, Bool, false, not, ◌&&◌, ◌||◌, nat_lt, List, [], ◌++◌, Ok, refl, ap, ◌∙◌}
 use Rattle.std.specs.List.{list_any}
 use Rattle.std.proofs.lemmas.Bool.{le-ltb}
 use Rattle.gift_lex.specs.declared.block.Block.{Block}
 use Rattle.qz_grading.specs.declared.question.Question.{Question}
 use Rattle.qz_grading.specs.Canonical.{canonical_size}
 use Rattle.qz_grading.specs.Questions as sound
-use Rattle.gift_read.specs.declared.read.Told.{Told}
 use Rattle.gift_read.specs.declared.read.Told.TheVariants as told_as
 use Rattle.gift_read.specs.declared.parts.Sort.{Sort}
 use Rattle.gift_read.specs.Places.{Marks}

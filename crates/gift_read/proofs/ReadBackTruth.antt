@@ -1,14 +1,12 @@
 -- True-false questions, read back.
-use Rattle.std.proofs.Common.{◌≡◌, ◌≢◌, ℕ, Bool, true, false, cond, not, ◌&&◌, ◌||◌, List, [], ◌∷◌, ◌++◌, map, drop, length, Option, Some, codes, refl, sym, ap, ◌∙◌, append-nil}
+use Rattle.std.proofs.Common.{◌≡◌, ◌≢◌, ℕ, Bool, true, false, cond, not, ◌&&◌, ◌||◌, List, [], ◌∷◌, ◌++◌, map, drop, codes, refl, ap, ◌∙◌, append-nil}
 use Rattle.std.proofs.lemmas.Bool.{and_parts}
 use Rattle.std.proofs.lemmas.List.{map-append}
 use Rattle.gift_lex.specs.declared.block.Block.{Block}
-use Rattle.gift_lex.specs.declared.block.Piece.{Piece}
-use Rattle.gift_lex.specs.declared.block.Piece.TheVariants.{Escaped, Sign, Plain}
+use Rattle.gift_lex.specs.declared.block.Piece.TheVariants.{Sign, Plain}
 use Rattle.qz_grading.specs.declared.question.Format.{Format}
 use Rattle.qz_grading.specs.declared.question.Format.TheVariants as format
 use Rattle.qz_grading.specs.declared.question.Kind.TheVariants as kind
-use Rattle.qz_grading.specs.declared.question.Question.{Question}
 use Rattle.qz_grading.specs.declared.question.Rich.{Rich}
 use Rattle.qz_grading.specs.Canonical.{is_nothing}
 use Rattle.gift_read.specs.declared.places.Landmark.TheVariants as landmark
@@ -16,12 +14,12 @@ use Rattle.gift_read.specs.declared.parts.Sort.{Sort}
 use Rattle.gift_read.specs.declared.parts.Sort.TheVariants as sort
 use Rattle.gift_read.specs.Places.{Marks, character, is_at, before, from, occurs, trimmed}
 use Rattle.gift_read.specs.Texts.{rich_of}
-use Rattle.gift_read.specs.Parts.{answers, general_marks, sort_in, short_unless, truth, feedback_marks}
-use Rattle.gift_read.specs.Values.{question_with, kind_in, on_wrong, on_right}
+use Rattle.gift_read.specs.Parts.{sort_in, short_unless, truth, feedback_marks}
+use Rattle.gift_read.specs.Values.{question_with, on_wrong, on_right}
 use Rattle.gift_read.specs.Written as written
 use Rattle.gift_read.specs.Written.{IsText, IsRich}
 use Rattle.gift_read.proofs.ReadBackPlaces.{Passes, passes-nil, passes-cons, passes-append, passes-plain, passes-occurs, passes-before, passes-from, found-before, found-from, is_plain, are_plain, plain-sign, ends_ink, trimmed-ink}
-use Rattle.gift_read.proofs.ReadBackRich.{rich_marks, rich_marks-plain, rich_marks-ink, rich_of-nothing, rich_of-around, rich_of-rich, ends-append}
+use Rattle.gift_read.proofs.ReadBackRich.{rich_marks, rich_marks-plain, rich_marks-ink, rich_of-nothing, rich_of-rich, ends-append}
 use Rattle.gift_read.proofs.ReadBackFrame.{named_marks, braced}
 use Rattle.gift_read.proofs.ReadBackGeneral.{with_general, general-before, general-marks, closed-general}
 use Rattle.gift_read.proofs.ReadBackTold.{IsRead}

@@ -1,20 +1,18 @@
 -- The canonical text of questions: its characters, its marks and its lines.
-use Rattle.std.proofs.Common.{◌≡◌, ◌≤◌, ℕ, Bool, true, false, cond, not, ◌&&◌, ◌==◌, List, [], ◌∷◌, ◌++◌, map, flat_map, encode_utf8_all, refl, sym, ap, ◌∙◌, append_assoc, append-nil, codes}
+use Rattle.std.proofs.Common.{◌≡◌, ◌≤◌, ℕ, Bool, true, false, cond, not, ◌&&◌, ◌==◌, List, [], ◌∷◌, ◌++◌, map, flat_map, encode_utf8_all, refl, sym, ap, ◌∙◌, append_assoc, append-nil}
 use Rattle.std.specs.Char.{encode_utf8}
 use Rattle.std.specs.List.{list_all}
 use Rattle.std.specs.Str.{chars}
 use Rattle.std.proofs.Math.Utf8.{scalars}
 use lib.Utf8.{scalar}
 use Rattle.std.proofs.lemmas.Bool.{and_parts, and_from}
-use Rattle.std.proofs.lemmas.Grind.{flat_map-append}
 use Rattle.std.proofs.lemmas.List.Folds.{list_all-append}
 use Rattle.std.proofs.lemmas.Str.{scalars-chars}
 use Rattle.gift_lex.specs.declared.block.Block.{Block}
-use Rattle.gift_lex.specs.declared.block.Piece.TheVariants.{Escaped, Sign, Plain}
+use Rattle.gift_lex.specs.declared.block.Piece.TheVariants.{Sign}
 use Rattle.gift_lex.specs.Blocks as lex
 use Rattle.qz_grading.specs.declared.question.Format.{Format}
 use Rattle.qz_grading.specs.declared.question.Format.TheVariants as format
-use Rattle.qz_grading.specs.declared.question.Kind.{Kind}
 use Rattle.qz_grading.specs.declared.question.Question.{Question}
 use Rattle.qz_grading.specs.declared.question.Rich.{Rich}
 use Rattle.qz_grading.specs.Canonical as canonical
@@ -24,9 +22,8 @@ use Rattle.gift_read.specs.Faults.{most_together}
 use Rattle.gift_read.specs.Written.{IsText, has_no_return}
 use Rattle.gift_read.proofs.ReadBackMarks.{Spells, Spells-nil, Spells-append, Spells-single, Spells-text}
 use Rattle.gift_read.proofs.ReadBackRich.{written_characters, marks_of_text, escaped-written, is_marked, rich_characters, rich_marks, rich_text-written, Spells-rich}
-use Rattle.gift_read.proofs.ReadBackFrame.{named_marks, braced}
-use Rattle.gift_read.proofs.ReadBackGeneral.{hashes}
-use Rattle.gift_read.proofs.ReadBackLines.{is_feedless, IsLine, Line, AreLines, joined, joined_marks}
+use Rattle.gift_read.proofs.ReadBackFrame.{named_marks}
+use Rattle.gift_read.proofs.ReadBackLines.{is_feedless}
 use Rattle.gift_read.proofs.ReadBackTold.{IsRead}
 use Rattle.gift_read.proofs.ReadBackBank.{IsPlainText, plain_text-append, IsQuestionText}
 

@@ -1,7 +1,8 @@
 -- Questions as a reading makes them.
-use Rattle.std.specs.Prelude.{◌≡◌, ◌≢◌, ℕ, ◌≤◌, ◌==◌, ◌&&◌, ◌||◌, Bool, true, false, not, IsTrue, List, [], ◌∷◌, Result, Ok}
+use Rattle.std.specs.Prelude.{◌≡◌, ◌≢◌, ℕ, ◌≤◌, ◌==◌, ◌&&◌, ◌||◌, Bool, true, false, not, IsTrue, List, [], ◌∷◌, Ok}
 use Rattle.std.specs.List.{list_all}
 use Rattle.std.specs.Str.{IsUtf8, chars}
+use Rattle.qz_grading.specs.declared.question.Choice.{Choice}
 use Rattle.qz_grading.specs.declared.question.Format.{Format}
 use Rattle.qz_grading.specs.declared.question.Kind.{Kind}
 use Rattle.qz_grading.specs.declared.question.Kind.TheVariants as kind
@@ -12,7 +13,7 @@ use Rattle.qz_grading.specs.declared.question.Bank.{Bank}
 use Rattle.qz_grading.specs.declared.question.Item.{Item}
 use Rattle.qz_grading.specs.Canonical.{canonical, canonical_size}
 use Rattle.qz_grading.specs.Grading.{is_space}
-use Rattle.qz_grading.specs.Questions.{IsSound, are_no_longer, texts}
+use Rattle.qz_grading.specs.Questions.{IsSound, are_no_longer, texts, is_weight}
 use Rattle.gift_lex.specs.Blocks.{carriage_return, line_feed}
 use Rattle.gift_read.specs.Category.{slash}
 use Rattle.gift_read.specs.Gift.{reading}
@@ -67,11 +68,20 @@ pub record IsPair (default : Format) (p : Pair) : Type 0 where
   pub answer : IsText p.answer
   pub some : p.answer ≢ []
 
+-- a choice isn't empty, and has a weight
+pub record IsChoice (default : Format) (c : Choice) : Type 0 where
+  pub weight : IsTrue (is_weight c.weight)
+  pub text : IsRich default c.text
+  pub some : c.text.text ≢ []
+  pub feedback : IsRich default c.feedback
+
 -- the texts of a kind are such
 abbrev pub IsKind : Format → Kind → Type 0
 IsKind default kind.Description = Unit {0}
 IsKind default kind.Essay = Unit {0}
 IsKind default (kind.TrueFalse right on_wrong on_right) = IsRich default on_wrong × IsRich default on_right
+IsKind default (kind.One choices) = Each (IsChoice default) choices
+IsKind default (kind.Several choices) = Each (IsChoice default) choices
 IsKind default (kind.Matching pairs) = Each (IsPair default) pairs
 IsKind default k = ⊥
 
