@@ -168,10 +168,10 @@ choice-read f t space is blank space_plain =
     let weight = reads-weight t.0 t.1.weight (rich_marks f t.1.text) (is_needless t) is.choice.weight (needless-own f t is) in
     let piece = (part_of f t).1 ++ space in (
       ap (λ (m : Marks). choice_with (weight_of t.0 m) (rich_of f (unweighed m)) (rich_of f (feedback_marks piece))) reads.answer_is
-      ∙ ap (λ (w : ℤ). choice_with w (rich_of f (unweighed answer)) (rich_of f (feedback_marks piece))) weight.weight
-      ∙ ap (λ (m : Marks). choice_with t.1.weight (rich_of f m) (rich_of f (feedback_marks piece))) weight.left
-      ∙ ap (λ (r : Rich). choice_with t.1.weight r (rich_of f (feedback_marks piece))) (rich_of-rich f t.1.text is.choice.text)
-      ∙ ap (λ (r : Rich). choice_with t.1.weight t.1.text r) reads.feedback_is,
+          ∙ ap (λ (w : ℤ). choice_with w (rich_of f (unweighed answer)) (rich_of f (feedback_marks piece))) weight.weight
+          ∙ ap (λ (m : Marks). choice_with t.1.weight (rich_of f m) (rich_of f (feedback_marks piece))) weight.left
+          ∙ ap (λ (r : Rich). choice_with t.1.weight r (rich_of f (feedback_marks piece))) (rich_of-rich f t.1.text is.choice.text)
+          ∙ ap (λ (r : Rich). choice_with t.1.weight t.1.text r) reads.feedback_is,
       ap (λ (m : Marks). is_weighed m && is_none (weight_told m)) reads.answer_is ∙ weight.fine,
     )
 
@@ -223,6 +223,7 @@ choice-ends f t is = go (is_nothing t.1.feedback.text) refl
   where
     ink : ends_ink (Sign t.0 ∷ []) ≡ true
     ink = elim is.sign [ inl e ↦ rw e refl | inr e ↦ rw e refl ]
+
     go : (b : Bool) → is_nothing t.1.feedback.text ≡ b → ends_ink (Sign t.0 ∷ (answer_of f t ++ feedback_or_none f t.1.feedback b)) ≡ true
     go true e = ends-two (Sign t.0 ∷ []) (answer_of f t ++ []) ink (ap ends_ink (append-nil (answer_of f t)) ∙ answer-ends f t is)
     go false e =

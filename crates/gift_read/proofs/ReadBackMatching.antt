@@ -123,10 +123,13 @@ pair-read f p space is blank =
     let here = is_at landmark.Arrow in
     let stem_is : rich_of f (stem ++ Plain 32 ∷ []) ≡ p.stem = rich_of-around f p.stem [] (Plain 32 ∷ []) is.stem refl refl in
     ap (λ (t : Marks). pair_of f (61, t)) (arrow-split stem (marks_of_text p.answer) space)
-    ∙ rw (found-occurs here (stem ++ Plain 32 ∷ []) (Plain 45) behind passes refl,
-          found-before here (stem ++ Plain 32 ∷ []) (Plain 45) behind passes refl,
-          found-from here (stem ++ Plain 32 ∷ []) (Plain 45) behind passes refl,
-          stem_is, answer-read p.answer space is.answer blank) refl
+    ∙ rw (
+      found-occurs here (stem ++ Plain 32 ∷ []) (Plain 45) behind passes refl,
+      found-before here (stem ++ Plain 32 ∷ []) (Plain 45) behind passes refl,
+      found-from here (stem ++ Plain 32 ∷ []) (Plain 45) behind passes refl,
+      stem_is,
+      answer-read p.answer space is.answer blank,
+    ) refl
 
 reads-pair : (f : Format) (p : Pair) → IsPair f p → ReadsPiece (pair_of f) (pair_part f p) p
 reads-pair f p is = record {
