@@ -3,3 +3,4 @@ pub mod Breaks
 pub mod Fronts
 pub mod GatherLemmas
 pub mod ComingLemmas
+pub mod OneBlock

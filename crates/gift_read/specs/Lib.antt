@@ -12,3 +12,4 @@ pub mod Computing
 pub mod Examples
 pub mod ExamplesKinds
 pub mod ExamplesFaults
+pub mod Written

@@ -6,6 +6,7 @@ mod fault;
 mod faults;
 mod faults_of_values;
 mod kinds;
+pub mod laws;
 mod limits;
 mod parts;
 mod places;

@@ -1,8 +1,7 @@
 -- Texts whose bytes are written one by one, taken by their characters.
-use Rattle.std.proofs.Common.{◌≡◌, ℕ, ◌+◌, ◌/◌, ◌<◌, ◌≤◌, Bool, true, false, cond, ltb, ◌==◌, ◌||◌, List, [], ◌∷◌, ◌++◌, flat_map, encode_utf8_all, ◌≢◌, refl, sym, ap, ◌∙◌, arith, inl, inr, lit<}
+use Rattle.std.proofs.Common.{◌≡◌, ℕ, ◌+◌, ◌/◌, ◌≤◌, false, cond, ltb, ◌==◌, List, [], ◌∷◌, ◌++◌, flat_map, encode_utf8_all, ◌≢◌, refl, ◌∙◌, arith, inl, inr}
 use Rattle.std.specs.Char.{encode_utf8}
-use Rattle.std.proofs.lemmas.Bool.{cond_both, ltb-true, ltb-false, ne_eqb, cases_lt}
-use Rattle.std.proofs.lemmas.Bool.Decides.{nat_tests}
+use Rattle.std.proofs.lemmas.Bool.{cond_both, ltb-true, ne_eqb, cases_lt}
 use Rattle.std.proofs.lemmas.Grind.{flat_map-append}
 use Rattle.std.proofs.lemmas.List.{append-nil}
 use Rattle.std.proofs.lemmas.Str.{encode_ascii, encodes-append}
@@ -15,7 +14,7 @@ use Rattle.gift_write.specs.Escapes.{written_text}
 -- ---- one character beyond ASCII
 
 -- no byte of it is below 128, so it is written as it is where such bytes are
-flat_map-wide : (f : ℕ → List ℕ) → ((b : ℕ) → 128 ≤ b → f b ≡ b ∷ []) → (c : ℕ) → 128 ≤ c → flat_map f (encode_utf8 c) ≡ encode_utf8 c
+pub flat_map-wide : (f : ℕ → List ℕ) → ((b : ℕ) → 128 ≤ b → f b ≡ b ∷ []) → (c : ℕ) → 128 ≤ c → flat_map f (encode_utf8 c) ≡ encode_utf8 c
 unfolding encode_utf8
 flat_map-wide f plain c wide =
     let P : List ℕ → Type 0 = λ bs. flat_map f bs ≡ bs in
@@ -28,7 +27,7 @@ flat_map-wide f plain c wide =
     (λ _. cond_both (ltb c 65536) three four P (λ _. rw (plain (224 + c / 4096) (omega arith), more (c / 64), more c) refl)
     (λ _. rw (plain (240 + c / 262144) (omega arith), more (c / 4096), more (c / 64), more c) refl)))
 
-escaped_byte-wide : (b : ℕ) → 128 ≤ b → escaped_byte b ≡ b ∷ []
+pub escaped_byte-wide : (b : ℕ) → 128 ≤ b → escaped_byte b ≡ b ∷ []
 escaped_byte-wide b wide =
     rw (ne_eqb b 10 (λ e. omega arith), ne_eqb b 126 (λ e. omega arith), ne_eqb b 61 (λ e. omega arith), ne_eqb b 35 (λ e. omega arith), ne_eqb b 123 (λ e. omega arith), ne_eqb b 125 (λ e. omega arith), ne_eqb b 58 (λ e. omega arith), ne_eqb b 92 (λ e. omega arith)) refl
 
@@ -37,30 +36,11 @@ doubled-wide b wide = rw (ne_eqb b 47 (λ e. omega arith)) refl
 
 -- ---- any character
 
--- a sign is no character beyond ASCII
-sign_low : (c : ℕ) → is_sign c ≡ true → c < 128
-sign_low c sign = elim (cases_lt c 128) [
-  | inl low ↦ low
-  | inr wide ↦
-      let plain : is_sign c ≡ false =
-      rw (ne_eqb c 126 (λ e. omega arith), ne_eqb c 61 (λ e. omega arith), ne_eqb c 35 (λ e. omega arith), ne_eqb c 123 (λ e. omega arith), ne_eqb c 125 (λ e. omega arith), ne_eqb c 58 (λ e. omega arith), ne_eqb c 92 (λ e. omega arith)) refl in
-      absurd (cc)
-]
-
-pub escaped-feed : (c : ℕ) → c ≡ 10 → escaped (encode_utf8 c) ≡ 92 ∷ 110 ∷ []
-escaped-feed c feed = rw (feed, encode_ascii 10 (lit< tt)) refl
-
-pub escaped-sign : (c : ℕ) → c ≢ 10 → is_sign c ≡ true → escaped (encode_utf8 c) ≡ 92 ∷ encode_utf8 c
-escaped-sign c feed sign = rw (encode_ascii c (sign_low c sign), ne_eqb c 10 feed, sign) refl
-
 pub escaped-plain : (c : ℕ) → c ≢ 10 → is_sign c ≡ false → escaped (encode_utf8 c) ≡ encode_utf8 c
 escaped-plain c feed plain = elim (cases_lt c 128) [
   | inl low ↦ rw (encode_ascii c low, ne_eqb c 10 feed, plain) refl
   | inr wide ↦ flat_map-wide escaped_byte escaped_byte-wide c wide
 ]
-
-pub category_name-slash : (c : ℕ) → c ≡ 47 → category_name (encode_utf8 c) ≡ 47 ∷ 47 ∷ []
-category_name-slash c slash = rw (slash, encode_ascii 47 (lit< tt)) refl
 
 pub category_name-other : (c : ℕ) → c ≢ 47 → category_name (encode_utf8 c) ≡ encode_utf8 c
 category_name-other c other = elim (cases_lt c 128) [

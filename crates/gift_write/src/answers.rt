@@ -106,7 +106,7 @@ fn wrong_onto(
 ) -> Result<(), NoMemory>
     ensures { OnOk result (string_bytes out.new
         ≡ string_bytes out.old ++ (if is_nothing on_wrong.now.text && is_nothing on_right.now.text then []
-            else codes "#" ++ rich_text default on_wrong.now)) }
+        else codes "#" ++ rich_text default on_wrong.now)) }
 {
     if on_wrong.text.as_bytes().is_empty() && on_right.text.as_bytes().is_empty() {
         return Ok(());

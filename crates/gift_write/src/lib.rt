@@ -11,5 +11,7 @@ mod question;
 mod rich;
 
 pub use bank::{WriteErr, spell, write};
-pub use question::spell_question;
+pub use question::{size_of_question, spell_question};
 
+#[cfg(test)]
+mod tests;

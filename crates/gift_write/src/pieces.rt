@@ -89,13 +89,7 @@ impl Piece for Choice {
 fn right_choice_onto(out: &mut String, default: Format, choice: &Choice) -> Result<(), NoMemory>
     ensures { OnOk result (string_bytes out.new ≡ string_bytes out.old ++ equals_choice default choice.now) }
 {
-    opening_onto(
-        out,
-        "=",
-        RIGHT,
-        choice.weight,
-        choice.text.text.as_bytes(),
-    )?;
+    opening_onto(out, "=", RIGHT, choice.weight, choice.text.text.as_bytes())?;
     rich_onto(out, default, &choice.text)?;
     closing_onto(out, default, &choice.feedback)
 }

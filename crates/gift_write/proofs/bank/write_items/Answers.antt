@@ -1,5 +1,3 @@
-use Rattle.std.proofs.Common.{drop, ◌+◌, ◌++◌, ap, sym}
-use Rattle.qz_grading.specs.Canonical.{category_line, canonical_question, canonical_items}
 use Rattle.gift_write.proofs.WriteLemmas.{writes_piece, writes_front, left-item, on_err}
 use Rattle.gift_write.proofs.bank.write_items.Goals as goal
 

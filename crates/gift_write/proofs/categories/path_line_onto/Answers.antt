@@ -1,4 +1,4 @@
-use Rattle.std.proofs.Common.{◌≡◌, ◌++◌, string_bytes, codes, sym, ap, ◌∙◌, append_assoc}
+use Rattle.std.proofs.Common.{◌++◌, string_bytes, codes, ap, ◌∙◌, append_assoc}
 use Rattle.qz_grading.specs.Canonical.{category_path}
 use Rattle.gift_write.proofs.categories.path_line_onto.Goals as goal
 

@@ -1,0 +1,9 @@
+//! What reading and writing mean together.
+
+ghost use Rattle.gift_read.specs.Written.{ReadsBack};
+
+/// The canonical text of a bank of written questions is read as that bank, with its categories. `IsWritten` says what a
+/// written question is; the kinds that it takes so far are those of `IsKind`.
+pub fn reads_back()
+    ensures { ReadsBack }
+{}
