@@ -1,8 +1,8 @@
 -- Reading a list from the front, one item more at a time: what is first, what is last, how many there are, all of them.
-use Rattle.std.proofs.Common.{◌≡◌, ℕ, zero, suc, max, ltb, ◌+◌, ◌<◌, ◌⊎◌, inl, inr, Bool, true, false, cond, not, ◌||◌, List, [], ◌∷◌, ◌++◌, Option, Some, None, option_map, length, take, get_or, refl, sym, ap, ◌∙◌, append-nil, arith, length-append}
-use Rattle.std.specs.Prelude.{filter, filter_map, fold, if◌then◌else◌, is_some, is_none, option_to_list, position, slice_get, unwrap_or}
+use Rattle.std.proofs.Common.{◌≡◌, ℕ, zero, suc, max, ltb, ◌+◌, ◌<◌, ◌⊎◌, inl, inr, Bool, true, false, List, [], ◌∷◌, ◌++◌, Option, Some, None, option_map, length, take, get_or, refl, sym, ap, ◌∙◌, arith, length-append}
+use Rattle.std.specs.Prelude.{filter, filter_map, fold, if◌then◌else◌, is_some, option_to_list, position, slice_get, unwrap_or}
 use Rattle.std.specs.Option.{option_or}
-use Rattle.std.specs.List.{last_or, list_any, list_all, position_or_len}
+use Rattle.std.specs.List.{last_or, position_or_len}
 use Rattle.std.proofs.lemmas.Bool.{ltb-true, ltb-false}
 use Rattle.std.proofs.lemmas.Option.{slice_get_past}
 use Rattle.std.proofs.lemmas.Grind.{take_at_read, fold-append}
