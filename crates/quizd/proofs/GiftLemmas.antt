@@ -46,10 +46,12 @@ past_limit n m limit a b c = omega (arith, a, b, c)
 pub gifts_all : (writes : Bool) (old new : Outside) (s : Stop) → GiftEnds writes old new (Some s) → GiftsAll old new (status_of (Some s))
 gifts_all writes old new stop.BadWords h = absurd h
 gifts_all writes old new (stop.Malformed line) h = absurd h
-gifts_all writes old new (stop.Unreadable line rule) h = record { done = λ text bank left within reads quiet silent.
-    let same : text ≡ h.text = read_whole old.left new.left text h.text left h.read.taken h.read.at_end in
-    let one : reading text ≡ reading h.text = ap reading same in
-    let two : Ok bank ≡ Err (record { line = line; rule = rule }) = sym reads ∙ (one ∙ h.reads) in cc }
+gifts_all writes old new (stop.Unreadable line rule) h = record {
+  done = λ text bank left within reads quiet silent.
+      let same : text ≡ h.text = read_whole old.left new.left text h.text left h.read.taken h.read.at_end in
+      let one : reading text ≡ reading h.text = ap reading same in
+      let two : Ok bank ≡ Err (record { line = line; rule = rule }) = sym reads ∙ (one ∙ h.reads) in cc;
+}
 gifts_all writes old new stop.SourceFault h = record { done = λ text bank left within reads quiet silent. absurd (quiet h.risen) }
 gifts_all writes old new stop.SinkFault h = record { done = λ text bank left within reads quiet silent. absurd (silent h.risen) }
 gifts_all writes old new stop.Memory h = record { done = λ text bank left within reads quiet silent. inr refl }

@@ -25,9 +25,9 @@ mod stop;
 mod tests;
 mod words;
 
+pub use gift::gift;
 use qz_outside::{StdSink, StdSource};
 use qz_text::{NoMemory, Text};
-pub use gift::gift;
 pub use replay::replay;
 pub use run::run;
 pub use script::script;

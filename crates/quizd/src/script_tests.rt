@@ -218,8 +218,10 @@ fn many_lines_run(rt: HostRuntime) -> Result<(), Fail> {
 #[test]
 fn a_whole_exam(rt: HostRuntime) -> Result<(), Fail> {
     let alloc = rt.alloc();
-    let lines = "110 ann k1 start 1\n115 ann k9 start 1\n116 root k1 start 1\n120 ann k2 save 2.1 1 0 pick:1\n130 ann k3 finish 2.1\n140 ann - grade 1 2\n150 ann k3 finish 2.1\n160 ann k3 start 1\n170 ann k4 save 2.1 1 0 pick:2\n180 bob k1 finish 2.1\n190 ann x1 user eve student eve\n200 zed k1 start 1\n210 ann k5 finish\n";
-    let replies = "ok 1 started 2.1 1 -\nrefused 10 2.1\nrefused 3 3\nok 2 step complete -\nok 3 finished 2.0000000\nok 3 grade 10.00000\nok 3 finished 2.0000000\nrefused 5 3\nrefused 8 3\nrefused 4 7\nrefused 1 4 0\nrefused 2\nrefused 1 5 0\n";
+    let lines =
+        "110 ann k1 start 1\n115 ann k9 start 1\n116 root k1 start 1\n120 ann k2 save 2.1 1 0 pick:1\n130 ann k3 finish 2.1\n140 ann - grade 1 2\n150 ann k3 finish 2.1\n160 ann k3 start 1\n170 ann k4 save 2.1 1 0 pick:2\n180 bob k1 finish 2.1\n190 ann x1 user eve student eve\n200 zed k1 start 1\n210 ann k5 finish\n";
+    let replies =
+        "ok 1 started 2.1 1 -\nrefused 10 2.1\nrefused 3 3\nok 2 step complete -\nok 3 finished 2.0000000\nok 3 grade 10.00000\nok 3 finished 2.0000000\nrefused 5 3\nrefused 8 3\nrefused 4 7\nrefused 1 4 0\nrefused 2\nrefused 1 5 0\n";
     for most in [1usize, 50, 65_536] {
         let cut = Outer {
             most,

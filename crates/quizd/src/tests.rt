@@ -89,7 +89,9 @@ fn head(
     penalty: &str,
     hints: &str,
 ) -> Result<String, NoMemory> {
-    Ok(format!(in alloc; "behaviour {behaviour}\nmax {max}\npenalty {penalty}\nhints {hints}\nquestion {{T}}\n")?)
+    Ok(format!(in alloc;
+        "behaviour {behaviour}\nmax {max}\npenalty {penalty}\nhints {hints}\nquestion {{T}}\n"
+    )?)
 }
 
 /// Each row has what is asked, a bar between two lines, and what is said of each.
@@ -148,16 +150,19 @@ fn certainty_counts(rt: HostRuntime) -> Result<(), Fail> {
 #[test]
 fn tries_cost_penalties(rt: HostRuntime) -> Result<(), Fail> {
     let alloc = rt.alloc();
-    let rows = "submit 0 pick:2 | again | submit 0 pick:2 | again | submit 0 pick:1 => todo - | todo - | todo - | todo - | gradedright 1.0000002
+    let rows =
+        "submit 0 pick:2 | again | submit 0 pick:2 | again | submit 0 pick:1 => todo - | todo - | todo - | todo - | gradedright 1.0000002
         submit 0 pick:2 | save 0 pick:1 => todo - | refused 13
         again => refused 11 interactive";
     let interactive = head(alloc, "interactive", "3", "0.3333333", "2")?;
     hold(&rt, alloc, interactive.as_str(), rows)?;
-    let rows = "submit 0 pick:2 | submit 0 pick:2 | submit 0 pick:1 | finish => todo 0.0000000 | same todo 0.0000000 | complete 1.8000000 | gradedright 1.8000000
+    let rows =
+        "submit 0 pick:2 | submit 0 pick:2 | submit 0 pick:1 | finish => todo 0.0000000 | same todo 0.0000000 | complete 1.8000000 | gradedright 1.8000000
         finish => gaveup 0.0000000";
     let adaptive = head(alloc, "adaptive", "2", "0.1", "0")?;
     hold(&rt, alloc, adaptive.as_str(), rows)?;
-    let rows = "submit 0 pick:2 | submit 0 pick:1 | finish => todo 0.0000000 | complete 2.0000000 | gradedright 2.0000000";
+    let rows =
+        "submit 0 pick:2 | submit 0 pick:1 | finish => todo 0.0000000 | complete 2.0000000 | gradedright 2.0000000";
     let free = head(alloc, "adaptivenopenalty", "2", "0.1", "0")?;
     hold(&rt, alloc, free.as_str(), rows)?;
     Ok(())
@@ -166,7 +171,8 @@ fn tries_cost_penalties(rt: HostRuntime) -> Result<(), Fail> {
 #[test]
 fn a_teacher_marks(rt: HostRuntime) -> Result<(), Fail> {
     let alloc = rt.alloc();
-    let rows = "save 0 pick:1 | finish | mark 4 | mark 6 | bind 3 0.3333333 0 {T} => complete - | needsgrading - | mangrpartial 4.0000000 | refused 15 5.0000000 | mangrpartial 2.4000000";
+    let rows =
+        "save 0 pick:1 | finish | mark 4 | mark 6 | bind 3 0.3333333 0 {T} => complete - | needsgrading - | mangrpartial 4.0000000 | refused 15 5.0000000 | mangrpartial 2.4000000";
     let manual = head(alloc, "manualgraded", "5", "0", "0")?;
     hold(&rt, alloc, manual.as_str(), rows)?;
     Ok(())
@@ -279,7 +285,11 @@ fn limits(rt: HostRuntime) -> Result<(), Fail> {
     }
     let (status, written) = steps(alloc, lines.as_str())?;
     assert_eq!(rt; status, 0);
-    assert!(rt; written.as_str().ends_with("1001 mangrpartial 1.0000000\n1002 refused 18 1000\n"));
+    assert!(rt;
+        written
+            .as_str()
+            .ends_with("1001 mangrpartial 1.0000000\n1002 refused 18 1000\n")
+    );
 
     let mut text = Vec::from_slice(alloc, HEAD.as_bytes())?;
     text.resize(8_388_609, b'\n')?;
