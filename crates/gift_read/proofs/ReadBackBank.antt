@@ -12,7 +12,7 @@ use Rattle.gift_lex.specs.Blocks.{between_feeds, without_order_mark, with_plain_
 use Rattle.qz_grading.specs.declared.question.Item.{Item}
 use Rattle.qz_grading.specs.declared.question.Question.{Question}
 use Rattle.qz_grading.specs.Canonical.{canonical_question, canonical_size}
-use Rattle.gift_read.specs.declared.read.Told.{Told}
+use Rattle.gift_read.specs.declared.reading.Entry.{Entry}
 use Rattle.gift_read.specs.Places.{Marks}
 use Rattle.gift_read.specs.Faults.{most_together}
 use Rattle.gift_read.specs.Gift.{Fault, followed, onto, items_of, in_bank, bank_of, reading_of, reading}
@@ -79,7 +79,7 @@ reads-question names text items q is later = record {
       let gives = gives-block (58 ∷ is.first) is.marks is.later n (between_feeds later.characters) is.line refl is.lines in
       ap (λ (ls : List (List ℕ)). items_of names (blocks_from n ls)) lines
       ∙ ap (items_of names) gives.blocks_are
-      ∙ ap (λ (t : Result Told Fault). followed names t (λ names. items_of names (blocks_from gives.number (between_feeds later.characters))))
+      ∙ ap (λ (t : Result Entry Fault). followed names t (λ names. items_of names (blocks_from gives.number (between_feeds later.characters))))
       (read-told gives.block q (is.read gives.block gives.marks_are) is.small)
       ∙ ap (λ (r : Result (List Item) Fault). onto (record { category = names; question = q }) r) (later.reads gives.number);
 }

@@ -18,8 +18,8 @@ use Rattle.gift_lex.proofs.OneBlock.{gives-category}
 use Rattle.qz_grading.specs.declared.question.Item.{Item}
 use Rattle.qz_grading.specs.Canonical.{category_name, category_path, begins_with, is_nothing, canonical_size}
 use Rattle.gift_write.proofs.EscapeLemmas.{category_name-other}
-use Rattle.gift_read.specs.declared.read.Told.{Told}
-use Rattle.gift_read.specs.declared.read.Told.TheVariants as told_as
+use Rattle.gift_read.specs.declared.reading.Entry.{Entry}
+use Rattle.gift_read.specs.declared.reading.Entry.TheVariants as entry
 use Rattle.gift_read.specs.Places.{Marks, character, is_blank}
 use Rattle.gift_read.specs.Texts.{spelled, text_of}
 use Rattle.gift_read.specs.Values.{question}
@@ -266,7 +266,7 @@ good_path (name ∷ path) names = rw (good_name name names.0, good_path path nam
 
 -- ---- the block is read
 
-category-told : (b : Block) (name : List ℕ) (path : List (List ℕ)) → ink.AreNames (name ∷ path) → b.marks ≡ category_marks (name ∷ path) → told b ≡ Ok (told_as.Category (name ∷ path))
+category-told : (b : Block) (name : List ℕ) (path : List (List ℕ)) → ink.AreNames (name ∷ path) → b.marks ≡ category_marks (name ∷ path) → told b ≡ Ok (entry.Category (name ∷ path))
 category-told b name path is marks =
     let named : category.is_category b.marks ≡ true = ap category.is_category marks in
     let read : category.path b.marks ≡ name ∷ path = ap category.path marks ∙ path-read name path is in
@@ -275,7 +275,7 @@ category-told b name path is marks =
     let whole : broken b ≡ [] = ap (λ (rules : List ℕ). or_large rules b) fine ∙ ap (λ (c : Bool). when (not c && nat_lt most_together (canonical_size (question b))) 2) named in
     ap (λ (rules : List ℕ). told_by rules (category.is_category b.marks) b) whole
     ∙ ap (λ (c : Bool). told_by [] c b) named
-    ∙ ap (λ (p : List (List ℕ)). Ok (told_as.Category p)) read
+    ∙ ap (λ (p : List (List ℕ)). Ok (entry.Category p)) read
 
 -- ---- a category line before items
 
@@ -297,7 +297,7 @@ reads-category before name path text items is later =
           let gives = gives-category (category_characters whole) n (between_feeds later.characters) refl refl in
           ap (λ (ls : List (List ℕ)). items_of before (blocks_from n ls)) lines
           ∙ ap (items_of before) gives.blocks_are
-          ∙ ap (λ (t : Result Told Fault). followed before t (λ names. items_of names (blocks_from gives.number (between_feeds later.characters))))
+          ∙ ap (λ (t : Result Entry Fault). followed before t (λ names. items_of names (blocks_from gives.number (between_feeds later.characters))))
           (category-told gives.block name path is (gives.marks_are ∙ marks_of-category whole))
           ∙ later.reads gives.number;
     }

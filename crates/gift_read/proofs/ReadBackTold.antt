@@ -6,7 +6,7 @@ use Rattle.gift_lex.specs.declared.block.Block.{Block}
 use Rattle.qz_grading.specs.declared.question.Question.{Question}
 use Rattle.qz_grading.specs.Canonical.{canonical_size}
 use Rattle.qz_grading.specs.Questions as sound
-use Rattle.gift_read.specs.declared.read.Told.TheVariants as told_as
+use Rattle.gift_read.specs.declared.reading.Entry.TheVariants as entry
 use Rattle.gift_read.specs.declared.parts.Sort.{Sort}
 use Rattle.gift_read.specs.Places.{Marks}
 use Rattle.gift_read.specs.Values.{question}
@@ -42,7 +42,7 @@ pub record IsRead (b : Block) (q : Question) : Type 0 where
 not_large : (n m : ℕ) → n ≤ m → nat_lt m n ≡ false
 not_large n m le = le-ltb m n le
 
-pub read-told : (b : Block) (q : Question) → IsRead b q → canonical_size q ≤ most_together → told b ≡ Ok (told_as.Asked q)
+pub read-told : (b : Block) (q : Question) → IsRead b q → canonical_size q ≤ most_together → told b ≡ Ok (entry.Asked q)
 read-told b q is small =
     let not_big : is_large b ≡ false =
     ap (λ (c : Bool). not c && nat_lt most_together (canonical_size (question b))) is.asked
@@ -51,4 +51,4 @@ read-told b q is small =
     let sound : broken b ≡ [] = ap (λ (rules : List ℕ). or_large rules b) is.flawless ∙ ap (λ (c : Bool). when c 2) not_big in
     ap (λ (rules : List ℕ). told_by rules (is_category b.marks) b) sound
     ∙ ap (λ (c : Bool). told_by [] c b) is.asked
-    ∙ ap (λ (p : Question). Ok (told_as.Asked p)) is.value
+    ∙ ap (λ (p : Question). Ok (entry.Asked p)) is.value
