@@ -40,6 +40,7 @@ module _ (number : ℕ) (p : Play) (lines rest : List (List ℕ)) (line front : 
   fails_more stop.Memory reads = tt
   fails_more (stop.Malformed n) reads = stops_at n reads
   fails_more stop.BadWords reads = absurd reads
+  fails_more (stop.Unreadable n rule) reads = absurd reads
   fails_more stop.SourceFault reads = absurd reads
   fails_more stop.SinkFault reads = absurd reads
   fails_more stop.TooLong reads = absurd reads
