@@ -1,6 +1,6 @@
 -- How a GIFT text is checked and laid out anew.
 use Rattle.std.specs.Prelude.{◌≡◌, ◌⊎◌, ℕ, ◌≤◌, Bool, true, false, List, ◌++◌, length, Option, Some, None, Result, Ok, Err, codes, decimal}
-use Rattle.std.specs.Io.KnownBytes.{Appends, Consumes}
+use Rattle.std.specs.Io.KnownBytes.{Appends}
 use Rattle.qz_outside.specs.Causes.{HasRisen}
 use Rattle.qz_outside.specs.Sources.{AppendsFront}
 use Rattle.qz_grading.specs.declared.question.Bank.{Bank}

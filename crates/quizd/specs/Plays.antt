@@ -18,7 +18,6 @@ use Rattle.qz_grading.specs.Words.{state_word, mark_or_dash}
 use Rattle.quizd.specs.declared.asked.Asked.{Asked}
 use Rattle.quizd.specs.declared.asked.Asked.TheVariants as asked
 use Rattle.quizd.specs.declared.slot.Slot.{Slot}
-use Rattle.quizd.specs.declared.slot.Version.{Version}
 use Rattle.quizd.specs.Replay.{question_in}
 use Rattle.quizd.specs.Replies.{refused_words}
 

@@ -1,5 +1,3 @@
-use Rattle.quizd.specs.GiftEndings.{GiftsAll}
-use Rattle.std.proofs.Common.{sym, subst}
 use Rattle.quizd.proofs.GiftLemmas.{gifts_all}
 use Rattle.quizd.proofs.gift.gift.Goals as goal
 

@@ -1,8 +1,6 @@
-use Rattle.std.proofs.Common.{◌≡◌, refl, sym, ap, ◌∙◌, string_bytes, ◌++◌, List, ℕ, arith}
+use Rattle.std.proofs.Common.{◌≡◌, refl, ◌∙◌, string_bytes, ◌++◌, arith}
 use Rattle.std.proofs.lemmas.Result.{err_from_is_err_and}
 use Rattle.quizd.specs.Lines.{lines_of}
-use Rattle.quizd.specs.Plays.{next}
-use Rattle.quizd.specs.Replayed.{line_of}
 use Rattle.quizd.proofs.ReplayLemmas.{said, says_more, fails_more, says_all}
 use Rattle.quizd.proofs.replay.lines_behind.Goals as goal
 

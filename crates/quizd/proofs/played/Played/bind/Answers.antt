@@ -1,4 +1,4 @@
-use Rattle.std.proofs.Common.{◌≡◌, sym, ◌∙◌}
+use Rattle.std.proofs.Common.{◌∙◌}
 use Rattle.quizd.proofs.PlayLemmas.{behaves-alike}
 use Rattle.quizd.proofs.played.Played.bind.Goals as goal
 

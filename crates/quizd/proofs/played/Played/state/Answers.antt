@@ -1,4 +1,3 @@
-use Rattle.std.proofs.Common.{◌≡◌}
 use Rattle.quizd.proofs.played.Played.state.Goals as goal
 
 pub returns : goal.returns
