@@ -7,3 +7,4 @@ pub mod Saving
 pub mod Highest
 pub mod Isolated
 pub mod Walks
+pub mod Owning

@@ -1,10 +1,11 @@
 -- What the definitions have to mean: facts that hold of all lists.
 use Rattle.std.specs.List.{list_all}
-use Rattle.std.specs.Prelude.{◌≡◌, ℕ, true, List, [], ◌∷◌, ◌++◌, map, ℤ, pos, ◌≤ℤ◌, Some, None, filter, Option}
+use Rattle.std.specs.Prelude.{◌≡◌, ℕ, Bool, true, false, List, [], ◌∷◌, ◌++◌, map, ℤ, pos, ◌≤ℤ◌, Some, None, filter, Option}
 use Rattle.qz_grading.specs.declared.outcome.Behaviour.{Behaviour}
 use Rattle.qz_grading.specs.declared.question.Question.{Question}
 use Rattle.qz_grading.specs.declared.refusal.AttemptId.{AttemptId}
 use Rattle.qz_grading.specs.declared.refusal.Refusal.{Refusal}
+use Rattle.qz_grading.specs.declared.refusal.Refusal.TheVariants as refusal
 use Rattle.qz_grading.specs.declared.response.Response.{Response}
 use Rattle.qz_grading.specs.declared.response.Step.{Step}
 use Rattle.qz_grading.specs.declared.response.Step.TheVariants as step
@@ -21,9 +22,10 @@ use Rattle.qz_terms.specs.declared.record.Event.{Event}
 use Rattle.qz_terms.specs.declared.record.Event.TheVariants as event
 use Rattle.qz_terms.specs.declared.record.Learned.{Learned}
 use Rattle.qz_terms.specs.declared.record.Record.{Record}
+use Rattle.qz_terms.specs.declared.reply.Reply.{Reply}
 use Rattle.qz_terms.specs.declared.reply.Reply.TheVariants as reply
 use Rattle.qz_terms.specs.declared.request.Request.{Request}
-use Rattle.qz_terms.specs.Answer.{answer, answer_here, first_refusal, list_after, moment_of, plan_for, put_here, shard_list}
+use Rattle.qz_terms.specs.Answer.{answer, answer_here, first_refusal, list_after, moment_of, plan_for, put_here, school_answer, shard_list}
 use Rattle.qz_terms.specs.Catalog as catalog
 use Rattle.qz_terms.specs.Cause.{Repeated, verdict_here}
 use Rattle.qz_terms.specs.History as history
@@ -65,6 +67,20 @@ pub record AddsNothing : Type 0 where
   pub refused : (h : List Record) (now : ℕ) (user : User) (plan : Plan) (ask : Ask) (r : Refusal) → answer_here h now user plan ask ≡ reply.Refused r → list_after h now user plan ask ≡ h
   pub repeated : (h : List Record) (now : ℕ) (user : User) (plan : Plan) (ask : Ask) (l : List Record) (r : Record) → verdict_here h (moment_of h now user ask.request) user plan ask ≡ Repeated l r → list_after h now user plan ask ≡ h
   pub looked : (h : List Record) (now : ℕ) (user : User) (plan : Plan) (ask : Ask) → put_here h (moment_of h now user ask.request) user plan ask ≡ None → list_after h now user plan ask ≡ h
+
+-- that the keeper of a list failed, or that memory was wanting
+abbrev pub is_from_outside : Refusal → Bool
+is_from_outside refusal.KeepFault = true
+is_from_outside refusal.Memory = true
+is_from_outside r = false
+
+abbrev pub tells_of_outside : Reply → Bool
+tells_of_outside (reply.Refused r) = is_from_outside r
+tells_of_outside r = false
+
+-- No answer tells of what is outside of the lists.
+pub record AnswersAreOwn : Type 0 where
+  pub own : (c : List Record) (parts : List (List Record)) (now : ℕ) (ask : Ask) → tells_of_outside (school_answer c parts now ask) ≡ false
 
 -- Where the catalogue gives the user and the plan and finds nothing missing, the answer is that over the shard's list alone.
 pub record AnsweredHere : Type 0 where

@@ -1,6 +1,6 @@
 //! What the definitions of records and answers mean.
 
-ghost use Rattle.qz_terms.specs.Laws.{AddsNothing, AnsweredHere, HighestIsHighest, NotedChangesNothing, OwnReadingsAgree, SameBoundChangesNothing, SaveKeepsTheEnd};
+ghost use Rattle.qz_terms.specs.Laws.{AddsNothing, AnsweredHere, AnswersAreOwn, HighestIsHighest, NotedChangesNothing, OwnReadingsAgree, SameBoundChangesNothing, SaveKeepsTheEnd};
 
 /// A record of a step that was the same as before changes no step, bound, state, mark, total or grade.
 pub fn noted_changes_nothing()
@@ -17,6 +17,11 @@ pub fn adds_nothing()
 /// the catalogue gives.
 pub fn answered_here()
     ensures { AnsweredHere }
+{}
+
+/// No answer is that the keeper of a list failed or that memory was wanting, whatever the lists and the request are.
+pub fn answers_are_own()
+    ensures { AnswersAreOwn }
 {}
 
 /// A job that binds the version and the max mark that are bound already changes neither the state nor the mark of
