@@ -7,7 +7,9 @@ pub mod AskingLemmas
 pub mod PlayLemmas
 pub mod KeptLemmas
 pub mod InputLemmas
+pub mod RetryLemmas
 pub mod ScriptLemmas
+pub mod StandingLemmas
 pub mod DeskLemmas
 pub mod PlainLemmas
 pub mod GiftLemmas

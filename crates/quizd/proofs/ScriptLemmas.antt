@@ -8,7 +8,7 @@ use Rattle.std.proofs.lemmas.List.{take_at}
 use Rattle.qz_outside.specs.Causes.{HasRisen}
 use Rattle.qz_outside.specs.Sources.{AppendsFront}
 use Rattle.qz_terms.specs.declared.reply.Reply.{Reply}
-use Rattle.qz_terms.specs.Serial.{Goes, Lists, Serial, ended, next, Line}
+use Rattle.qz_terms.specs.Serial.{Lists}
 use Rattle.quizd.specs.declared.script_input.Given.TheVariants as given
 use Rattle.quizd.specs.declared.script_line.ScriptLine.{ScriptLine}
 use Rattle.quizd.specs.declared.stop.Stop.{Stop}
@@ -18,7 +18,9 @@ use Rattle.quizd.specs.Endings.{Outside, status_of}
 use Rattle.quizd.specs.Inputs.{Buffer, GivesNext, NextStops, fed_parts}
 use Rattle.quizd.specs.Lines.{lines_of}
 use Rattle.quizd.specs.Replies.{reply_line}
+use Rattle.quizd.specs.Retries.{GoesOnce}
 use Rattle.quizd.specs.Scripts.{AnswersLine, AnswerStops, Answered, AreFirst, LeavesLine, Says, SayStops, ScriptCut, ScriptDone, ServeEnds, ServesAll, but_last, ended_lines}
+use Rattle.quizd.proofs.RetryLemmas.{nothing_answered, one_more_answered}
 use Rattle.quizd.proofs.PartLemmas.{glued, glued-more, parts-append, some_part}
 
 -- ---- one line
@@ -32,7 +34,7 @@ all_written : (old new : Option (List ℕ)) (bytes : List ℕ) → Appends old n
 all_written old new bytes written = record { front = bytes; rest = []; split = sym (append-nil bytes); appends = written }
 
 -- what comes of saying the reply to a line comes of the line
-pub answers : {E : Type 0} (a b : Lists) (old new : Option (List ℕ)) (before now : ℕ) (line : ScriptLine) (r : Reply) (result : Result E Stop) → Goes a b (kept_item line) r
+pub answers : {E : Type 0} (a b : Lists) (old new : Option (List ℕ)) (before now : ℕ) (line : ScriptLine) (r : Reply) (result : Result E Stop) → GoesOnce a b (kept_item line) r
     → MatchResult result (λ x. Says old new before now r) (SayStops old new before now r)
     → MatchResult result (λ x. AnswersLine a b old new before now line) (AnswerStops a b old new before now line)
 answers a b old new before now line r (Ok x) goes says = record { reply = r; goes = goes; says = says }
@@ -43,30 +45,6 @@ answers a b old new before now line r (Err (stop.Unreadable n rule)) goes says =
 answers a b old new before now line r (Err (stop.Malformed n)) goes says = absurd says
 answers a b old new before now line r (Err stop.SourceFault) goes says = absurd says
 answers a b old new before now line r (Err stop.TooLong) goes says = absurd says
-
--- ---- lines in turn
-
-serial-append : (a b c : Lists) (ls ks : List Line) (rs ts : List Reply) → Serial a ls rs b → Serial b ks ts c → Serial a (ls ++ ks) (rs ++ ts) c
-serial-append a b c ls ks rs ts (ended d) more = more
-serial-append a b c ls ks rs ts (next d m e i r is qs goes rest) more = next d m c i r (is ++ ks) (qs ++ ts) goes (serial-append m e c is ks qs ts rest more)
-
-map-more : (front : List (List ℕ)) (line : List ℕ) → map line_item (front ++ line ∷ []) ≡ map line_item front ++ line_item line ∷ []
-map-more [] line = refl
-map-more (x ∷ xs) line = ap (λ (l : List Line). line_item x ∷ l) (map-more xs line)
-
-said-more : (front : List Reply) (r : Reply) → flat_map reply_line (front ++ r ∷ []) ≡ flat_map reply_line front ++ reply_line r
-said-more [] r = append-nil (reply_line r)
-said-more (x ∷ xs) r = ap (λ (l : List ℕ). reply_line x ++ l) (said-more xs r) ∙ sym (append_assoc (reply_line x) (flat_map reply_line xs) (reply_line r))
-
-pub nothing_answered : (a : Lists) → Answered a a [] []
-nothing_answered a = record { replies = []; serial = ended a; said = refl }
-
-pub one_more_answered : (a b c : Lists) (lines : List (List ℕ)) (line output : List ℕ) (r : Reply) → Answered a b lines output → Goes b c (line_item line) r → Answered a c (lines ++ line ∷ []) (output ++ reply_line r)
-one_more_answered a b c lines line output r before goes = record {
-  replies = before.replies ++ r ∷ [];
-  serial = rw (map-more lines line) (serial-append a b c (map line_item lines) (line_item line ∷ []) before.replies (r ∷ []) before.serial (next b c c (line_item line) r [] [] goes (ended c)));
-  said = ap (λ (l : List ℕ). l ++ reply_line r) before.said ∙ sym (said-more before.replies r);
-}
 
 -- ---- the lines of what was read
 
@@ -171,7 +149,7 @@ serves_line a b c left between rest holds written wrote before during now early 
   limit_is = n.reads.limit ∙ s.limit_is;
   within = omega (arith, n.reads.count, s.count, length-append s.bytes n.bytes, n.reads.within, n.reads.limit, s.limit_is);
   parts = parts-more s.bytes old.held n.bytes s.lines s.parts ∙ (ap (λ (l : List (List ℕ)). s.lines ++ l) n.gives.parts ∙ sym (append_assoc s.lines (n.gives.front ∷ []) (fed_parts new.held)));
-  answered = one_more_answered a b c s.lines n.gives.front s.output o.reply s.answered (subst (λ (l : ScriptLine). Goes b c (kept_item l) o.reply) n.gives.line_is o.goes);
+  answered = one_more_answered a b c s.lines n.gives.front s.output o.reply s.answered (subst (λ (l : ScriptLine). GoesOnce b c (kept_item l) o.reply) n.gives.line_is o.goes);
   appends = Appends-trans holds written wrote s.output (reply_line o.reply) s.appends o.says.written;
   read_later = omega (arith, s.read_later, n.reads.later);
   written_later = omega (arith, s.written_later, o.says.later);
@@ -278,7 +256,7 @@ left_line a b c left rest holds written wrote before now early late bytes output
   after = c;
   taken = taken;
   first = first;
-  answered = one_more_answered a b c lines front output o.reply answered (subst (λ (l : ScriptLine). Goes b c (kept_item l) o.reply) line_is o.goes);
+  answered = one_more_answered a b c lines front output o.reply answered (subst (λ (l : ScriptLine). GoesOnce b c (kept_item l) o.reply) line_is o.goes);
   written = more_written holds written wrote output (reply_line o.reply) appends o.written;
 }
 
@@ -315,7 +293,7 @@ ends_at_last a b c left between rest holds written wrote before during now early
     let text = old.held ++ n.bytes in
     let parts : fed_parts (v.bytes ++ n.bytes) ≡ v.lines ++ text ∷ [] = parts-more v.bytes old.held n.bytes v.lines v.parts ∙ ap (λ (l : List (List ℕ)). v.lines ++ l) n.gives.unfed in
     let lines : lines_of (v.bytes ++ n.bytes) ≡ v.lines ++ text ∷ [] = lines_of-unended (v.bytes ++ n.bytes) text v.lines parts ∙ ap (λ (l : List (List ℕ)). v.lines ++ l) (unended-some text n.gives.some) in
-    let more : Answered a c (v.lines ++ text ∷ []) (v.output ++ reply_line o.reply) = one_more_answered a b c v.lines text v.output o.reply v.answered (subst (λ (l : ScriptLine). Goes b c (kept_item l) o.reply) n.gives.line_is o.goes) in
+    let more : Answered a c (v.lines ++ text ∷ []) (v.output ++ reply_line o.reply) = one_more_answered a b c v.lines text v.output o.reply v.answered (subst (λ (l : ScriptLine). GoesOnce b c (kept_item l) o.reply) n.gives.line_is o.goes) in
     record {
       bytes = v.bytes ++ n.bytes;
       output = v.output ++ reply_line o.reply;

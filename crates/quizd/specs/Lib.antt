@@ -9,6 +9,7 @@ pub mod Plays
 pub mod Played
 pub mod Replayed
 pub mod Endings
+pub mod Retries
 pub mod Scripts
 pub mod Plain
 pub mod ReplayEndings

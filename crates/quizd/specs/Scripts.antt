@@ -1,10 +1,11 @@
 -- How a script ends: what it has read then, which of its lines it has answered, and what it has written.
-use Rattle.std.specs.Prelude.{◌≡◌, ◌⊎◌, ℕ, ◌<◌, ◌≤◌, List, [], ◌∷◌, ◌++◌, flat_map, map, length, take, Option, Some, None}
+use Rattle.std.specs.Prelude.{◌≡◌, ◌⊎◌, ℕ, ◌<◌, ◌≤◌, true, not, List, [], ◌∷◌, ◌++◌, flat_map, map, length, take, Option, Some, None}
+use Rattle.std.specs.List.{list_all}
 use Rattle.std.specs.Io.KnownBytes.{Appends, Consumes, IsAtEnd, Keeps}
 use Rattle.qz_outside.specs.Causes.{HasRisen}
 use Rattle.qz_outside.specs.Sources.{AppendsFront}
 use Rattle.qz_terms.specs.declared.reply.Reply.{Reply}
-use Rattle.qz_terms.specs.Serial.{Goes, Lists, Serial}
+use Rattle.qz_terms.specs.Serial.{Lists, Serial}
 use Rattle.quizd.specs.declared.script_line.ScriptLine.{ScriptLine}
 use Rattle.quizd.specs.declared.stop.Stop.{Stop}
 use Rattle.quizd.specs.declared.stop.Stop.TheVariants as stop
@@ -13,6 +14,7 @@ use Rattle.quizd.specs.Endings.{Outside}
 use Rattle.quizd.specs.Inputs.{fed_parts}
 use Rattle.quizd.specs.Lines.{lines_of}
 use Rattle.quizd.specs.Replies.{reply_line}
+use Rattle.quizd.specs.Retries.{ActOnce, AllStand, GoesOnce, is_keep_fault}
 
 -- so many bytes a script has at most
 abbrev pub script_limit : ℕ
@@ -28,10 +30,14 @@ but_last (x ∷ y ∷ ys) = x ∷ but_last (y ∷ ys)
 abbrev pub ended_lines : List ℕ → List (List ℕ)
 ended_lines text = but_last (fed_parts text)
 
--- these lines are answered in turn, from the lists a to the lists b, and this is what is said
+-- These lines are answered in turn, from the lists a to the lists b, and this is what is said. No reply is that a keeper failed. What is
+-- asked again with its key is told again, and stands in the lists at the end.
 pub record Answered (a b : Lists) (lines : List (List ℕ)) (output : List ℕ) : Type 0 where
   pub replies : List Reply
   pub serial : Serial a (map line_item lines) replies b
+  pub keepers : list_all (λ r. not (is_keep_fault r)) replies ≡ true
+  pub once : ActOnce (map line_item lines) replies
+  pub stand : AllStand b (map line_item lines) replies
   pub said : output ≡ flat_map reply_line replies
 
 -- ---- how it ends
@@ -110,13 +116,13 @@ SayStops old new before now r s = ⊥
 -- a line is answered, and its reply is written
 pub record AnswersLine (a b : Lists) (old new : Option (List ℕ)) (before now : ℕ) (line : ScriptLine) : Type 0 where
   pub reply : Reply
-  pub goes : Goes a b (kept_item line) reply
+  pub goes : GoesOnce a b (kept_item line) reply
   pub says : Says old new before now reply
 
 -- it is answered, and a front of its reply is written
 pub record LeavesLine (a b : Lists) (old new : Option (List ℕ)) (line : ScriptLine) : Type 0 where
   pub reply : Reply
-  pub goes : Goes a b (kept_item line) reply
+  pub goes : GoesOnce a b (kept_item line) reply
   pub written : AppendsFront old new (reply_line reply)
 
 -- memory was wanting before it was answered, or for its reply

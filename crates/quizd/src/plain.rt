@@ -6,8 +6,8 @@ ghost use Rattle.qz_shard.specs.Holdings.{Answers, IsAsked, StartsHere, is_chang
 ghost use Rattle.qz_terms.specs.Answer.{first_refusal};
 ghost use Rattle.qz_terms.specs.Catalog.{user_of};
 ghost use Rattle.qz_terms.specs.Cause.{forbidden, missing_in};
-ghost use Rattle.qz_terms.specs.Serial.{Asks};
 ghost use Rattle.quizd.specs.Asking.{CanBeAsked};
+ghost use Rattle.quizd.specs.Retries.{IsAskedOnce};
 ghost use Rattle.quizd.specs.Plain.{HasPlan, IsRead, catalogue, one_shard, plan, plain, sky, user_by};
 
 use crate::desk::Desk;
@@ -312,7 +312,7 @@ impl Plain {
         requires found { user_of catalogue ask.now.caller ≡ Some user.now }
         requires free { first_refusal catalogue user.now ask.now.request ≡ None }
         ensures { MatchResult result
-            (Asks (one_shard catalogue self.old.shard.records) (one_shard catalogue self.new.shard.records) moment ask.now)
+            (IsAskedOnce (one_shard catalogue self.old.shard.records) (one_shard catalogue self.new.shard.records) moment ask.now)
             (λ _. self.new.shard.records ≡ self.old.shard.records) }
     {
         if !self.has_plan(user, &ask.request) {
@@ -326,7 +326,7 @@ impl Plain {
     fn answer(&mut self, alloc: Global, ask: &Ask, moment: u64) -> Result<Reply, NoMemory>
         requires { CanBeAsked ask.now moment }
         ensures { MatchResult result
-            (Asks (one_shard catalogue self.old.shard.records) (one_shard catalogue self.new.shard.records) moment ask.now)
+            (IsAskedOnce (one_shard catalogue self.old.shard.records) (one_shard catalogue self.new.shard.records) moment ask.now)
             (λ _. self.new.shard.records ≡ self.old.shard.records) }
     {
         if !is_read(&ask.request) {

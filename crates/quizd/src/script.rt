@@ -1,10 +1,10 @@
 //! Answering the lines of a script.
 
 ghost use Rattle.std.specs.Prelude.{◌≡◌, ◌<◌, ◌^◌, length, MatchResult, Some, None};
-ghost use Rattle.qz_terms.specs.Serial.{Goes};
 ghost use Rattle.quizd.specs.Asking.{kept_item};
 ghost use Rattle.quizd.specs.Endings.{Ended};
 ghost use Rattle.quizd.specs.Plain.{first_lists};
+ghost use Rattle.quizd.specs.Retries.{GoesOnce};
 ghost use Rattle.quizd.specs.Scripts.{AnswersLine, AnswerStops, Says, SayStops, ServeEnds, ServesAll, script_limit};
 
 use crate::desk::Desk;
@@ -136,7 +136,7 @@ fn answer<D: Desk, O: Sink>(
 
 /// The reply to a line.
 fn reply_to<D: Desk>(alloc: Global, desk: &mut D, line: &ScriptLine) -> Result<Reply, NoMemory>
-    ensures { MatchResult result (Goes (D.lists desk.old) (D.lists desk.new) (kept_item line.now))
+    ensures { MatchResult result (GoesOnce (D.lists desk.old) (D.lists desk.new) (kept_item line.now))
         (λ _. D.lists desk.new ≡ D.lists desk.old) }
 {
     match line.item(alloc) {

@@ -7,28 +7,9 @@ use Rattle.qz_terms.specs.Answer.{moment_of}
 use Rattle.qz_terms.specs.Cause.{Repeated, by_key, has_key, spells, verdict_here}
 use Rattle.qz_terms.specs.Legal.{new_key_by}
 use Rattle.qz_terms.specs.Lists.{first_of, up_to_first}
+use Rattle.qz_terms.proofs.Standing.{bytes-same, first-behind, up-behind}
 use Rattle.qz_shard.specs.Holdings.{IsAnsweredAgain}
 use Rattle.qz_shard.proofs.Making.{answer-repeated}
-
-or-left : (b c : Bool) → b || c ≡ false → b ≡ false
-or-left true c is = absurd cc
-or-left false c is = refl
-
-or-right : (b c : Bool) → b || c ≡ false → c ≡ false
-or-right true c is = absurd cc
-or-right false c is = is
-
-first-behind : {A : Type 0} (p : A → Bool) (l : List A) (x : A) (rest : List A) → list_any p l ≡ false → p x ≡ true → first_of (filter p (l ++ x ∷ rest)) ≡ Some x
-first-behind p [] x rest none is = rw is refl
-first-behind p (y ∷ l) x rest none is = let other : p y ≡ false = or-left (p y) (list_any p l) none in rw other (first-behind p l x rest (or-right (p y) (list_any p l) none) is)
-
-up-behind : {A : Type 0} (p : A → Bool) (l : List A) (x : A) (rest : List A) → list_any p l ≡ false → p x ≡ true → up_to_first p (l ++ x ∷ rest) ≡ l ++ x ∷ []
-up-behind p [] x rest none is = rw is refl
-up-behind p (y ∷ l) x rest none is = let other : p y ≡ false = or-left (p y) (list_any p l) none in rw other (ap (λ (t : List _). y ∷ t) (up-behind p l x rest (or-right (p y) (list_any p l) none) is))
-
-bytes-same : (xs : List ℕ) → bytes_eq xs xs ≡ true
-bytes-same [] = refl
-bytes-same (x ∷ xs) = rw (eq-eqb x x refl) (bytes-same xs)
 
 not-true : (b : Bool) → not b ≡ true → b ≡ false
 not-true true is = absurd cc

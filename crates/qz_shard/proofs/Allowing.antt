@@ -31,24 +31,13 @@ use Rattle.qz_terms.specs.History.{attempts, floor, start, time}
 use Rattle.qz_shard.specs.Holdings.{older}
 use Rattle.qz_shard.proofs.Keeping.{start-here}
 use Rattle.qz_shard.proofs.Learning.{learns-new}
-use Rattle.qz_shard.proofs.Legality.{IsFree, free-by, never-granted}
+use Rattle.qz_terms.proofs.Standing.{never-granted, none-passes, unmapped}
+use Rattle.qz_shard.proofs.Legality.{IsFree, free-by}
 
 -- ---- the moment and the key
 
 pub time-again : (h : List Record) (u now : ℕ) → time h u (time h u now) ≡ time h u now
 time-again h u now = omega arith
-
-none-passes-step : {A : Type 0} (p : A → Bool) (x : A) (xs : List A) (b : Bool) → p x ≡ b → first_of (filter p (x ∷ xs)) ≡ None → (first_of (filter p xs) ≡ None → list_any p xs ≡ false) → list_any p (x ∷ xs) ≡ false
-none-passes-step p x xs true is none rest = absurd (let found : Some x ≡ None = rw is at none in cc)
-none-passes-step p x xs false is none rest = rw is (rest (rw is at none))
-
-none-passes : {A : Type 0} (p : A → Bool) (xs : List A) → first_of (filter p xs) ≡ None → list_any p xs ≡ false
-none-passes p [] none = refl
-none-passes p (x ∷ xs) none = none-passes-step p x xs (p x) refl none (λ e. none-passes p xs e)
-
-unmapped : {A B : Type 0} (f : A → B) (o : Option A) → option_map f o ≡ None → o ≡ None
-unmapped f None e = refl
-unmapped f (Some x) e = absurd cc
 
 new-key : (h : List Record) (is_same : Record → Bool) (caller : ℕ) (key : Option (List ℕ)) → by_key is_same caller key h ≡ None → new_key_by h caller key ≡ true
 new-key h is_same caller None fresh = refl

@@ -24,6 +24,7 @@ use Rattle.qz_terms.specs.Cause.{Verdict, Granted, by_key, cause_here, denied, f
 use Rattle.qz_terms.specs.Legal.{IsAllowed, IsLegal, IsPut}
 use Rattle.qz_terms.specs.Lists.{up_to_first}
 use Rattle.qz_terms.specs.History.{next_attempt}
+use Rattle.qz_terms.proofs.Standing.{never-granted}
 
 -- ---- the lists before
 
@@ -75,18 +76,6 @@ pub event-put : (l : List Record) (r : Record) → (p : IsPut l r) → event_her
 event-put l r p = event-of r.moment p.user p.ask.key p.plan (event_here l r.moment p.user p.plan p.ask.request) r p.put
 
 -- ---- what a request that is granted tells
-
-keyless-by : (b : Bool) (l : List Record) (r : Record) → repeated_or_reused b l r ≡ Granted → ⊥
-keyless-by true l r e = absurd cc
-keyless-by false l r e = absurd cc
-
-never-granted-by : (is_same : Record → Bool) (l : List Record) (o : Option Record) → option_map (λ r. repeated_or_reused (is_same r) l r) o ≡ Some Granted → ⊥
-never-granted-by is_same l None e = absurd cc
-never-granted-by is_same l (Some r) e = keyless-by (is_same r) l r cc
-
-pub never-granted : (is_same : Record → Bool) (caller : ℕ) (key : Option (List ℕ)) (h : List Record) → by_key is_same caller key h ≡ Some Granted → ⊥
-never-granted is_same caller None h e = absurd cc
-never-granted is_same caller (Some key) h e = never-granted-by is_same (up_to_first (has_key caller key) h) _ e
 
 -- no refusal, and no kept reply
 pub record IsFree (h : List Record) (moment : ℕ) (user : User) (plan : Plan) (key : Option (List ℕ)) (x : Request) : Type 0 where

@@ -39,6 +39,7 @@ use Rattle.qz_terms.specs.Legal.{is_plan_for}
 use Rattle.qz_terms.specs.Lists.{once}
 use Rattle.qz_terms.specs.History.{next_attempt, owned_moment, slot_count, time}
 use Rattle.qz_terms.specs.History as history
+use Rattle.qz_terms.proofs.Standing.{never-granted}
 use Rattle.qz_terms.proofs.Walks.{last_told_in}
 use Rattle.qz_shard.specs.declared.decision.Decision.TheVariants as decision
 use Rattle.qz_shard.specs.Answering.{IsAnswered, IsPosed}
@@ -48,7 +49,7 @@ use Rattle.qz_shard.specs.Nexts.{IsNext}
 use Rattle.qz_shard.proofs.Allowing.{IsGranted, IsOn, acted, ask_of, ended, first-none, made_ready, on-allowed, on-step, start-allowed}
 use Rattle.qz_shard.proofs.Keeping.{All-seam, and-left, and-right}
 use Rattle.qz_shard.proofs.Learning.{learned_all}
-use Rattle.qz_shard.proofs.Legality.{free-by, legal-before, legal-push, never-granted, told_event, told-pair}
+use Rattle.qz_shard.proofs.Legality.{free-by, legal-before, legal-push, told_event, told-pair}
 
 -- ---- what is kept of a moment
 

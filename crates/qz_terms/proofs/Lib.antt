@@ -8,3 +8,4 @@ pub mod Highest
 pub mod Isolated
 pub mod Walks
 pub mod Owning
+pub mod Standing

@@ -1,6 +1,6 @@
 -- What the definitions have to mean: facts that hold of all lists.
 use Rattle.std.specs.List.{list_all}
-use Rattle.std.specs.Prelude.{◌≡◌, ℕ, Bool, true, false, List, [], ◌∷◌, ◌++◌, map, ℤ, pos, ◌≤ℤ◌, Some, None, filter, Option}
+use Rattle.std.specs.Prelude.{◌≡◌, ℕ, Bool, true, false, List, [], ◌∷◌, ◌++◌, map, ℤ, pos, ◌≤ℤ◌, is_some, Some, None, filter, Option}
 use Rattle.qz_grading.specs.declared.outcome.Behaviour.{Behaviour}
 use Rattle.qz_grading.specs.declared.question.Question.{Question}
 use Rattle.qz_grading.specs.declared.refusal.AttemptId.{AttemptId}
@@ -22,14 +22,15 @@ use Rattle.qz_terms.specs.declared.record.Event.{Event}
 use Rattle.qz_terms.specs.declared.record.Event.TheVariants as event
 use Rattle.qz_terms.specs.declared.record.Learned.{Learned}
 use Rattle.qz_terms.specs.declared.record.Record.{Record}
+use Rattle.qz_terms.specs.declared.reply.Done.{Done}
 use Rattle.qz_terms.specs.declared.reply.Reply.{Reply}
 use Rattle.qz_terms.specs.declared.reply.Reply.TheVariants as reply
 use Rattle.qz_terms.specs.declared.request.Request.{Request}
-use Rattle.qz_terms.specs.Answer.{answer, answer_here, first_refusal, list_after, moment_of, plan_for, put_here, school_answer, shard_list}
+use Rattle.qz_terms.specs.Answer.{answer, answer_here, asks_catalog, first_refusal, list_after, moment_of, plan_for, put_here, said, school_answer, shard_list}
 use Rattle.qz_terms.specs.Catalog as catalog
-use Rattle.qz_terms.specs.Cause.{Repeated, verdict_here}
+use Rattle.qz_terms.specs.Cause.{Repeated, by_key, forbidden, is_keyed, missing_here, spells, verdict_here}
 use Rattle.qz_terms.specs.History as history
-use Rattle.qz_terms.specs.Legal.{has_its_owner}
+use Rattle.qz_terms.specs.Legal.{has_its_owner, is_plan_for}
 use Rattle.qz_terms.specs.Rows.{row_of}
 
 -- A record of a step that was the same as before changes no reading of an attempt and no grade.
@@ -81,6 +82,25 @@ tells_of_outside r = false
 -- No answer tells of what is outside of the lists.
 pub record AnswersAreOwn : Type 0 where
   pub own : (c : List Record) (parts : List (List Record)) (now : ℕ) (ask : Ask) → tells_of_outside (school_answer c parts now ask) ≡ false
+
+-- ---- retries
+
+-- A request stands in a list: of the records with its caller and its key the first spells it, and nothing refuses it before its key is
+-- looked at. This was said of that record.
+pub record Stands (h : List Record) (user : User) (ask : Ask) (told : Reply) : Type 0 where
+  pub records : List Record
+  pub own : Record
+  pub may : forbidden user ask.request ≡ None
+  pub there : missing_here h user ask.request ≡ None
+  pub found : by_key (spells ask.request) user.number ask.key h ≡ Some (Repeated records own)
+  pub said : told ≡ said records own
+
+-- What is accepted with a key stands in the list from then on. Asked again, it has the reply that it had, and adds nothing.
+pub record ActsOnce : Type 0 where
+  pub stands : (h : List Record) (now : ℕ) (user : User) (plan : Plan) (ask : Ask) (place : ℕ) (d : Done) → is_keyed ask ≡ true → is_some ask.key ≡ true → asks_catalog ask.request ≡ false → is_plan_for h plan ask.request ≡ true
+      → answer_here h now user plan ask ≡ reply.Ok place d → Stands (list_after h now user plan ask) user ask (reply.Ok place d)
+  pub stays : (h rest : List Record) (user : User) (ask : Ask) (told : Reply) → Stands h user ask told → Stands (h ++ rest) user ask told
+  pub again : (h : List Record) (now : ℕ) (user : User) (plan : Plan) (ask : Ask) (told : Reply) → Stands h user ask told → (answer_here h now user plan ask ≡ told) × (list_after h now user plan ask ≡ h)
 
 -- Where the catalogue gives the user and the plan and finds nothing missing, the answer is that over the shard's list alone.
 pub record AnsweredHere : Type 0 where

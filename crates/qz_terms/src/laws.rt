@@ -1,6 +1,6 @@
 //! What the definitions of records and answers mean.
 
-ghost use Rattle.qz_terms.specs.Laws.{AddsNothing, AnsweredHere, AnswersAreOwn, HighestIsHighest, NotedChangesNothing, OwnReadingsAgree, SameBoundChangesNothing, SaveKeepsTheEnd};
+ghost use Rattle.qz_terms.specs.Laws.{ActsOnce, AddsNothing, AnsweredHere, AnswersAreOwn, HighestIsHighest, NotedChangesNothing, OwnReadingsAgree, SameBoundChangesNothing, SaveKeepsTheEnd};
 
 /// A record of a step that was the same as before changes no step, bound, state, mark, total or grade.
 pub fn noted_changes_nothing()
@@ -11,6 +11,12 @@ pub fn noted_changes_nothing()
 /// was.
 pub fn adds_nothing()
     ensures { AddsNothing }
+{}
+
+/// A request with a key that a shard accepts stands in its list from then on, whatever comes later. Asked again, it has the reply
+/// that it had, and adds nothing.
+pub fn acts_once()
+    ensures { ActsOnce }
 {}
 
 /// The answer over the catalogue and a shard is that over the shard's list alone, with the user and the plan that
