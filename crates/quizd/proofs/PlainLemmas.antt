@@ -10,8 +10,10 @@ use Rattle.qz_terms.specs.declared.record.Record.{Record}
 use Rattle.qz_terms.specs.declared.reply.Reply.{Reply}
 use Rattle.qz_terms.specs.Answer.{first_refusal, plan_for}
 use Rattle.qz_terms.specs.Catalog as catalog
-use Rattle.qz_terms.specs.Serial.{Asks}
+use Rattle.qz_terms.specs.Cause.{is_keyed}
+use Rattle.qz_terms.specs.Legal.{is_plan_for}
 use Rattle.quizd.specs.Plain.{IsRead, catalogue, one_shard, plan, user_by}
+use Rattle.quizd.specs.Retries.{IsAskedOnce}
 use Rattle.quizd.proofs.DeskLemmas.{shard_asks, wants_memory}
 
 pub one_part : catalog.shards catalogue ≡ 1
@@ -37,7 +39,7 @@ pub one_found : (who : Caller) (token text : List ℕ) (found : Option User) (us
 one_found who token text found user is same by_token some = rw is (found_by token ∙ (sym (by_token ∙ ap user_by same) ∙ some))
 
 -- what the shard answers is answered
-pub answers_ask : (h g : List Record) (now : ℕ) (ask : Ask) (user : User) (told : Reply) → IsRead ask.request → catalog.user_of catalogue ask.caller ≡ Some user → first_refusal catalogue user ask.request ≡ None → plan_for catalogue h user ask.request ≡ Some plan
-    → Answers h now user plan ask told g → Asks (one_shard catalogue h) (one_shard catalogue g) now ask told
-answers_ask h g now ask user told read found free planned (inl both) = rw (both.0, both.1) (shard_asks catalogue h now ask user plan read one_part found free planned)
-answers_ask h g now ask user told read found free planned (inr both) = rw (both.0, both.1) (wants_memory catalogue h now ask)
+pub answers_ask : (h g : List Record) (now : ℕ) (ask : Ask) (user : User) (told : Reply) → IsRead ask.request → is_keyed ask ≡ true → is_plan_for h plan ask.request ≡ true → catalog.user_of catalogue ask.caller ≡ Some user → first_refusal catalogue user ask.request ≡ None → plan_for catalogue h user ask.request ≡ Some plan
+    → Answers h now user plan ask told g → IsAskedOnce (one_shard catalogue h) (one_shard catalogue g) now ask told
+answers_ask h g now ask user told read keyed of_quiz found free planned (inl both) = rw (both.0, both.1) (shard_asks catalogue h now ask user plan read keyed of_quiz one_part found free planned)
+answers_ask h g now ask user told read keyed of_quiz found free planned (inr both) = rw (both.0, both.1) (wants_memory catalogue h now ask)

@@ -13,4 +13,4 @@ pub returns : goal.returns
 returns c =
     let planned : IsPlanned c.args.self.now.shard.records c.args.user.now c.args.ask.now.request = rw c.if-not-has_plan.false at c.has_plan.ensures.plan in
     let told = rw c.has_plan.ensures.unchanged at c.told.ensures in
-    answers_ask c.args.self.now.shard.records c.told.new.self.shard.records c.args.moment c.args.ask.now c.args.user.now c.told.result c.requires.read c.requires.found c.requires.free planned.plan_is told
+    answers_ask c.args.self.now.shard.records c.told.new.self.shard.records c.args.moment c.args.ask.now c.args.user.now c.told.result c.requires.read c.requires.asked.keyed planned.of_quiz c.requires.found c.requires.free planned.plan_is told
