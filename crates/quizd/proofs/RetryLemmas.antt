@@ -1,10 +1,7 @@
 -- Lines that are answered in turn, one more at a time.
-use Rattle.std.proofs.Common.{◌≡◌, ◌⊎◌, ℕ, zero, suc, ◌<◌, ◌≤◌, Bool, true, false, not, List, [], ◌∷◌, ◌++◌, length, map, Option, Some, None, refl, sym, ap, ◌∙◌, subst, inl, inr, append-nil, append_assoc, arith}
+use Rattle.std.proofs.Common.{◌≡◌, ◌⊎◌, ℕ, zero, suc, ◌<◌, true, false, not, List, [], ◌∷◌, ◌++◌, length, map, Some, refl, sym, ap, ◌∙◌, subst, inl, inr, append-nil, append_assoc, arith}
 use Rattle.std.specs.Prelude.{flat_map, is_some, slice_get}
-use Rattle.std.specs.List.{list_all}
 use Rattle.std.proofs.lemmas.List.Folds.{list_all-append}
-use Rattle.std.proofs.lemmas.Option.{slice_get_within}
-use Rattle.qz_grading.specs.declared.refusal.Refusal.TheVariants as refusal
 use Rattle.qz_terms.specs.declared.ask.Ask.{Ask}
 use Rattle.qz_terms.specs.declared.reply.Done.{Done}
 use Rattle.qz_terms.specs.declared.reply.Reply.{Reply}
@@ -12,7 +9,7 @@ use Rattle.qz_terms.specs.declared.reply.Reply.TheVariants as reply
 use Rattle.qz_terms.specs.Serial.{Asking, Goes, Line, Lists, Serial, Unread, ended, next}
 use Rattle.quizd.specs.Asking.{line_item}
 use Rattle.quizd.specs.Replies.{reply_line}
-use Rattle.quizd.specs.Retries.{ActOnce, AllStand, GoesOnce, IsAccepted, IsAskedOnce, IsSaidAgain, StandsIn, is_keep_fault}
+use Rattle.quizd.specs.Retries.{ActOnce, AllStand, GoesOnce, IsAccepted, IsSaidAgain, StandsIn, is_keep_fault}
 use Rattle.quizd.specs.Scripts.{Answered}
 
 -- ---- serial runs

@@ -1,6 +1,6 @@
 -- What stands in the lists of a school with one shard.
-use Rattle.std.proofs.Common.{◌≡◌, ◌⊎◌, ℕ, zero, suc, Bool, true, false, List, [], ◌∷◌, ◌++◌, Option, Some, None, refl, sym, ap, ◌∙◌, subst, inl, inr, append-nil}
-use Rattle.std.specs.Prelude.{filter_map, is_some, option_and_then, option_map, option_to_list}
+use Rattle.std.proofs.Common.{◌≡◌, ℕ, zero, suc, Bool, true, false, List, [], ◌++◌, Option, Some, None, refl, sym, ap, ◌∙◌, subst, inl, append-nil}
+use Rattle.std.specs.Prelude.{filter_map, option_and_then, option_map, option_to_list}
 use Rattle.std.proofs.lemmas.List.Elements.{filter_map-append}
 use Rattle.qz_grading.specs.declared.refusal.AttemptId.{AttemptId}
 use Rattle.qz_grading.specs.declared.refusal.Refusal.{Refusal}
@@ -9,7 +9,6 @@ use Rattle.qz_terms.specs.declared.ask.Ask.{Ask}
 use Rattle.qz_terms.specs.declared.people.User.{User}
 use Rattle.qz_terms.specs.declared.plan.Plan.{Plan}
 use Rattle.qz_terms.specs.declared.record.Record.{Record}
-use Rattle.qz_terms.specs.declared.reply.Done.{Done}
 use Rattle.qz_terms.specs.declared.reply.Reply.{Reply}
 use Rattle.qz_terms.specs.declared.reply.Reply.TheVariants as reply
 use Rattle.qz_terms.specs.declared.request.Request.{Request}
@@ -25,7 +24,7 @@ use Rattle.qz_terms.specs.Serial.{Asks, Lists, lists_of, part_list, reply_over}
 use Rattle.qz_terms.proofs.Owning.{owning_law}
 use Rattle.qz_terms.proofs.Readings.{first_of-append}
 use Rattle.qz_terms.proofs.Standing.{once_law}
-use Rattle.quizd.specs.Plain.{IsRead, one_shard}
+use Rattle.quizd.specs.Plain.{one_shard}
 use Rattle.quizd.specs.Retries.{IsAskedOnce, IsSaidAgain, StandsIn, is_keep_fault}
 
 -- ---- no keeper fails

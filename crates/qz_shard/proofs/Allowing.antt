@@ -1,7 +1,7 @@
 -- A record that a request makes may stand at the end of the list.
-use Rattle.std.proofs.Common.{◌≡◌, ℕ, ltb, leb, Bool, true, false, not, ◌||◌, List, [], ◌∷◌, Option, Some, None, length, map, refl, ap, arith, option_map, eq-eqb}
+use Rattle.std.proofs.Common.{◌≡◌, ℕ, ltb, leb, Bool, true, false, not, ◌||◌, List, [], ◌∷◌, Option, Some, None, length, map, refl, ap, arith, eq-eqb}
 use Rattle.std.specs.Prelude.{filter, is_none, if◌then◌else◌}
-use Rattle.std.specs.List.{list_all, list_any}
+use Rattle.std.specs.List.{list_all}
 use Rattle.std.proofs.lemmas.Bool.{ltb-false, le-leb}
 use Rattle.qz_grading.specs.declared.outcome.Moved.{Moved}
 use Rattle.qz_grading.specs.declared.outcome.Moved.TheVariants as moved

@@ -20,9 +20,8 @@ use Rattle.qz_terms.specs.declared.request.Request.TheVariants as request
 use Rattle.qz_grading.specs.declared.outcome.Behaviour.{Behaviour}
 use Rattle.qz_terms.specs.Answer.{acted_or_noted, event_here, record_under, is_overdue, started_by}
 use Rattle.qz_terms.specs.Access.{settled_by}
-use Rattle.qz_terms.specs.Cause.{Verdict, Granted, by_key, cause_here, denied, forbidden, has_key, missing_here, repeated_or_reused, spells}
+use Rattle.qz_terms.specs.Cause.{Verdict, Granted, by_key, cause_here, denied, forbidden, missing_here, spells}
 use Rattle.qz_terms.specs.Legal.{IsAllowed, IsLegal, IsPut}
-use Rattle.qz_terms.specs.Lists.{up_to_first}
 use Rattle.qz_terms.specs.History.{next_attempt}
 use Rattle.qz_terms.proofs.Standing.{never-granted}
 

@@ -3,7 +3,6 @@ use Rattle.std.proofs.Common.{◌≡◌, ℕ, ℤ, Bool, true, false, cond, not,
 use Rattle.std.specs.Prelude.{◌&&◌, ◌==◌, nat_le, nat_lt, option_map, option_and_then, unwrap_or}
 use Rattle.qz_grading.specs.declared.outcome.Behaviour.{Behaviour}
 use Rattle.qz_grading.specs.declared.outcome.State.{State}
-use Rattle.qz_grading.specs.declared.question.Bank.{Bank}
 use Rattle.qz_grading.specs.declared.question.Question.{Question}
 use Rattle.qz_grading.specs.declared.refusal.AttemptId.{AttemptId}
 use Rattle.qz_grading.specs.declared.refusal.Refusal.{Refusal}
@@ -29,9 +28,9 @@ use Rattle.qz_terms.specs.declared.request.Request.TheVariants as request
 use Rattle.qz_terms.specs.declared.request.Whom.{Whom}
 use Rattle.qz_terms.specs.declared.request.Whom.TheVariants as whom
 use Rattle.qz_terms.specs.Access.{answer_cause, closed_at, finish_cause, if_set, is_past, late, start_cause}
-use Rattle.qz_terms.specs.Answer.{answer_by, answer_here, asks_catalog, catalog_answer, catalog_verdict, done_place, job_answer, looked, looked_by, looked_in_by, moment_of, named_user, part_at, part_of, plan_for, put_by_job, put_here, put_in, record_in, reply_to, said_of_put, school_answer, school_answer_by, shard_answer, user_answer, work_answer}
+use Rattle.qz_terms.specs.Answer.{answer_by, answer_here, asks_catalog, catalog_answer, catalog_verdict, done_place, job_answer, looked, looked_by, looked_in_by, moment_of, named_user, part_at, part_of, plan_for, put_by_job, put_here, put_in, record_in, reply_to, said_of_put, school_answer_by, shard_answer, user_answer, work_answer}
 use Rattle.qz_terms.specs.Catalog as catalog
-use Rattle.qz_terms.specs.Cause.{Denied, Granted, Repeated, Verdict, answering_cause, by_key, cause_here, cause_in, change_cause, denied, forbidden, import_cause, missing_here, missing_in, missing_slot, missing_whom, refusal_shown, repeated_or_reused, slot_cause, time_cause, verdict_here, verdict_in}
+use Rattle.qz_terms.specs.Cause.{Denied, Granted, Repeated, Verdict, answering_cause, by_key, cause_here, cause_in, change_cause, denied, forbidden, missing_here, missing_in, missing_slot, missing_whom, refusal_shown, repeated_or_reused, slot_cause, verdict_here, verdict_in}
 use Rattle.qz_terms.specs.History.{Slot, Start}
 use Rattle.qz_terms.specs.History as history
 use Rattle.qz_terms.specs.Laws.{AnswersAreOwn, is_from_outside, tells_of_outside}
