@@ -34,3 +34,5 @@ pub mod ReadBackWeights
 pub mod ReadBackWeighed
 pub mod ReadBackAnswers
 pub mod ReadBackChoices
+pub mod ReadBackArrows
+pub mod ReadBackShort

@@ -63,7 +63,7 @@ occurs-behind here (x ∷ xs) m ys holds = rw (occurs-behind here xs m ys holds)
     go true = refl
     go false = refl
 
-and-false : (b : Bool) → (b && false) ≡ false
+pub and-false : (b : Bool) → (b && false) ≡ false
 and-false true = refl
 and-false false = refl
 

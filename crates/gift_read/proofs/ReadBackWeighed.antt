@@ -113,6 +113,9 @@ low-other : (d : ℕ) → (d < 37) ⊎ (57 < d) → (c : ℕ) → is_low c ≡ t
 low-other d (inl less) c low = let range = low-range c low in rw (ne_eqb c d (λ e. omega (arith, range.from))) refl
 low-other d (inr more) c low = let range = low-range c low in rw (ne_eqb c d (λ e. omega (arith, range.to))) refl
 
+pub weight-greater : (w : ℤ) → is_weight w ≡ true → list_all (λ c. not (c == 62)) (short_number 5 w) ≡ true
+weight-greater w is = list_all-implies is_inner (λ c. not (c == 62)) (λ c inner. low-other 62 (inr (omega arith)) c (inner-low c inner)) (short_number 5 w) (number-inner w is)
+
 weight-low : (w : ℤ) → is_weight w ≡ true → list_all is_low (weight_text w) ≡ true
 weight-low w is =
     list_all-append is_low (short_number 5 w) (37 ∷ [])
@@ -181,7 +184,7 @@ passes-percent (c ∷ cs) inner =
     let from = and_parts (nat_le 45 c) (nat_le c 57) parts.0 in
     passes-cons (is_at landmark.Percent) (Plain c) (map Plain cs) (λ ys. rw (ne_eqb c 37 (λ e. omega (arith, leb-true 45 c from.0))) refl) (passes-percent cs parts.1)
 
-weight-split : (w : ℤ) (rest : Marks) → weight_marks_of w ++ rest ≡ Plain 37 ∷ (map Plain (short_number 5 w) ++ (Plain 37 ∷ rest))
+pub weight-split : (w : ℤ) (rest : Marks) → weight_marks_of w ++ rest ≡ Plain 37 ∷ (map Plain (short_number 5 w) ++ (Plain 37 ∷ rest))
 weight-split w rest =
     ap (λ (t : Marks). Plain 37 ∷ (t ++ rest)) (map-append Plain (short_number 5 w) (37 ∷ []))
     ∙ ap (λ (t : Marks). Plain 37 ∷ t) (append_assoc (map Plain (short_number 5 w)) (Plain 37 ∷ []) rest)
