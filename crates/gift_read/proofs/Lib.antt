@@ -36,3 +36,7 @@ pub mod ReadBackAnswers
 pub mod ReadBackChoices
 pub mod ReadBackArrows
 pub mod ReadBackShort
+pub mod ReadBackRanges
+pub mod ReadBackDecimals
+pub mod ReadBackExtents
+pub mod ReadBackNumerical

@@ -2,8 +2,8 @@
 
 ghost use Rattle.gift_read.specs.Written.{ReadsBack};
 
-/// The canonical text of a bank of written questions is read as that bank, with its categories. `IsWritten` says what a
-/// written question is; the kinds that it takes so far are those of `IsKind`.
+/// The canonical text of a bank of written questions, of every kind, is read as that bank, with its categories. `IsWritten`
+/// says what a written question is.
 pub fn reads_back()
     ensures { ReadsBack }
 {}
