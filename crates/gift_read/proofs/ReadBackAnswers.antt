@@ -1,5 +1,5 @@
 -- Pieces with a weight, an answer and a feedback, read back.
-use Rattle.std.proofs.Common.{◌≡◌, ◌≢◌, ℕ, Bool, true, false, cond, not, ◌&&◌, ◌||◌, ◌==◌, List, [], ◌∷◌, ◌++◌, map, drop, length, encode_utf8_all, Option, unwrap_or, refl, sym, ap, ◌∙◌, append_assoc, append-nil, codes, arith, lit<, ℤ, pos, ◌⊎◌, inl, inr}
+use Rattle.std.proofs.Common.{◌≡◌, ◌≢◌, ℕ, Bool, true, false, cond, not, ◌&&◌, ◌==◌, List, [], ◌∷◌, ◌++◌, map, drop, length, encode_utf8_all, Option, unwrap_or, refl, sym, ap, ◌∙◌, append_assoc, append-nil, codes, arith, lit<, ℤ, pos, ◌⊎◌, inl, inr}
 use Rattle.std.specs.Char.{encode_utf8}
 use Rattle.std.specs.List.{list_all}
 use Rattle.std.specs.Option.{is_none}

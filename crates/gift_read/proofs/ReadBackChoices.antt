@@ -21,7 +21,7 @@ use Rattle.gift_read.specs.Texts.{rich_of}
 use Rattle.gift_read.specs.Parts as parts
 use Rattle.gift_read.specs.Parts.{Part, sort_in}
 use Rattle.gift_read.specs.Values.{own_weight, question_with, choice_of, kind_in}
-use Rattle.gift_read.specs.Faults.{is_matching, has_blank_number, has_no_number, number_pieces, is_misweighed, weighed_pieces, has_stray_arrow, has_stray_feedback}
+use Rattle.gift_read.specs.Faults.{is_misweighed}
 use Rattle.gift_read.specs.Written.{IsChoice, Each}
 use Rattle.gift_read.proofs.ReadBackPlaces.{passes-plain, passes-occurs}
 use Rattle.gift_read.proofs.ReadBackRich.{rich_characters, rich_marks, rich_marks-plain, rich_marks-ink, rich_marks-some, rich_of-rich}
@@ -32,7 +32,7 @@ use Rattle.gift_read.proofs.ReadBackWriting.{Writes-rich}
 use Rattle.gift_read.proofs.ReadBackPieces
 use Rattle.gift_read.proofs.ReadBackPieces.{parts_marks, spaced, from_first, gap, EachPasses, IsPieceLine, ReadsPiece}
 use Rattle.gift_read.proofs.ReadBackKinds.{IsFramed, Writes-opening}
-use Rattle.gift_read.proofs.ReadBackLayout.{Known, known, flat_map-known, item_lines, reads-pieces, asks-items, faultless-pieces}
+use Rattle.gift_read.proofs.ReadBackLayout.{Known, known, flat_map-known, reads-pieces, asks-items, faultless-pieces}
 use Rattle.gift_read.proofs.ReadBackAnswers as answers
 use Rattle.gift_read.proofs.ReadBackAnswers.{IsSign, sign-other, plain-uncut, Answered, IsAnswered, text_of_piece, characters_of_piece, piece-line, reads-built, reads-weighed, piece-passes, is_piece, choice-part, choice-gap, no_percent, needless-own, text_some}
 

@@ -1,12 +1,12 @@
 -- The numbers of a numerical answer are read as they are written.
-use Rattle.std.proofs.Common.{◌≡◌, ◌≢◌, ℕ, suc, ◌+◌, ◌/◌, ◌%◌, ◌^◌, ◌<◌, ◌≤◌, Bool, true, false, cond, not, ◌==◌, ◌&&◌, List, [], ◌∷◌, ◌++◌, map, drop, length, encode_utf8_all, Option, Some, None, refl, sym, ap, ◌∙◌, append_assoc, append-nil, arith, codes, inr, ℤ, pos, negsuc, int_le}
+use Rattle.std.proofs.Common.{◌≡◌, ◌≢◌, ℕ, suc, ◌/◌, ◌%◌, ◌^◌, ◌<◌, Bool, true, false, cond, not, ◌==◌, ◌&&◌, List, [], ◌∷◌, ◌++◌, map, length, encode_utf8_all, Some, refl, sym, ap, ◌∙◌, append_assoc, append-nil, arith, codes, inr, ℤ, pos, negsuc, int_le}
 use Rattle.std.specs.Char.{is_ascii_digit}
 use Rattle.std.specs.Fmt.{decimal}
 use Rattle.std.specs.List.{list_all}
 use Rattle.std.specs.Ordering.{int_eq}
 use Rattle.std.specs.Prelude.{bytes_eq}
 use Rattle.std.specs.Str.{all_ascii_digits}
-use Rattle.std.proofs.lemmas.Bool.{and_parts, and_from, not-true, eqb-true, ne_eqb}
+use Rattle.std.proofs.lemmas.Bool.{and_parts, and_from, eqb-true, ne_eqb}
 use Rattle.std.proofs.lemmas.Bool.Decides.{Decides-int_eq, nat_tests}
 use Rattle.std.proofs.lemmas.Fmt.{digits_decimal}
 use Rattle.std.proofs.lemmas.List.{map-append}
@@ -22,8 +22,8 @@ use Rattle.qz_grading.specs.Canonical.{behind_point, short_natural, decimal_text
 use Rattle.qz_grading.specs.Grading as grading
 use Rattle.qz_grading.specs.Questions.{is_short_number, is_extent}
 use Rattle.gift_read.specs.declared.places.Landmark.TheVariants as landmark
-use Rattle.gift_read.specs.Places.{Marks, character, is_space, is_at, is_blank, occurs, before, from, trimmed}
-use Rattle.gift_read.specs.Texts.{spelled, spells}
+use Rattle.gift_read.specs.Places.{Marks, character, is_at, is_blank, trimmed}
+use Rattle.gift_read.specs.Texts.{spells}
 use Rattle.gift_read.specs.Values.{number_of, extent_of}
 use Rattle.gift_read.specs.Written as written
 use Rattle.gift_read.proofs.ReadBackPlaces.{Passes, passes-nil, passes-cons, passes-append, passes-occurs, found-occurs, found-before, found-from, begins_ink, ends_ink, trimmed-ink}

@@ -1,15 +1,13 @@
 -- Matching questions, read back.
-use Rattle.std.proofs.Common.{◌≡◌, ◌≢◌, ℕ, Bool, true, false, cond, not, ◌&&◌, ◌||◌, ◌==◌, List, [], ◌∷◌, ◌++◌, map, flat_map, length, encode_utf8_all, refl, sym, ap, ◌∙◌, append_assoc, append-nil, codes, subst, nat_lt, arith}
+use Rattle.std.proofs.Common.{◌≡◌, ◌≢◌, ℕ, Bool, true, false, not, ◌||◌, ◌==◌, List, [], ◌∷◌, ◌++◌, map, length, encode_utf8_all, refl, sym, ap, ◌∙◌, append_assoc, append-nil, codes, nat_lt, arith}
 use Rattle.std.specs.Char.{encode_utf8}
 use Rattle.std.specs.Str.{chars}
-use Rattle.std.proofs.lemmas.Bool.{or_parts, le-ltb}
+use Rattle.std.proofs.lemmas.Bool.{le-ltb}
 use Rattle.std.proofs.lemmas.List.{map-append}
 use Rattle.std.proofs.lemmas.List.Folds.{list_all-append}
 use Rattle.std.proofs.lemmas.Str.{encodes-chars}
 use Rattle.gift_lex.specs.declared.block.Piece.TheVariants.{Sign, Plain}
-use Rattle.gift_lex.specs.Blocks as lex
 use Rattle.qz_grading.specs.declared.question.Format.{Format}
-use Rattle.qz_grading.specs.declared.question.Format.TheVariants as format
 use Rattle.qz_grading.specs.declared.question.Kind.TheVariants as kind
 use Rattle.qz_grading.specs.declared.question.Pair.{Pair}
 use Rattle.qz_grading.specs.declared.question.Rich.{Rich}
@@ -18,18 +16,17 @@ use Rattle.qz_grading.specs.Canonical.{format_mark, escaped, rich_text, pair_pie
 use Rattle.qz_grading.specs.Questions as sound
 use Rattle.gift_read.specs.declared.places.Landmark.TheVariants as landmark
 use Rattle.gift_read.specs.declared.parts.Sort.TheVariants as sort
-use Rattle.gift_read.specs.Places.{Marks, character, is_at, is_blank, signs_at, before, occurs, trimmed}
+use Rattle.gift_read.specs.Places.{Marks, character, is_at, is_blank, signs_at, before, occurs}
 use Rattle.gift_read.specs.Texts.{spelled, text_of, rich_of}
 use Rattle.gift_read.specs.Parts.{Part, sort_in}
 use Rattle.gift_read.specs.Values.{question_with, pair_of}
 use Rattle.gift_read.specs.Written as written
 use Rattle.gift_read.specs.Written.{IsText, IsRich, IsPair, Each, has_arrow}
-use Rattle.gift_read.proofs.ReadBackPlaces.{Passes, passes-nil, passes-cons, passes-append, passes-plain, passes-occurs, found-before, found-from, found-occurs, are_plain, ends_ink, trimmed-around}
+use Rattle.gift_read.proofs.ReadBackPlaces.{Passes, passes-cons, passes-plain, passes-occurs, found-before, found-from, found-occurs, are_plain, ends_ink, trimmed-around}
 use Rattle.gift_read.proofs.ReadBackMarks.{text_marks-characters, text_marks-plain}
-use Rattle.gift_read.proofs.ReadBackRich.{marks_of_text, is_marked, rich_characters, written_characters, rich_marks, rich_marks-plain, rich_of-around, spelled-own}
+use Rattle.gift_read.proofs.ReadBackRich.{marks_of_text, rich_characters, written_characters, rich_marks, rich_marks-plain, rich_of-around, spelled-own}
 use Rattle.gift_read.proofs.ReadBackArrows.{passes-arrow, rich-arrow}
 use Rattle.gift_read.proofs.ReadBackTruth.{sort_by}
-use Rattle.gift_read.proofs.ReadBackParts.{gap_before}
 use Rattle.gift_read.proofs.ReadBackTold.{IsFaultless}
 use Rattle.gift_read.proofs.ReadBackBank.{IsQuestionText}
 use Rattle.gift_read.proofs.ReadBackWriting.{Writes, Writes-append, Writes-ascii, Writes-rich, Writes-text}

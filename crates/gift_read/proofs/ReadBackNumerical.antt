@@ -1,5 +1,5 @@
 -- Numerical questions, read back.
-use Rattle.std.proofs.Common.{◌≡◌, ◌≢◌, ℕ, Bool, true, false, not, ◌&&◌, ◌||◌, List, [], ◌∷◌, ◌++◌, map, drop, unwrap_or, refl, sym, ap, ◌∙◌, append-nil, codes, arith, inl, ℤ, pos}
+use Rattle.std.proofs.Common.{◌≡◌, ℕ, Bool, true, false, not, ◌&&◌, List, [], ◌∷◌, ◌++◌, map, unwrap_or, refl, ap, ◌∙◌, append-nil, codes, arith, inl, ℤ, pos}
 use Rattle.std.specs.Char.{encode_utf8}
 use Rattle.std.specs.List.{list_any}
 use Rattle.std.specs.Option.{is_none}
@@ -18,10 +18,10 @@ use Rattle.qz_grading.specs.Canonical.{begins_with, is_nothing, extent_text, num
 use Rattle.qz_grading.specs.Questions as sound
 use Rattle.gift_read.specs.declared.places.Landmark.TheVariants as landmark
 use Rattle.gift_read.specs.declared.parts.Sort.TheVariants as sort
-use Rattle.gift_read.specs.Places.{Marks, is_sign, begins_choice, signs_at, is_at, is_blank, occurs, before}
+use Rattle.gift_read.specs.Places.{Marks, is_sign, is_at, is_blank, occurs}
 use Rattle.gift_read.specs.Parts as parts
 use Rattle.gift_read.specs.Parts.{Part, pieces_of}
-use Rattle.gift_read.specs.Values.{question_with, extent_of, num_of, other_of, others}
+use Rattle.gift_read.specs.Values.{question_with, extent_of, num_of, other_of}
 use Rattle.gift_read.specs.Faults.{has_blank_number, has_no_number, is_misweighed}
 use Rattle.gift_read.specs.Written.{IsNumber, Each}
 use Rattle.gift_read.proofs.ReadBackPlaces.{Passes, passes-nil, passes-cons, passes-plain, passes-occurs, passes-before, passes-from}

@@ -6,7 +6,6 @@ use Rattle.std.proofs.lemmas.Bool.{and_parts, and_from, ne_eqb, leb-true, le-leb
 use Rattle.std.proofs.lemmas.Str.{encode_ascii}
 use Rattle.gift_lex.specs.declared.block.Piece.TheVariants.{Plain}
 use Rattle.gift_lex.specs.Blocks.{single}
-use Rattle.gift_read.specs.Places.{character}
 use Rattle.gift_read.proofs.ReadBackWriting.{Writes, Writes-ascii, scalars-all}
 
 abbrev pub is_within : ℕ → ℕ → ℕ → Bool

@@ -1,5 +1,5 @@
 -- Short answers, read back.
-use Rattle.std.proofs.Common.{◌≡◌, ℕ, Bool, true, false, not, ◌&&◌, List, [], ◌∷◌, ◌++◌, map, refl, sym, ap, ◌∙◌, append-nil, append_assoc, codes, arith, inl, ℤ, pos}
+use Rattle.std.proofs.Common.{◌≡◌, ℕ, Bool, true, false, not, ◌&&◌, List, [], ◌∷◌, ◌++◌, map, refl, ap, ◌∙◌, append-nil, codes, arith, inl, ℤ, pos}
 use Rattle.std.specs.List.{list_any}
 use Rattle.std.specs.Ordering.{int_eq}
 use Rattle.std.specs.Str.{chars}
@@ -14,7 +14,7 @@ use Rattle.qz_grading.specs.Canonical.{begins_with, is_nothing, escaped, short_p
 use Rattle.qz_grading.specs.Questions as sound
 use Rattle.gift_read.specs.declared.places.Landmark.TheVariants as landmark
 use Rattle.gift_read.specs.declared.parts.Sort.TheVariants as sort
-use Rattle.gift_read.specs.Places.{Marks, character, is_at, before, occurs}
+use Rattle.gift_read.specs.Places.{Marks, is_at, before, occurs}
 use Rattle.gift_read.specs.Texts.{text_of}
 use Rattle.gift_read.specs.Parts.{Part, sort_in}
 use Rattle.gift_read.specs.Values.{question_with, short_of}

@@ -1,19 +1,16 @@
 -- Answers with a weight before them, read back.
-use Rattle.std.proofs.Common.{◌≡◌, ℕ, suc, ◌+◌, ◌/◌, ◌%◌, ◌^◌, ◌<◌, ◌≤◌, Bool, true, false, cond, not, ◌==◌, ◌&&◌, nat_lt, nat_le, List, [], ◌∷◌, ◌++◌, map, length, take, drop, encode_utf8_all, Some, refl, sym, ap, ◌∙◌, append_assoc, arith, ℤ, pos, negsuc, codes, ◌⊎◌, inl, inr}
+use Rattle.std.proofs.Common.{◌≡◌, ℕ, suc, ◌+◌, ◌/◌, ◌%◌, ◌^◌, ◌<◌, ◌≤◌, Bool, true, false, cond, not, ◌==◌, ◌&&◌, nat_lt, nat_le, List, [], ◌∷◌, ◌++◌, map, length, take, drop, encode_utf8_all, Some, refl, sym, ap, ◌∙◌, append_assoc, arith, ℤ, pos, negsuc, codes, inl, inr}
 use Rattle.std.specs.Char.{is_ascii_digit}
 use Rattle.std.specs.Fmt.{decimal}
 use Rattle.std.specs.List.{list_all}
 use Rattle.std.specs.Str.{all_ascii_digits}
-use lib.Utf8.{scalar}
 use Rattle.std.proofs.lemmas.Bool.{and_parts, and_from, not-true, ne_eqb, leb-true, lt-ltb}
 use Rattle.std.proofs.lemmas.Bool.Decides.{nat_tests}
 use Rattle.std.proofs.lemmas.Int.{ints}
 use Rattle.std.proofs.lemmas.Fmt.{digits_decimal, decimal_nonempty}
 use Rattle.std.proofs.lemmas.List.{map-append, length-append, length-map, take_at, drop_at}
 use Rattle.std.proofs.lemmas.List.Folds.{list_all-append}
-use Rattle.std.proofs.lemmas.Str.{encode_ascii}
 use Rattle.gift_lex.specs.declared.block.Piece.TheVariants.{Plain}
-use Rattle.gift_lex.specs.Blocks.{single}
 use Rattle.qz_decimal.specs.Numbers.{one}
 use Rattle.qz_decimal.specs.Percent.{weight_in}
 use Rattle.qz_decimal.proofs.Weights.{weight-found}
