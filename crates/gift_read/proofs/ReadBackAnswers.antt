@@ -54,7 +54,7 @@ uncut-sign s (Sign c) other uncut = rw (eqb-true c 58 uncut) other
 uncut-sign s (Escaped c) other uncut = refl
 uncut-sign s (Plain c) other uncut = refl
 
-pub passes-uncut : (s : ℕ) (ss : List ℕ) (xs : Marks) → (58 == s) ≡ false → are_uncut xs ≡ true → Passes (signs_at (s ∷ ss)) xs
+passes-uncut : (s : ℕ) (ss : List ℕ) (xs : Marks) → (58 == s) ≡ false → are_uncut xs ≡ true → Passes (signs_at (s ∷ ss)) xs
 passes-uncut s ss [] other uncut = passes-nil (signs_at (s ∷ ss))
 passes-uncut s ss (m ∷ xs) other uncut =
     let parts = and_parts (is_uncut m) (are_uncut xs) uncut in

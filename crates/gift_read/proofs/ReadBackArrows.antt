@@ -15,7 +15,7 @@ use Rattle.gift_read.specs.declared.places.Landmark.TheVariants as landmark
 use Rattle.gift_read.specs.Places.{Marks, character, is_at, occurs}
 use Rattle.gift_read.specs.Written.{has_arrow}
 use Rattle.gift_read.proofs.ReadBackPlaces.{Passes, passes-nil, passes-cons, and-false}
-use Rattle.gift_read.proofs.ReadBackMarks.{text_marks-characters}
+use Rattle.gift_read.proofs.ReadBackMarks.{text_marks-characters, single-characters}
 use Rattle.gift_read.proofs.ReadBackRich.{marks_of_text, is_marked, rich_marks}
 
 pub occurs-arrow : (marks : Marks) → occurs (is_at landmark.Arrow) marks ≡ has_arrow (map character marks)
@@ -56,18 +56,11 @@ mark_arrow format.Plain (c ∷ cs) = refl
 mark_arrow format.Markdown [] = refl
 mark_arrow format.Markdown (c ∷ cs) = refl
 
-single-characters : (f : Format) (b : Bool) → map character (map lex.single (cond b (format_mark f) [])) ≡ cond b (format_mark f) []
-single-characters f false = refl
-single-characters format.Moodle true = refl
-single-characters format.Html true = refl
-single-characters format.Plain true = refl
-single-characters format.Markdown true = refl
-
 pub rich-arrow : (f : Format) (r : Rich) → has_arrow (chars r.text) ≡ false → occurs (is_at landmark.Arrow) (rich_marks f r) ≡ false
 rich-arrow f r none =
     occurs-arrow (rich_marks f r)
     ∙ ap has_arrow (map-append character (map lex.single (cond (is_marked f r) (format_mark r.format) [])) (marks_of_text r.text))
-    ∙ ap (λ (t : List ℕ). has_arrow (t ++ map character (marks_of_text r.text))) (single-characters r.format (is_marked f r))
+    ∙ ap (λ (t : List ℕ). has_arrow (t ++ map character (marks_of_text r.text))) (single-characters (cond (is_marked f r) (format_mark r.format) []))
     ∙ ap (λ (t : List ℕ). has_arrow (cond (is_marked f r) (format_mark r.format) [] ++ t)) (text_marks-characters (chars r.text))
     ∙ go (is_marked f r)
   where

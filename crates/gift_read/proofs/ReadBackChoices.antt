@@ -103,9 +103,6 @@ abbrev with_signs : List Choice → List Signed
 with_signs [] = []
 with_signs (c ∷ cs) = cond (int_eq c.weight (pos one)) ((61, c) ∷ with_tilde cs) ((126, c) ∷ with_signs cs)
 
-choices_of : List Signed → List Choice
-choices_of ts = map (λ (t : Signed). t.1) ts
-
 tilde-each : (f : Format) (cs : List Choice) → Each (IsChoice f) cs → Each (IsSigned f) (with_tilde cs)
 tilde-each f [] each = tt
 tilde-each f (c ∷ cs) each = (record { sign = inr refl; choice = each.0 }, tilde-each f cs each.1)

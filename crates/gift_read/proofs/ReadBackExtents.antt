@@ -13,7 +13,6 @@ use Rattle.std.proofs.lemmas.List.{map-append}
 use Rattle.std.proofs.lemmas.List.Folds.{list_all-append}
 use Rattle.std.proofs.lemmas.Slice.Eq.{bytes_eq-Decides}
 use Rattle.gift_lex.specs.declared.block.Piece.TheVariants.{Sign, Plain}
-use Rattle.gift_lex.specs.Blocks as lex
 use Rattle.gift_lex.specs.Blocks.{single}
 use Rattle.qz_decimal.specs.Decimals.{decimal_in}
 use Rattle.qz_grading.specs.declared.question.Extent.{Extent}
@@ -22,11 +21,12 @@ use Rattle.qz_grading.specs.Canonical.{behind_point, short_natural, decimal_text
 use Rattle.qz_grading.specs.Grading as grading
 use Rattle.qz_grading.specs.Questions.{is_short_number, is_extent}
 use Rattle.gift_read.specs.declared.places.Landmark.TheVariants as landmark
-use Rattle.gift_read.specs.Places.{Marks, character, is_at, is_blank, trimmed}
+use Rattle.gift_read.specs.Places.{Marks, is_at, is_blank, trimmed}
 use Rattle.gift_read.specs.Texts.{spells}
 use Rattle.gift_read.specs.Values.{number_of, extent_of}
 use Rattle.gift_read.specs.Written as written
 use Rattle.gift_read.proofs.ReadBackPlaces.{Passes, passes-nil, passes-cons, passes-append, passes-occurs, found-occurs, found-before, found-from, begins_ink, ends_ink, trimmed-ink}
+use Rattle.gift_read.proofs.ReadBackMarks.{single-character, single-characters}
 use Rattle.gift_read.proofs.ReadBackWriting.{Writes}
 use Rattle.gift_read.proofs.ReadBackRanges.{is_within, IsRange, within-range, within-wider, within-other, within-bytes, Writes-within, plain-single, within-plain}
 use Rattle.gift_read.proofs.ReadBackWeights.{numerals, IsSized, places, is_places}
@@ -152,17 +152,6 @@ extent_some (extent.Between low high) is none =
     front_some (decimal_text low) (codes ".." ++ decimal_text high) (is_figured low (between-parts low high is).low_is).some (sym (append_assoc (decimal_text low) (codes "..") (decimal_text high)) ∙ none)
 
 -- ---- marks of such characters
-
-single-character : (c : ℕ) → character (single c) ≡ c
-single-character c = go (lex.is_sign c)
-  where
-    go : (b : Bool) → character (cond b (Sign c) (Plain c)) ≡ c
-    go true = refl
-    go false = refl
-
-pub single-characters : (cs : List ℕ) → map character (map single cs) ≡ cs
-single-characters [] = refl
-single-characters (c ∷ cs) = rw (single-character c, single-characters cs) refl
 
 single-uncut : (c : ℕ) → IsRange 42 58 c → is_uncut (single c) ≡ true
 single-uncut c range = go (c == 58) refl

@@ -55,12 +55,12 @@ abbrev pub before_general : Marks → List Line → Bool → Marks
 before_general extra ls none = extra ++ (joined_marks ls ++ gap_before none)
 
 -- and what is read of it
-pub record ReadsAnswers (f : Format) (extra : Marks) (ls : List Line) (none : Bool) (a : Marks) (s : Sort) (k : Kind) : Type 0 where
-  pub no_hashes : occurs (is_at landmark.Hashes) (before_general extra ls none) ≡ false
-  pub closed : Passes (is_at landmark.Closing) (before_general extra ls none)
-  pub left : trimmed (before_general extra ls none) ≡ a
-  pub sort : sort_in a ≡ s
-  pub kind : kind_in f a s ≡ k
+record ReadsAnswers (f : Format) (extra : Marks) (ls : List Line) (none : Bool) (a : Marks) (s : Sort) (k : Kind) : Type 0 where
+  no_hashes : occurs (is_at landmark.Hashes) (before_general extra ls none) ≡ false
+  closed : Passes (is_at landmark.Closing) (before_general extra ls none)
+  left : trimmed (before_general extra ls none) ≡ a
+  sort : sort_in a ≡ s
+  kind : kind_in f a s ≡ k
 
 general_read : (f : Format) (general : Rich) (none : Bool) → IsRich f general → is_nothing general.text ≡ none → rich_of f (cond none [] (rich_marks f general ++ (Plain 10 ∷ []))) ≡ general
 general_read f general true is e = rich_of-nothing f general is (no_text general e)
@@ -69,7 +69,7 @@ general_read f general false is e = rich_of-around f general [] (Plain 10 ∷ []
 plain-behind : (marks : Marks) → are_plain marks ≡ true → are_plain (marks ++ (Plain 10 ∷ [])) ≡ true
 plain-behind marks plain = list_all-append _ marks (Plain 10 ∷ []) ∙ rw plain refl
 
-pub asks-lines : (name : List ℕ) (r general : Rich) (k : Kind) (opening text : List ℕ) (extra : Marks) (ls : List Line) (a : Marks) (s : Sort) → IsFramed name r general k
+asks-lines : (name : List ℕ) (r general : Rich) (k : Kind) (opening text : List ℕ) (extra : Marks) (ls : List Line) (a : Marks) (s : Sort) → IsFramed name r general k
     → answer_part k r.format general ≡ (opening ++ 10 ∷ []) ++ text ++ general_line r.format general ++ 125 ∷ []
     → Writes opening opening (Sign 123 ∷ extra) → AreWritten text ls → ReadsAnswers r.format extra ls (is_nothing general.text) a s k → IsFaultless (question_with name r general k) s a
     → IsQuestionText (question_with name r general k)

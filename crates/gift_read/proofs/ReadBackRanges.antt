@@ -18,10 +18,10 @@ pub record IsRange (low high c : ℕ) : Type 0 where
 pub within-range : (low high c : ℕ) → is_within low high c ≡ true → IsRange low high c
 within-range low high c is = let parts = and_parts (nat_le low c) (nat_le c high) is in record { from = leb-true low c parts.0; to = leb-true c high parts.1 }
 
-pub range-within : (low high c : ℕ) → low ≤ c → c ≤ high → is_within low high c ≡ true
+range-within : (low high c : ℕ) → low ≤ c → c ≤ high → is_within low high c ≡ true
 range-within low high c from to = and_from (nat_le low c) (nat_le c high) (le-leb low c from) (le-leb c high to)
 
-pub list_all-implies : (p q : ℕ → Bool) → ((c : ℕ) → p c ≡ true → q c ≡ true) → (cs : List ℕ) → list_all p cs ≡ true → list_all q cs ≡ true
+list_all-implies : (p q : ℕ → Bool) → ((c : ℕ) → p c ≡ true → q c ≡ true) → (cs : List ℕ) → list_all p cs ≡ true → list_all q cs ≡ true
 list_all-implies p q implies [] all = refl
 list_all-implies p q implies (c ∷ cs) all =
     let parts = and_parts (p c) (list_all p cs) all in and_from (q c) (list_all q cs) (implies c parts.0) (list_all-implies p q implies cs parts.1)

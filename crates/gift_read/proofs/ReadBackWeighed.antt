@@ -33,7 +33,7 @@ weight-bound n is = leb-true n one is
 weight-bound_negative : (n : ℕ) → is_weight (negsuc n) ≡ true → suc n ≤ one
 weight-bound_negative n is = let parts = and_parts (nat_le n 9999999) true is in let le : n ≤ 9999999 = leb-true n 9999999 parts.0 in omega arith
 
-pub weight-told : (w : ℤ) → is_weight w ≡ true → weight_in (weight_text w) ≡ Some w
+weight-told : (w : ℤ) → is_weight w ≡ true → weight_in (weight_text w) ≡ Some w
 weight-told (pos n) is =
     let le = weight-bound n is in
     (weight-found (weight_text (pos n)) (pos n)).1 (record { number = short_natural 5 n; text_is = refl; spelled = size-spelled false n le; in_range = (omega (arith, ints), omega (arith, ints)) })
@@ -44,7 +44,7 @@ weight-told (negsuc n) is =
 -- ---- the characters of a number
 
 -- a minus, a point or a digit
-abbrev pub is_inner : ℕ → Bool
+abbrev is_inner : ℕ → Bool
 is_inner = is_within 45 57
 
 -- or a percent sign
