@@ -34,3 +34,7 @@ pub mod ReadBackWeights
 pub mod ReadBackWeighed
 pub mod ReadBackAnswers
 pub mod ReadBackChoices
+pub mod ReadWrittenMarks
+pub mod ReadWrittenTexts
+pub mod ReadWrittenKinds
+pub mod ReadWrittenQuestion
