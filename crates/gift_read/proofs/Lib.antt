@@ -34,7 +34,12 @@ pub mod ReadBackWeights
 pub mod ReadBackWeighed
 pub mod ReadBackAnswers
 pub mod ReadBackChoices
+pub mod ReadWrittenLists
 pub mod ReadWrittenMarks
 pub mod ReadWrittenTexts
 pub mod ReadWrittenKinds
 pub mod ReadWrittenQuestion
+pub mod ReadWrittenLines
+pub mod ReadWrittenBlocks
+pub mod ReadWrittenCategory
+pub mod ReadWrittenLaw

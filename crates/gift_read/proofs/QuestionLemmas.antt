@@ -30,12 +30,12 @@ use Rattle.gift_read.proofs.TogetherLemmas.{together-length}
 
 -- ---- no rule is broken
 
-none-before : (rules : List ℕ) (b : Bool) (rule : ℕ) → rules ++ when b rule ≡ [] → (rules ≡ []) × (b ≡ false)
+pub none-before : (rules : List ℕ) (b : Bool) (rule : ℕ) → rules ++ when b rule ≡ [] → (rules ≡ []) × (b ≡ false)
 none-before [] true rule e = cc
 none-before [] false rule e = (refl, refl)
 none-before (r ∷ rules) b rule e = cc
 
-none-broken : (b : Block) → broken b ≡ [] → (flaws b ≡ []) × (is_large b ≡ false)
+pub none-broken : (b : Block) → broken b ≡ [] → (flaws b ≡ []) × (is_large b ≡ false)
 none-broken b e = go (flaws b) (is_large b) refl e
   where
     go : (rules : List ℕ) (large : Bool) → is_large b ≡ large → or_large rules b ≡ [] → (rules ≡ []) × (large ≡ false)

@@ -1,6 +1,5 @@
 -- What is read of a kind is a kind of a written question.
-use Rattle.std.proofs.Common.{◌≡◌, ◌≢◌, ℕ, Bool, true, false, cond, not, ◌&&◌, List, [], ◌∷◌, ◌++◌, drop, map, refl, ap, ◌∙◌}
-use Rattle.std.specs.List.{list_all}
+use Rattle.std.proofs.Common.{◌≡◌, ◌≢◌, ℕ, true, false, not, ◌&&◌, List, [], ◌∷◌, ◌++◌, drop, map, refl, ap, ◌∙◌}
 use Rattle.std.specs.Str.{chars}
 use Rattle.std.proofs.lemmas.Bool.{and_parts, cond_both}
 use Rattle.std.proofs.lemmas.Str.{chars-nil}
@@ -16,7 +15,7 @@ use Rattle.qz_grading.specs.Questions.{is_weight, is_extent, are_weighed, are_we
 use Rattle.gift_read.specs.declared.places.Landmark.TheVariants as landmark
 use Rattle.gift_read.specs.declared.parts.Sort.{Sort}
 use Rattle.gift_read.specs.declared.parts.Sort.TheVariants as sort
-use Rattle.gift_read.specs.Places.{Marks, character, tilde, equals, is_at, before, from, occurs, trimmed}
+use Rattle.gift_read.specs.Places.{Marks, tilde, equals, is_at, before, from, occurs, trimmed}
 use Rattle.gift_read.specs.Texts.{spelled, text_of, shown, formatted, rich_of}
 use Rattle.gift_read.specs.Parts.{Part, pieces_of, numbers, answer_marks, feedback_marks}
 use Rattle.gift_read.specs.Values.{unweighed, choice_of, empty_rich, pair_of, short_of, num_of, other_of, others, on_wrong, on_right, kind_in}

@@ -1,17 +1,16 @@
 -- The texts that marks spell are texts of written questions.
-use Rattle.std.proofs.Common.{◌≡◌, ◌≢◌, ℕ, Bool, true, false, cond, not, ◌&&◌, ◌==◌, List, [], ◌∷◌, ◌++◌, take, map, encode_utf8_all, codes, refl, sym, ap, ◌∙◌, subst}
+use Rattle.std.proofs.Common.{◌≡◌, ◌≢◌, ℕ, Bool, true, false, cond, not, ◌&&◌, ◌==◌, List, [], ◌∷◌, ◌++◌, take, map, encode_utf8_all, codes, refl, ap, ◌∙◌}
 use Rattle.std.specs.Char.{encode_utf8}
 use Rattle.std.specs.List.{list_all}
 use Rattle.std.specs.Str.{chars}
 use Rattle.std.proofs.Math.Utf8.{scalars}
 use lib.Utf8.{scalar}
-use Rattle.std.proofs.lemmas.Bool.{and_parts, and_from, cond_both, not-true, ne_eqb}
+use Rattle.std.proofs.lemmas.Bool.{and_parts, and_from, cond_both, not-true}
 use Rattle.std.proofs.lemmas.List.Folds.{list_all-append, list_all-map}
 use Rattle.std.proofs.lemmas.Str.{chars-encodes}
 use Rattle.gift_lex.specs.declared.block.Piece.{Piece}
 use Rattle.gift_lex.specs.Blocks.{space}
 use Rattle.qz_grading.specs.declared.question.Format.{Format}
-use Rattle.qz_grading.specs.declared.question.Rich.{Rich}
 use Rattle.qz_grading.specs.Canonical.{is_nothing}
 use Rattle.gift_read.specs.Places.{Marks, character, is_space, trimmed}
 use Rattle.gift_read.specs.Texts.{spelled, text_of, shown, formatted, rich_of, begins_blank, single_spaced, or_question, made_name}
@@ -19,6 +18,7 @@ use Rattle.gift_read.specs.Written as written
 use Rattle.gift_read.specs.Written.{has_no_return, IsText, IsRich}
 use Rattle.gift_read.proofs.ReadBackPlaces.{begins_ink, ends_ink}
 use Rattle.gift_read.proofs.ReadBackWriting.{scalars-all}
+use Rattle.gift_read.proofs.ReadWrittenLists.{list_all-implies}
 use Rattle.gift_read.proofs.ReadWrittenMarks.{IsKept, all-kept, all-take, kept-trimmed, kept-shown, IsTrimmed, trimmed-is, shown-is}
 
 -- ---- characters of texts
@@ -49,16 +49,10 @@ good-append marks more first second = record { all = list_all-append is_good_mar
 -- ---- their bytes
 
 good-scalars : (cs : List ℕ) → list_all is_good cs ≡ true → scalars cs ≡ true
-good-scalars [] all = refl
-good-scalars (c ∷ cs) all =
-    let parts = and_parts (is_good c) (list_all is_good cs) all in
-    and_from _ _ (and_parts (scalar c) (not (c == 13)) parts.0).0 (good-scalars cs parts.1)
+good-scalars cs all = scalars-all cs ∙ list_all-implies is_good scalar (λ c is. (and_parts (scalar c) (not (c == 13)) is).0) cs all
 
 good-no_return : (cs : List ℕ) → list_all is_good cs ≡ true → has_no_return cs ≡ true
-good-no_return [] all = refl
-good-no_return (c ∷ cs) all =
-    let parts = and_parts (is_good c) (list_all is_good cs) all in
-    and_from _ _ (and_parts (scalar c) (not (c == 13)) parts.0).1 (good-no_return cs parts.1)
+good-no_return cs all = list_all-implies is_good (λ c. not (c == 13)) (λ c is. (and_parts (scalar c) (not (c == 13)) is).1) cs all
 
 pub encoded-chars : (cs : List ℕ) → list_all is_good cs ≡ true → chars (encode_utf8_all cs) ≡ cs
 encoded-chars cs all = chars-encodes cs (good-scalars cs all)
