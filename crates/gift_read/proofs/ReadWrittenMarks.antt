@@ -1,6 +1,7 @@
 -- What is kept where marks are cut and trimmed.
-use Rattle.std.proofs.Common.{◌≡◌, ℕ, zero, suc, ◌+◌, Bool, true, false, cond, ◌&&◌, ◌==◌, List, [], ◌∷◌, length, take, drop, map, codes, Option, Some, None, refl, sym, ap, subst}
+use Rattle.std.proofs.Common.{◌≡◌, ℕ, zero, suc, ◌+◌, Bool, true, false, cond, ◌&&◌, ◌==◌, List, [], ◌∷◌, length, take, drop, map, codes, Option, Some, None, refl, sym, ap, ◌∙◌, subst}
 use Rattle.std.specs.List.{list_all}
+use Rattle.std.proofs.Math.Bool.{and-true}
 use Rattle.std.proofs.lemmas.Bool.{and_parts, and_from, and_right, or_parts, or_from, cond_both, not_from_false}
 use Rattle.gift_lex.specs.declared.block.Piece.{Piece}
 use Rattle.qz_grading.specs.declared.question.Format.{Format}
@@ -100,12 +101,7 @@ arrowless-more here m [] none later = refl
 arrowless-more here m (n ∷ marks) none later = go (here (n ∷ marks)) later
   where
     first : ((character m == 45) && (character n == 62)) ≡ false
-    first = ends (character m == 45) (character n == 62) none
-      where
-        ends : (a b : Bool) → (a && (b && true)) ≡ false → (a && b) ≡ false
-        ends true true e = e
-        ends true false e = refl
-        ends false b e = refl
+    first = ap (λ (b : Bool). (character m == 45) && b) (sym (and-true (character n == 62))) ∙ none
 
     go : (b : Bool) → IsArrowless (cond b [] (n ∷ before here marks)) → IsArrowless (m ∷ cond b [] (n ∷ before here marks))
     go true later = refl
@@ -134,17 +130,11 @@ arrowless-kept = record { nothing = refl; behind = behind; ahead = ahead }
     behind m [] none = refl
     behind m (n ∷ marks) none = (or_parts ((character m == 45) && (character n == 62)) (has_arrow (map character (n ∷ marks))) none).1
 
-    at_front : (m n : Piece) (marks : Marks) → IsArrowless (m ∷ n ∷ marks) → characters_at (codes "->") (m ∷ n ∷ marks) ≡ false
-    at_front m n marks none = ends (character m == 45) (character n == 62) (or_parts ((character m == 45) && (character n == 62)) (has_arrow (map character (n ∷ marks))) none).0
-      where
-        ends : (a b : Bool) → (a && b) ≡ false → (a && (b && true)) ≡ false
-        ends true true e = e
-        ends true false e = refl
-        ends false b e = refl
-
     front : (m : Piece) (marks : Marks) → IsArrowless (m ∷ marks) → characters_at (codes "->") (m ∷ marks) ≡ false
     front m [] none = and_right (character m == 45) false refl
-    front m (n ∷ marks) none = at_front m n marks none
+    front m (n ∷ marks) none =
+        ap (λ (b : Bool). (character m == 45) && b) (and-true (character n == 62))
+        ∙ (or_parts ((character m == 45) && (character n == 62)) (has_arrow (map character (n ∷ marks))) none).0
 
     ahead : (here : Marks → Bool) (marks : Marks) → IsArrowless marks → IsArrowless (before here marks)
     ahead here [] none = refl
@@ -176,11 +166,7 @@ unblank-ends (m ∷ marks) = go (is_blank (m ∷ marks)) refl (before is_blank m
   where
     go : (b : Bool) → is_blank (m ∷ marks) ≡ b → (t : Marks) → before is_blank marks ≡ t → ends_ink t ≡ true → ends_ink (cond b [] (m ∷ t)) ≡ true
     go true e t is ends = refl
-    go false e [] is ends = let space : (is_space m && true) ≡ false = rw (nothing-blank marks is) at e in not_from_false (is_space m) (alone (is_space m) space)
-      where
-        alone : (b : Bool) → (b && true) ≡ false → b ≡ false
-        alone true e = e
-        alone false e = refl
+    go false e [] is ends = let ink : (is_space m && true) ≡ false = rw (nothing-blank marks is) at e in not_from_false (is_space m) (sym (and-true (is_space m)) ∙ ink)
     go false e (n ∷ t) is ends = ends
 
 pub record IsTrimmed (marks : Marks) : Type 0 where
