@@ -78,7 +78,7 @@ Spells-append cs ds ms ns first second = record {
 pub Spells-marks : (cs : List ℕ) (ms : Marks) → Spells cs ms → marks_of cs ≡ ms
 Spells-marks cs ms spells = ap marks_of (sym (append-nil cs)) ∙ spells.same [] ∙ append-nil ms
 
-marks_of-single : (c : ℕ) (rest : List ℕ) → (c == 92) ≡ false → marks_of (c ∷ rest) ≡ single c ∷ marks_of rest
+pub marks_of-single : (c : ℕ) (rest : List ℕ) → (c == 92) ≡ false → marks_of (c ∷ rest) ≡ single c ∷ marks_of rest
 marks_of-single c [] other = refl
 marks_of-single c (d ∷ rest) other = rw other refl
 

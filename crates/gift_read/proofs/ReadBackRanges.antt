@@ -6,6 +6,7 @@ use Rattle.std.proofs.lemmas.Bool.{and_parts, and_from, ne_eqb, leb-true, le-leb
 use Rattle.std.proofs.lemmas.Str.{encode_ascii}
 use Rattle.gift_lex.specs.declared.block.Piece.TheVariants.{Plain}
 use Rattle.gift_lex.specs.Blocks.{single}
+use Rattle.gift_read.proofs.ListLemmas.{list_all-implies}
 use Rattle.gift_read.proofs.ReadBackWriting.{Writes, Writes-ascii, scalars-all}
 
 abbrev pub is_within : ℕ → ℕ → ℕ → Bool
@@ -20,11 +21,6 @@ within-range low high c is = let parts = and_parts (nat_le low c) (nat_le c high
 
 range-within : (low high c : ℕ) → low ≤ c → c ≤ high → is_within low high c ≡ true
 range-within low high c from to = and_from (nat_le low c) (nat_le c high) (le-leb low c from) (le-leb c high to)
-
-list_all-implies : (p q : ℕ → Bool) → ((c : ℕ) → p c ≡ true → q c ≡ true) → (cs : List ℕ) → list_all p cs ≡ true → list_all q cs ≡ true
-list_all-implies p q implies [] all = refl
-list_all-implies p q implies (c ∷ cs) all =
-    let parts = and_parts (p c) (list_all p cs) all in and_from (q c) (list_all q cs) (implies c parts.0) (list_all-implies p q implies cs parts.1)
 
 -- a wider range
 pub within-wider : (low high lower higher : ℕ) → lower ≤ low → high ≤ higher → (cs : List ℕ) → list_all (is_within low high) cs ≡ true → list_all (is_within lower higher) cs ≡ true
