@@ -2,6 +2,7 @@
 use Rattle.std.proofs.Common.{◌≡◌, ℕ, Bool, true, false, cond, not, ◌&&◌, ◌||◌, ◌==◌, List, [], ◌∷◌, ◌++◌, map, refl, ap, ◌∙◌}
 use Rattle.std.specs.List.{list_all}
 use Rattle.std.specs.Str.{chars}
+use Rattle.std.proofs.Math.Bool.{and-false}
 use Rattle.std.proofs.lemmas.Bool.{or_parts, and_parts, not-true}
 use Rattle.std.proofs.lemmas.List.{map-append}
 use Rattle.gift_lex.specs.declared.block.Piece.{Piece}
@@ -14,7 +15,7 @@ use Rattle.qz_grading.specs.Canonical.{format_mark}
 use Rattle.gift_read.specs.declared.places.Landmark.TheVariants as landmark
 use Rattle.gift_read.specs.Places.{Marks, character, is_at, occurs}
 use Rattle.gift_read.specs.Written.{has_arrow}
-use Rattle.gift_read.proofs.ReadBackPlaces.{Passes, passes-nil, passes-cons, and-false}
+use Rattle.gift_read.proofs.ReadBackPlaces.{Passes, passes-nil, passes-cons}
 use Rattle.gift_read.proofs.ReadBackMarks.{text_marks-characters, single-characters}
 use Rattle.gift_read.proofs.ReadBackRich.{marks_of_text, is_marked, rich_marks}
 
@@ -36,11 +37,7 @@ occurs-arrow (m ∷ n ∷ marks) = rw (occurs-arrow (n ∷ marks)) (go (characte
 pub passes-arrow : (marks : Marks) → occurs (is_at landmark.Arrow) marks ≡ false → Passes (is_at landmark.Arrow) (marks ++ Plain 32 ∷ [])
 passes-arrow [] none = passes-cons (is_at landmark.Arrow) (Plain 32) [] (λ ys. refl) (passes-nil (is_at landmark.Arrow))
 passes-arrow (m ∷ []) none =
-    passes-cons (is_at landmark.Arrow) m (Plain 32 ∷ []) (λ ys. go (character m == 45)) (passes-arrow [] refl)
-  where
-    go : (b : Bool) → (b && false) ≡ false
-    go true = refl
-    go false = refl
+    passes-cons (is_at landmark.Arrow) m (Plain 32 ∷ []) (λ ys. and-false (character m == 45)) (passes-arrow [] refl)
 passes-arrow (m ∷ n ∷ marks) none =
     let parts = or_parts (is_at landmark.Arrow (m ∷ n ∷ marks)) (occurs (is_at landmark.Arrow) (n ∷ marks)) none in
     passes-cons (is_at landmark.Arrow) m (n ∷ marks ++ Plain 32 ∷ []) (λ ys. parts.0) (passes-arrow (n ∷ marks) parts.1)

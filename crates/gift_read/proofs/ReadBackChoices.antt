@@ -23,7 +23,7 @@ use Rattle.gift_read.specs.Parts.{Part, sort_in}
 use Rattle.gift_read.specs.Values.{own_weight, question_with, choice_of, kind_in}
 use Rattle.gift_read.specs.Faults.{is_misweighed}
 use Rattle.gift_read.specs.Written.{IsChoice, Each}
-use Rattle.gift_read.proofs.ReadBackPlaces.{passes-plain, passes-occurs}
+use Rattle.gift_read.proofs.ReadBackPlaces.{passes-plain, passes-occurs, occurs-later}
 use Rattle.gift_read.proofs.ReadBackRich.{rich_characters, rich_marks, rich_marks-plain, rich_marks-ink, rich_marks-some, rich_of-rich}
 use Rattle.gift_read.proofs.ReadBackTold.{IsFaultless}
 use Rattle.gift_read.proofs.ReadBackTruth.{sort_by}
@@ -147,14 +147,6 @@ signs-text f (c ∷ cs) = go (int_eq c.weight (pos one)) (signs-text f cs)
 
 abbrev has_sign : ℕ → List Signed → Bool
 has_sign s ts = list_any (λ (t : Signed). t.0 == s) ts
-
-or-true : (b : Bool) → (b || true) ≡ true
-or-true true = refl
-or-true false = refl
-
-occurs-later : (here : Marks → Bool) (xs ys : Marks) → occurs here ys ≡ true → occurs here (xs ++ ys) ≡ true
-occurs-later here [] ys found = found
-occurs-later here (x ∷ xs) ys found = rw (occurs-later here xs ys found) (or-true (here (x ∷ (xs ++ ys))))
 
 abbrev known_part : (f : Format) → Known (IsSigned f) → Part
 known_part f t = part_of f t.0

@@ -26,11 +26,11 @@ use Rattle.gift_read.specs.Texts.{spells}
 use Rattle.gift_read.specs.Values.{number_of, extent_of}
 use Rattle.gift_read.specs.Written as written
 use Rattle.gift_read.proofs.ReadBackPlaces.{Passes, passes-nil, passes-cons, passes-append, passes-occurs, found-occurs, found-before, found-from, begins_ink, ends_ink, trimmed-ink}
-use Rattle.gift_read.proofs.ReadBackMarks.{single-character, single-characters}
+use Rattle.gift_read.proofs.ReadBackMarks.{plain-characters, single-character, single-characters}
 use Rattle.gift_read.proofs.ReadBackWriting.{Writes}
 use Rattle.gift_read.proofs.ReadBackRanges.{is_within, IsRange, within-range, within-wider, within-other, within-bytes, Writes-within, plain-single, within-plain}
 use Rattle.gift_read.proofs.ReadBackWeights.{numerals, IsSized, places, is_places}
-use Rattle.gift_read.proofs.ReadBackWeighed.{natural-inner, natural_some, passes-without, plain-characters}
+use Rattle.gift_read.proofs.ReadBackWeighed.{natural-inner, natural_some, passes-without}
 use Rattle.gift_read.proofs.ReadBackDecimals.{sized-number, number-size, number-size_negative, decimal-told}
 use Rattle.gift_read.proofs.ReadBackAnswers.{is_uncut, are_uncut}
 

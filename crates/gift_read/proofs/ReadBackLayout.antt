@@ -24,7 +24,7 @@ use Rattle.gift_read.proofs.ReadBackRich.{rich_marks, rich_marks-plain, rich_of-
 use Rattle.gift_read.proofs.ReadBackFrame.{named_marks, braced}
 use Rattle.gift_read.proofs.ReadBackGeneral.{general-before, general-marks, closed-general}
 use Rattle.gift_read.proofs.ReadBackTold.{IsFaultless}
-use Rattle.gift_read.proofs.ReadBackPlain.{IsShort, no_text, reads-braced}
+use Rattle.gift_read.proofs.ReadBackPlain.{IsShort, no_text, plain-behind, reads-braced}
 use Rattle.gift_read.proofs.ReadBackLines.{Line, joined_marks}
 use Rattle.gift_read.proofs.ReadBackBank.{IsQuestionText}
 use Rattle.gift_read.proofs.ReadBackWriting.{Writes}
@@ -65,9 +65,6 @@ record ReadsAnswers (f : Format) (extra : Marks) (ls : List Line) (none : Bool) 
 general_read : (f : Format) (general : Rich) (none : Bool) → IsRich f general → is_nothing general.text ≡ none → rich_of f (cond none [] (rich_marks f general ++ (Plain 10 ∷ []))) ≡ general
 general_read f general true is e = rich_of-nothing f general is (no_text general e)
 general_read f general false is e = rich_of-around f general [] (Plain 10 ∷ []) is refl refl
-
-plain-behind : (marks : Marks) → are_plain marks ≡ true → are_plain (marks ++ (Plain 10 ∷ [])) ≡ true
-plain-behind marks plain = list_all-append _ marks (Plain 10 ∷ []) ∙ rw plain refl
 
 asks-lines : (name : List ℕ) (r general : Rich) (k : Kind) (opening text : List ℕ) (extra : Marks) (ls : List Line) (a : Marks) (s : Sort) → IsFramed name r general k
     → answer_part k r.format general ≡ (opening ++ 10 ∷ []) ++ text ++ general_line r.format general ++ 125 ∷ []

@@ -61,6 +61,10 @@ pub single-characters : (cs : List ℕ) → map character (map single cs) ≡ cs
 single-characters [] = refl
 single-characters (c ∷ cs) = rw (single-character c, single-characters cs) refl
 
+pub plain-characters : (cs : List ℕ) → map character (map Plain cs) ≡ cs
+plain-characters [] = refl
+plain-characters (c ∷ cs) = ap (λ (t : List ℕ). c ∷ t) (plain-characters cs)
+
 -- ---- what characters are as marks
 
 -- whatever follows them

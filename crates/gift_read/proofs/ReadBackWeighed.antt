@@ -21,6 +21,7 @@ use Rattle.gift_read.specs.Places.{Marks, character, characters_at, is_at}
 use Rattle.gift_read.specs.Texts.{spelled}
 use Rattle.gift_read.specs.Values.{without_minus, is_figure, is_figures, percent_marks, is_weighed, weight_marks, unweighed, weight_told}
 use Rattle.gift_read.proofs.ReadBackPlaces.{Passes, passes-nil, passes-cons, found-before, found-occurs}
+use Rattle.gift_read.proofs.ReadBackMarks.{plain-characters}
 use Rattle.gift_read.proofs.ReadBackWriting.{Writes}
 use Rattle.gift_read.proofs.ReadBackRanges.{is_within, within-wider, within-other, within-bytes, Writes-within, within-plain}
 use Rattle.gift_read.proofs.ReadBackWeights.{numerals, size-spelled, places, IsSized, is_places, sized-weight}
@@ -171,10 +172,6 @@ weighed-is w rest is =
 weight-length : (w : ℤ) → length (weight_marks_of w) ≡ length (map Plain (short_number 5 w)) + 2
 weight-length w =
     omega (arith, length-map (weight_text w) Plain, length-map (short_number 5 w) Plain, length-append (short_number 5 w) (37 ∷ []))
-
-pub plain-characters : (cs : List ℕ) → map character (map Plain cs) ≡ cs
-plain-characters [] = refl
-plain-characters (c ∷ cs) = ap (λ (t : List ℕ). c ∷ t) (plain-characters cs)
 
 pub weighed-told : (w : ℤ) (rest : Marks) → is_weight w ≡ true → weight_told (weight_marks_of w ++ rest) ≡ Some w
 weighed-told w rest is =

@@ -12,7 +12,7 @@ use Rattle.gift_lex.specs.Blocks.{line_feed, Line, is_gap, unindented, is_blank,
 use Rattle.gift_read.specs.Places.{Marks, character, signs_at, characters_at}
 use Rattle.gift_read.specs.Category.{begins_line, line_marks, is_category}
 use Rattle.gift_read.specs.Written.{Each}
-use Rattle.gift_read.proofs.ReadBackMarks.{marks_of-single}
+use Rattle.gift_read.proofs.ReadBackMarks.{single-character, marks_of-single}
 use Rattle.gift_read.proofs.ListLemmas.{list_all-implies, flat_map-kept}
 use Rattle.gift_read.proofs.ReadWrittenMarks.{all-kept, kept-from, kept-drop}
 use Rattle.gift_read.proofs.ReadWrittenTexts.{is_good, is_good_mark, IsGood}
@@ -104,9 +104,6 @@ escaped-other w d letter escape = ne_eqb (lex.escaped d) w (λ same. go (d == 11
       | inl sign ↦ let other = not-true (lex.is_sign w || w == 92) parts.1 in both_ways (lex.is_sign w || w == 92) other (subst (λ (c : ℕ). (lex.is_sign c || c == 92) ≡ true) same sign)
       | inr n ↦ both_ways (d == 110) e n
     ]
-
-single-character : (c : ℕ) → character (single c) ≡ c
-single-character c = cond_both (lex.is_sign c) (Sign c) (Plain c) (λ (m : Piece). character m ≡ c) (λ e. refl) (λ e. refl)
 
 -- no letter stands where a line ends
 ended-other : (w : ℕ) (word : List ℕ) (tail : Marks) → is_letter w ≡ true → ends_line tail ≡ true → characters_at (w ∷ word) tail ≡ true → ⊥

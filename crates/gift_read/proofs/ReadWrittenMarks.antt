@@ -14,6 +14,7 @@ use Rattle.gift_read.specs.Values.{is_weighed, percent_marks, unweighed}
 use Rattle.gift_read.specs.Written.{Each, has_arrow}
 use Rattle.gift_read.proofs.PartLemmas.{later, cut-first}
 use Rattle.gift_read.proofs.ReadBackPlaces.{begins_ink, ends_ink}
+use Rattle.gift_read.proofs.ReadBackArrows.{occurs-arrow}
 
 -- ---- what every part of marks keeps
 
@@ -114,14 +115,8 @@ before_arrow-arrowless (m ∷ marks) =
     let here = is_at landmark.Arrow in
     cond_both (here (m ∷ marks)) [] (m ∷ before here marks) IsArrowless (λ e. refl) (λ e. arrowless-more here m marks e (before_arrow-arrowless marks))
 
-before-none : (here : Marks → Bool) (marks : Marks) → occurs here marks ≡ false → before here marks ≡ marks
-before-none here [] none = refl
-before-none here (m ∷ marks) none =
-    let parts = or_parts (here (m ∷ marks)) (occurs here marks) none in
-    rw parts.0 (ap (λ (t : Marks). m ∷ t) (before-none here marks parts.1))
-
 pub unoccurring-arrowless : (marks : Marks) → occurs (is_at landmark.Arrow) marks ≡ false → IsArrowless marks
-unoccurring-arrowless marks none = subst IsArrowless (before-none (is_at landmark.Arrow) marks none) (before_arrow-arrowless marks)
+unoccurring-arrowless marks none = sym (occurs-arrow marks) ∙ none
 
 pub arrowless-kept : IsKept IsArrowless
 arrowless-kept = record { nothing = refl; behind = behind; ahead = ahead }

@@ -17,6 +17,7 @@ use Rattle.gift_read.specs.Texts.{spelled, text_of, shown, formatted, rich_of, b
 use Rattle.gift_read.specs.Written as written
 use Rattle.gift_read.specs.Written.{has_no_return, IsText, IsRich}
 use Rattle.gift_read.proofs.ReadBackPlaces.{begins_ink, ends_ink}
+use Rattle.gift_read.proofs.ReadBackPieces.{ends-behind}
 use Rattle.gift_read.proofs.ReadBackWriting.{scalars-all}
 use Rattle.gift_read.proofs.ListLemmas.{list_all-implies}
 use Rattle.gift_read.proofs.ReadWrittenMarks.{IsKept, all-kept, all-take, kept-trimmed, kept-shown, IsTrimmed, trimmed-is, shown-is}
@@ -125,18 +126,13 @@ single_spaced-begins : (marks : Marks) → begins_ink marks ≡ true → written
 single_spaced-begins [] ink = refl
 single_spaced-begins (m ∷ marks) ink = let no_space = not-true (is_space m) ink in rw no_space (ap not no_space)
 
--- behind more
-ends-behind : (c : ℕ) (cs : List ℕ) → cs ≢ [] → written.ends_ink cs ≡ true → written.ends_ink (c ∷ cs) ≡ true
-ends-behind c [] some ends = absurd (some refl)
-ends-behind c (d ∷ cs) some ends = ends
-
 single_spaced-ends : (marks : Marks) → ends_ink marks ≡ true → written.ends_ink (single_spaced marks) ≡ true
 single_spaced-ends [] ink = refl
 single_spaced-ends (m ∷ []) ink = let no_space = not-true (is_space m) ink in rw no_space (ap not no_space)
 single_spaced-ends (m ∷ n ∷ marks) ink =
     let later = single_spaced-ends (n ∷ marks) ink in
     cond_both (is_space m && is_space n) (single_spaced (n ∷ marks)) (cond (is_space m) space (character m) ∷ single_spaced (n ∷ marks)) (λ (cs : List ℕ). written.ends_ink cs ≡ true)
-    (λ e. later) (λ e. ends-behind (cond (is_space m) space (character m)) (single_spaced (n ∷ marks)) (single_spaced-some n marks) later)
+    (λ e. later) (λ e. ends-behind (cond (is_space m) space (character m) ∷ []) (single_spaced (n ∷ marks)) (single_spaced-some n marks) ∙ later)
 
 pub record IsNamed (name : List ℕ) : Type 0 where
   pub text : IsText name
