@@ -20,7 +20,7 @@ use Rattle.qz_grading.specs.Canonical.{category_name, category_path, begins_with
 use Rattle.gift_write.proofs.EscapeLemmas.{category_name-other}
 use Rattle.gift_read.specs.declared.reading.Entry.{Entry}
 use Rattle.gift_read.specs.declared.reading.Entry.TheVariants as entry
-use Rattle.gift_read.specs.Places.{Marks, character, is_blank}
+use Rattle.gift_read.specs.Places.{Marks, is_blank}
 use Rattle.gift_read.specs.Texts.{spelled, text_of}
 use Rattle.gift_read.specs.Values.{question}
 use Rattle.gift_read.specs.Category as category

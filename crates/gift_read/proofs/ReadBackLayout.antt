@@ -2,7 +2,6 @@
 use Rattle.std.proofs.Common.{◌≡◌, ℕ, Bool, true, false, cond, not, ◌&&◌, ◌||◌, nat_lt, List, [], ◌∷◌, ◌++◌, map, flat_map, refl, sym, ap, ◌∙◌, subst, append_assoc}
 use Rattle.std.specs.List.{list_any}
 use Rattle.std.proofs.lemmas.Bool.{le-ltb}
-use Rattle.std.proofs.lemmas.List.Folds.{list_all-append}
 use Rattle.gift_lex.specs.declared.block.Piece.TheVariants.{Sign, Plain}
 use Rattle.qz_grading.specs.declared.question.Format.{Format}
 use Rattle.qz_grading.specs.declared.question.Format.TheVariants as format
@@ -19,7 +18,7 @@ use Rattle.gift_read.specs.Parts.{Part, sort_in}
 use Rattle.gift_read.specs.Values.{question_with, kind_in}
 use Rattle.gift_read.specs.Faults.{most_parts, is_matching, has_blank_number, has_no_number, number_pieces, is_misweighed, weighed_pieces, has_stray_arrow, has_stray_feedback}
 use Rattle.gift_read.specs.Written.{IsRich, Each}
-use Rattle.gift_read.proofs.ReadBackPlaces.{Passes, passes-cons, passes-append, passes-plain, passes-occurs, are_plain, begins_ink, ends_ink, trimmed-around}
+use Rattle.gift_read.proofs.ReadBackPlaces.{Passes, passes-cons, passes-append, passes-plain, passes-occurs, begins_ink, ends_ink, trimmed-around}
 use Rattle.gift_read.proofs.ReadBackRich.{rich_marks, rich_marks-plain, rich_of-nothing, rich_of-around}
 use Rattle.gift_read.proofs.ReadBackFrame.{named_marks, braced}
 use Rattle.gift_read.proofs.ReadBackGeneral.{general-before, general-marks, closed-general}

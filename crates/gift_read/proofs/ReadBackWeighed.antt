@@ -17,7 +17,7 @@ use Rattle.qz_decimal.proofs.Weights.{weight-found}
 use Rattle.qz_grading.specs.Canonical.{behind_point, short_natural, short_number, weight_text}
 use Rattle.qz_grading.specs.Questions.{is_weight}
 use Rattle.gift_read.specs.declared.places.Landmark.TheVariants as landmark
-use Rattle.gift_read.specs.Places.{Marks, character, characters_at, is_at}
+use Rattle.gift_read.specs.Places.{Marks, characters_at, is_at}
 use Rattle.gift_read.specs.Texts.{spelled}
 use Rattle.gift_read.specs.Values.{without_minus, is_figure, is_figures, percent_marks, is_weighed, weight_marks, unweighed, weight_told}
 use Rattle.gift_read.proofs.ReadBackPlaces.{Passes, passes-nil, passes-cons, found-before, found-occurs}
