@@ -1,5 +1,6 @@
 -- Which rule is the first that a block breaks.
-use Rattle.std.proofs.Common.{◌≡◌, ℕ, ◌<◌, ◌≤◌, Bool, true, false, ◌||◌, not, List, [], ◌∷◌, Some, None, Err, refl, sym, ap, ◌∙◌, arith}
+use Rattle.std.proofs.Common.{◌≡◌, ℕ, ◌<◌, ◌≤◌, Bool, true, false, not, List, [], ◌∷◌, Some, None, Err, refl, sym, ap, ◌∙◌, arith}
+use Rattle.std.proofs.Math.Bool.{or-true}
 use Rattle.std.proofs.lemmas.Bool.{lt-ltb, le-ltb}
 use Rattle.gift_lex.specs.declared.block.Block.{Block}
 use Rattle.qz_grading.specs.declared.question.Format.{Format}
@@ -13,10 +14,6 @@ use Rattle.gift_read.specs.Gift.{told, told_by}
 use Rattle.gift_read.specs.Parts.{body, question_text, answer_part, answers, sort_of}
 use Rattle.gift_read.specs.Texts.{formatted}
 use Rattle.gift_read.specs.Values.{kind_in, question}
-
-or-true : (b : Bool) → (b || true) ≡ true
-or-true true = refl
-or-true false = refl
 
 -- a count of pieces that is the same in every format
 parts-question : (b : Block) (count : ℕ) → ((format : Format) → count ≡ parts (kind_in format (answers (answer_part (body b.marks))) (sort_of (body b.marks)))) → count ≡ parts (question b).kind

@@ -2,6 +2,7 @@ pub mod CategoryLemmas
 pub mod FaultLemmas
 pub mod LimitLemmas
 pub mod LineCounts
+pub mod ListLemmas
 pub mod PartLemmas
 pub mod PieceLemmas
 pub mod PlaceLemmas
@@ -34,3 +35,17 @@ pub mod ReadBackWeights
 pub mod ReadBackWeighed
 pub mod ReadBackAnswers
 pub mod ReadBackChoices
+pub mod ReadBackArrows
+pub mod ReadBackShort
+pub mod ReadBackRanges
+pub mod ReadBackDecimals
+pub mod ReadBackExtents
+pub mod ReadBackNumerical
+pub mod ReadWrittenMarks
+pub mod ReadWrittenTexts
+pub mod ReadWrittenKinds
+pub mod ReadWrittenQuestion
+pub mod ReadWrittenLines
+pub mod ReadWrittenBlocks
+pub mod ReadWrittenCategory
+pub mod ReadWrittenLaw

@@ -1,5 +1,5 @@
 -- A block without a broken rule spells a question.
-use Rattle.std.proofs.Common.{◌≡◌, ℕ, Bool, true, false, cond, not, ◌&&◌, ◌||◌, List, [], ◌∷◌, ◌++◌, length, map, Option, Some, None, refl, subst, arith}
+use Rattle.std.proofs.Common.{◌≡◌, ◌≤◌, ℕ, Bool, true, false, cond, not, ◌&&◌, ◌||◌, List, [], ◌∷◌, ◌++◌, length, map, Option, Some, None, refl, subst, arith}
 use Rattle.std.specs.Prelude.{IsTrue, nat_lt, All, Result, Ok, Err}
 use Rattle.std.proofs.lemmas.Bool.{or_parts, not-false, ltb-false}
 use Rattle.std.proofs.lemmas.List.{append-nil}
@@ -20,7 +20,7 @@ use Rattle.gift_read.specs.Texts.{rich_of}
 use Rattle.gift_read.specs.Parts.{body, answer_part, general_marks, answers, truth, short_unless, sort_in, sort_of}
 use Rattle.gift_read.specs.Values.{kind_in, penalty_of, question}
 use Rattle.gift_read.specs.Category.{is_category}
-use Rattle.gift_read.specs.Faults.{when, is_nameless, has_stray_brace, is_unclosed, most_bytes, most_parts, most_together, is_long, is_matching, lacks_piece, has_stray_feedback, broken_values, broken_question, flaws, is_large, or_large, broken}
+use Rattle.gift_read.specs.Faults.{when, is_nameless, has_stray_brace, is_unclosed, most_bytes, most_parts, most_together, is_long, is_matching, lacks_piece, has_stray_arrow, has_stray_feedback, broken_values, broken_question, flaws, is_large, or_large, broken}
 use Rattle.qz_grading.specs.declared.question.Item.{Item}
 use Rattle.gift_read.specs.declared.reading.Entry.{Entry}
 use Rattle.gift_read.specs.declared.reading.Entry.TheVariants as entry
@@ -30,12 +30,12 @@ use Rattle.gift_read.proofs.TogetherLemmas.{together-length}
 
 -- ---- no rule is broken
 
-none-before : (rules : List ℕ) (b : Bool) (rule : ℕ) → rules ++ when b rule ≡ [] → (rules ≡ []) × (b ≡ false)
+pub none-before : (rules : List ℕ) (b : Bool) (rule : ℕ) → rules ++ when b rule ≡ [] → (rules ≡ []) × (b ≡ false)
 none-before [] true rule e = cc
 none-before [] false rule e = (refl, refl)
 none-before (r ∷ rules) b rule e = cc
 
-none-broken : (b : Block) → broken b ≡ [] → (flaws b ≡ []) × (is_large b ≡ false)
+pub none-broken : (b : Block) → broken b ≡ [] → (flaws b ≡ []) × (is_large b ≡ false)
 none-broken b e = go (flaws b) (is_large b) refl e
   where
     go : (rules : List ℕ) (large : Bool) → is_large b ≡ large → or_large rules b ≡ [] → (rules ≡ []) × (large ≡ false)
@@ -77,7 +77,7 @@ from-none here [] e = refl
 from-none here (m ∷ marks) e = let parts = or_parts (here (m ∷ marks)) (occurs here marks) e in rw parts.0 (from-none here marks parts.1)
 
 -- without braces there is none
-description-general : (f : Format) (body : Marks) → kind_in f (answers (answer_part body)) (sort_of body) ≡ kind.Description → length (rich_of f (general_marks (answer_part body))).text ≡ 0
+pub description-general : (f : Format) (body : Marks) → kind_in f (answers (answer_part body)) (sort_of body) ≡ kind.Description → length (rich_of f (general_marks (answer_part body))).text ≡ 0
 description-general f body e =
     let none = no_braces (occurs (is_at landmark.Opening) body) (answers (answer_part body)) f e in
     rw (from-none (is_at landmark.Opening) body none) refl
@@ -94,7 +94,7 @@ written-penalty (kind.Matching pairs) = (record { le = tt }, record { le = tt })
 written-penalty (kind.ShortAnswer answers) = (record { le = tt }, record { le = tt })
 written-penalty (kind.Numerical answers) = (record { le = tt }, record { le = tt })
 
-sound-kind : (q : Question) (s : Sort) (answers : Marks) (f : Format) → q.kind ≡ kind_in f answers s → broken_values q s answers ≡ [] → IsSound q.kind × IsTrue (are_no_longer 65536 (texts q))
+sound-kind : (q : Question) (s : Sort) (answers : Marks) (f : Format) → q.kind ≡ kind_in f answers s → broken_values q s answers ≡ [] → IsSound q.kind × IsTrue (are_no_longer 65536 (texts q)) × (has_stray_arrow s answers ≡ false)
 sound-kind q s answers f is e =
     let right = none-before _ (not (has_right_choice q.kind)) 11 e in
     let feedback = none-before _ (has_stray_feedback s answers) 10 right.0 in
@@ -117,15 +117,22 @@ sound-kind q s answers f is e =
         stem = whole.1;
       },
       not-false _ limits.0,
+      matched.1,
     )
+
+-- the kind and the lengths of the texts are as they must be, and no arrow is astray
+pub values-kept : (b : Block) → is_category b.marks ≡ false → broken b ≡ []
+    → IsSound (question b).kind × IsTrue (are_no_longer 65536 (texts (question b))) × (has_stray_arrow (sort_of (body b.marks)) (answers (answer_part (body b.marks))) ≡ false)
+values-kept b asked e =
+    let values = none-question b (is_nameless b.marks) _ refl refl (rw asked at (none-broken b e).0) in
+    sound-kind (question b) (sort_of (body b.marks)) (answers (answer_part (body b.marks))) (question b).text.format refl values
+
+pub size-kept : (b : Block) → is_category b.marks ≡ false → broken b ≡ [] → canonical_size (question b) ≤ most_together
+size-kept b asked e = ltb-false most_together (canonical_size (question b)) (rw asked at (none-broken b e).1)
 
 pub question-kept : (b : Block) → is_category b.marks ≡ false → broken b ≡ [] → IsQuestion (question b)
 question-kept b asked e =
-    let none = none-broken b e in
-    let flawless = rw asked at none.0 in
-    let values = none-question b (is_nameless b.marks) _ refl refl flawless in
-    let kept = sound-kind (question b) (sort_of (body b.marks)) (answers (answer_part (body b.marks))) (question b).text.format refl values in
-    let small = rw asked at none.1 in
+    let kept = values-kept b asked e in
     let together = together-length (question b) (description-general (question b).text.format (body b.marks)) in
     record {
       kind = kept.0;
@@ -133,7 +140,7 @@ question-kept b asked e =
       lengths = kept.1;
       few_hints = omega arith;
       hints = refl;
-      together = rw append-nil (omega (arith, together, ltb-false most_together (canonical_size (question b)) small));
+      together = rw append-nil (omega (arith, together, size-kept b asked e));
     }
 
 -- ---- every question that is read

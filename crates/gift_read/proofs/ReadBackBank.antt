@@ -1,5 +1,6 @@
 -- Banks, read back question by question.
 use Rattle.std.proofs.Common.{◌≡◌, ℕ, ◌≤◌, Bool, true, not, ◌==◌, List, [], ◌∷◌, ◌++◌, map, encode_utf8_all, Result, Ok, refl, sym, ap, ◌∙◌, append_assoc, codes}
+use Rattle.std.specs.Char.{encode_utf8}
 use Rattle.std.specs.List.{enumerate_from}
 use Rattle.std.specs.Str.{chars}
 use Rattle.std.proofs.Math.Utf8.{scalars}
@@ -31,6 +32,11 @@ pub record IsPlainText (text cs : List ℕ) : Type 0 where
   pub is : text ≡ encode_utf8_all cs
   pub scalar : scalars cs ≡ true
   pub no_return : has_no_return cs ≡ true
+
+-- what ends a block
+pub feeds_text : IsPlainText (10 ∷ 10 ∷ []) (10 ∷ 10 ∷ [])
+unfolding encode_utf8
+feeds_text = record { is = refl; scalar = refl; no_return = refl }
 
 pub plain_text-append : (text more cs ds : List ℕ) → IsPlainText text cs → IsPlainText more ds → IsPlainText (text ++ more) (cs ++ ds)
 plain_text-append text more cs ds first second = record {

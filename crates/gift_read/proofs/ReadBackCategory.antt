@@ -20,7 +20,7 @@ use Rattle.qz_grading.specs.Canonical.{category_name, category_path, begins_with
 use Rattle.gift_write.proofs.EscapeLemmas.{category_name-other}
 use Rattle.gift_read.specs.declared.reading.Entry.{Entry}
 use Rattle.gift_read.specs.declared.reading.Entry.TheVariants as entry
-use Rattle.gift_read.specs.Places.{Marks, character, is_blank}
+use Rattle.gift_read.specs.Places.{Marks, is_blank}
 use Rattle.gift_read.specs.Texts.{spelled, text_of}
 use Rattle.gift_read.specs.Values.{question}
 use Rattle.gift_read.specs.Category as category
@@ -29,18 +29,14 @@ use Rattle.gift_read.specs.Faults.{when, flaws_in, flaws, or_large, broken, most
 use Rattle.gift_read.specs.Gift.{Fault, told_by, told, followed, items_of}
 use Rattle.gift_read.specs.Written as ink
 use Rattle.gift_read.proofs.ReadBackPlaces.{trimmed-around}
-use Rattle.gift_read.proofs.ReadBackMarks.{Spells-single}
+use Rattle.gift_read.proofs.ReadBackMarks.{plain-characters, Spells-single}
 use Rattle.gift_read.proofs.ReadBackLines.{is_feedless, between_feeds-lines}
 use Rattle.gift_read.proofs.ReadBackWriting.{scalars-all}
-use Rattle.gift_read.proofs.ReadBackBank.{IsPlainText, plain_text-append, blocks_from, ReadsItems}
+use Rattle.gift_read.proofs.ReadBackBank.{IsPlainText, plain_text-append, feeds_text, blocks_from, ReadsItems}
 
 slash_text : IsPlainText (47 ∷ []) (47 ∷ [])
 unfolding encode_utf8
 slash_text = record { is = refl; scalar = refl; no_return = refl }
-
-feeds_text : IsPlainText (10 ∷ 10 ∷ []) (10 ∷ 10 ∷ [])
-unfolding encode_utf8
-feeds_text = record { is = refl; scalar = refl; no_return = refl }
 
 word_text : IsPlainText (codes "$CATEGORY: ") (codes "$CATEGORY: ")
 unfolding encode_utf8
@@ -197,10 +193,6 @@ path-feedless (name ∷ next ∷ path) names =
     ∙ rw (list_all-name (λ c. not (c == 10)) refl (chars name) names.0.feedless) (path-feedless (next ∷ path) names.1)
 
 -- ---- the names are read
-
-plain-characters : (cs : List ℕ) → map character (map Plain cs) ≡ cs
-plain-characters [] = refl
-plain-characters (c ∷ cs) = ap (λ (t : List ℕ). c ∷ t) (plain-characters cs)
 
 name-read : (name : List ℕ) (space : Marks) → ink.IsText name → is_blank space ≡ true → text_of (space ++ map Plain (chars name)) ≡ name
 name-read name space is blank =

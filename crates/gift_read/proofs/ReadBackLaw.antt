@@ -19,6 +19,8 @@ use Rattle.gift_read.proofs.ReadBackBank.{IsQuestionText, ReadsItems, reads-none
 use Rattle.gift_read.proofs.ReadBackKinds.{IsFramed, asks-description, asks-essay, asks-truth}
 use Rattle.gift_read.proofs.ReadBackMatching.{asks-matching}
 use Rattle.gift_read.proofs.ReadBackChoices.{asks-one, asks-several}
+use Rattle.gift_read.proofs.ReadBackShort.{asks-short}
+use Rattle.gift_read.proofs.ReadBackNumerical.{asks-numerical}
 use Rattle.gift_read.proofs.ReadBackCategory.{reads-category}
 
 -- ---- every kind
@@ -30,8 +32,8 @@ asks-kind name r general (kind.TrueFalse right on_wrong on_right) is own whole d
 asks-kind name r general (kind.One choices) is own whole described = asks-one name r general choices is own whole
 asks-kind name r general (kind.Several choices) is own whole described = asks-several name r general choices is own whole
 asks-kind name r general (kind.Matching pairs) is own whole described = asks-matching name r general pairs is own whole
-asks-kind name r general (kind.ShortAnswer answers) is own whole described = absurd own
-asks-kind name r general (kind.Numerical answers) is own whole described = absurd own
+asks-kind name r general (kind.ShortAnswer answers) is own whole described = asks-short name r general answers is own whole
+asks-kind name r general (kind.Numerical answers) is own whole described = asks-numerical name r general answers is own whole
 
 written-whole : (q : Question) → IsWritten q → question_with q.name q.text q.general q.kind ≡ q
 written-whole q is =

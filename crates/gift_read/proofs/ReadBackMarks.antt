@@ -7,7 +7,7 @@ use Rattle.std.proofs.lemmas.List.{append-nil}
 use Rattle.std.proofs.lemmas.Grind.{flat_map-append}
 use Rattle.std.proofs.lemmas.Str.{encode_ascii, encodes-append}
 use Rattle.gift_lex.specs.declared.block.Piece.{Piece}
-use Rattle.gift_lex.specs.declared.block.Piece.TheVariants.{Escaped, Plain}
+use Rattle.gift_lex.specs.declared.block.Piece.TheVariants.{Escaped, Sign, Plain}
 use Rattle.gift_lex.specs.Blocks as lex
 use Rattle.gift_lex.specs.Blocks.{marks_of, single}
 use Rattle.qz_grading.specs.Canonical as canonical
@@ -49,6 +49,22 @@ pub text_marks-plain : (cs : List ℕ) → are_plain (text_marks cs) ≡ true
 text_marks-plain [] = refl
 text_marks-plain (c ∷ cs) = rw (text_mark-plain c) (text_marks-plain cs)
 
+-- a character without a backslash, as it stands
+pub single-character : (c : ℕ) → character (single c) ≡ c
+single-character c = go (lex.is_sign c)
+  where
+    go : (b : Bool) → character (cond b (Sign c) (Plain c)) ≡ c
+    go true = refl
+    go false = refl
+
+pub single-characters : (cs : List ℕ) → map character (map single cs) ≡ cs
+single-characters [] = refl
+single-characters (c ∷ cs) = rw (single-character c, single-characters cs) refl
+
+pub plain-characters : (cs : List ℕ) → map character (map Plain cs) ≡ cs
+plain-characters [] = refl
+plain-characters (c ∷ cs) = ap (λ (t : List ℕ). c ∷ t) (plain-characters cs)
+
 -- ---- what characters are as marks
 
 -- whatever follows them
@@ -66,7 +82,7 @@ Spells-append cs ds ms ns first second = record {
 pub Spells-marks : (cs : List ℕ) (ms : Marks) → Spells cs ms → marks_of cs ≡ ms
 Spells-marks cs ms spells = ap marks_of (sym (append-nil cs)) ∙ spells.same [] ∙ append-nil ms
 
-marks_of-single : (c : ℕ) (rest : List ℕ) → (c == 92) ≡ false → marks_of (c ∷ rest) ≡ single c ∷ marks_of rest
+pub marks_of-single : (c : ℕ) (rest : List ℕ) → (c == 92) ≡ false → marks_of (c ∷ rest) ≡ single c ∷ marks_of rest
 marks_of-single c [] other = refl
 marks_of-single c (d ∷ rest) other = rw other refl
 

@@ -1,15 +1,13 @@
 -- Matching questions, read back.
-use Rattle.std.proofs.Common.{◌≡◌, ◌≢◌, ℕ, Bool, true, false, cond, not, ◌&&◌, ◌||◌, ◌==◌, List, [], ◌∷◌, ◌++◌, map, flat_map, length, encode_utf8_all, refl, sym, ap, ◌∙◌, append_assoc, append-nil, codes, subst, nat_lt, arith}
+use Rattle.std.proofs.Common.{◌≡◌, ◌≢◌, ℕ, Bool, true, false, not, ◌||◌, ◌==◌, List, [], ◌∷◌, ◌++◌, map, length, encode_utf8_all, refl, sym, ap, ◌∙◌, append_assoc, append-nil, codes, nat_lt, arith}
 use Rattle.std.specs.Char.{encode_utf8}
 use Rattle.std.specs.Str.{chars}
-use Rattle.std.proofs.lemmas.Bool.{or_parts, le-ltb}
+use Rattle.std.proofs.lemmas.Bool.{le-ltb}
 use Rattle.std.proofs.lemmas.List.{map-append}
 use Rattle.std.proofs.lemmas.List.Folds.{list_all-append}
 use Rattle.std.proofs.lemmas.Str.{encodes-chars}
 use Rattle.gift_lex.specs.declared.block.Piece.TheVariants.{Sign, Plain}
-use Rattle.gift_lex.specs.Blocks as lex
 use Rattle.qz_grading.specs.declared.question.Format.{Format}
-use Rattle.qz_grading.specs.declared.question.Format.TheVariants as format
 use Rattle.qz_grading.specs.declared.question.Kind.TheVariants as kind
 use Rattle.qz_grading.specs.declared.question.Pair.{Pair}
 use Rattle.qz_grading.specs.declared.question.Rich.{Rich}
@@ -18,89 +16,30 @@ use Rattle.qz_grading.specs.Canonical.{format_mark, escaped, rich_text, pair_pie
 use Rattle.qz_grading.specs.Questions as sound
 use Rattle.gift_read.specs.declared.places.Landmark.TheVariants as landmark
 use Rattle.gift_read.specs.declared.parts.Sort.TheVariants as sort
-use Rattle.gift_read.specs.Places.{Marks, character, is_at, is_blank, signs_at, before, occurs, trimmed}
+use Rattle.gift_read.specs.Places.{Marks, character, is_at, is_blank, signs_at, before, occurs}
 use Rattle.gift_read.specs.Texts.{spelled, text_of, rich_of}
 use Rattle.gift_read.specs.Parts.{Part, sort_in}
 use Rattle.gift_read.specs.Values.{question_with, pair_of}
 use Rattle.gift_read.specs.Written as written
 use Rattle.gift_read.specs.Written.{IsText, IsRich, IsPair, Each, has_arrow}
-use Rattle.gift_read.proofs.ReadBackPlaces.{Passes, passes-nil, passes-cons, passes-append, passes-plain, passes-occurs, found-before, found-from, found-occurs, are_plain, ends_ink, trimmed-around}
+use Rattle.gift_read.proofs.ReadBackPlaces.{Passes, passes-cons, passes-plain, passes-occurs, found-before, found-from, found-occurs, are_plain, ends_ink, trimmed-around}
 use Rattle.gift_read.proofs.ReadBackMarks.{text_marks-characters, text_marks-plain}
-use Rattle.gift_read.proofs.ReadBackRich.{marks_of_text, is_marked, rich_characters, written_characters, rich_marks, rich_marks-plain, rich_of-around, spelled-own}
+use Rattle.gift_read.proofs.ReadBackRich.{marks_of_text, rich_characters, written_characters, rich_marks, rich_marks-plain, rich_of-around, spelled-own}
+use Rattle.gift_read.proofs.ReadBackArrows.{passes-arrow, rich-arrow}
 use Rattle.gift_read.proofs.ReadBackTruth.{sort_by}
-use Rattle.gift_read.proofs.ReadBackParts.{gap_before}
 use Rattle.gift_read.proofs.ReadBackTold.{IsFaultless}
 use Rattle.gift_read.proofs.ReadBackBank.{IsQuestionText}
 use Rattle.gift_read.proofs.ReadBackWriting.{Writes, Writes-append, Writes-ascii, Writes-rich, Writes-text}
 use Rattle.gift_read.proofs.ReadBackPieces
 use Rattle.gift_read.proofs.ReadBackPieces.{parts_marks, spaced, from_first, gap, IsPart, AreParts, EachPasses, EachEnds, IsPieceLine, ReadsPiece}
 use Rattle.gift_read.proofs.ReadBackKinds.{IsFramed, Writes-opening}
-use Rattle.gift_read.proofs.ReadBackLayout.{Known, known, known-items, flat_map-known, ReadsAnswers, asks-lines}
+use Rattle.gift_read.proofs.ReadBackLayout.{Known, known, known-items, flat_map-known, IsPiece, reads-pieces, asks-items}
 
 abbrev arrow : Marks
 arrow = Plain 32 ∷ Plain 45 ∷ Plain 62 ∷ Plain 32 ∷ []
 
 abbrev pair_part : Format → Pair → Part
 pair_part f p = (61, rich_marks f p.stem ++ arrow ++ marks_of_text p.answer)
-
--- ---- arrows
-
-occurs-arrow : (marks : Marks) → occurs (is_at landmark.Arrow) marks ≡ has_arrow (map character marks)
-occurs-arrow [] = refl
-occurs-arrow (m ∷ []) = go (character m == 45)
-  where
-    go : (b : Bool) → ((b && false) || false) ≡ false
-    go true = refl
-    go false = refl
-occurs-arrow (m ∷ n ∷ marks) = rw (occurs-arrow (n ∷ marks)) (go (character m == 45) (character n == 62))
-  where
-    go : (b c : Bool) → ((b && (c && true)) || has_arrow (map character (n ∷ marks))) ≡ ((b && c) || has_arrow (map character (n ∷ marks)))
-    go true true = refl
-    go true false = refl
-    go false c = refl
-
--- a space stands behind
-passes-arrow : (marks : Marks) → occurs (is_at landmark.Arrow) marks ≡ false → Passes (is_at landmark.Arrow) (marks ++ Plain 32 ∷ [])
-passes-arrow [] none = passes-cons (is_at landmark.Arrow) (Plain 32) [] (λ ys. refl) (passes-nil (is_at landmark.Arrow))
-passes-arrow (m ∷ []) none =
-    passes-cons (is_at landmark.Arrow) m (Plain 32 ∷ []) (λ ys. go (character m == 45)) (passes-arrow [] refl)
-  where
-    go : (b : Bool) → (b && false) ≡ false
-    go true = refl
-    go false = refl
-passes-arrow (m ∷ n ∷ marks) none =
-    let parts = or_parts (is_at landmark.Arrow (m ∷ n ∷ marks)) (occurs (is_at landmark.Arrow) (n ∷ marks)) none in
-    passes-cons (is_at landmark.Arrow) m (n ∷ marks ++ Plain 32 ∷ []) (λ ys. parts.0) (passes-arrow (n ∷ marks) parts.1)
-
--- no arrow in a stem as it is written
-mark_arrow : (f : Format) (cs : List ℕ) → has_arrow (format_mark f ++ cs) ≡ has_arrow cs
-mark_arrow format.Moodle [] = refl
-mark_arrow format.Moodle (c ∷ cs) = refl
-mark_arrow format.Html [] = refl
-mark_arrow format.Html (c ∷ cs) = refl
-mark_arrow format.Plain [] = refl
-mark_arrow format.Plain (c ∷ cs) = refl
-mark_arrow format.Markdown [] = refl
-mark_arrow format.Markdown (c ∷ cs) = refl
-
-single-characters : (f : Format) (b : Bool) → map character (map lex.single (cond b (format_mark f) [])) ≡ cond b (format_mark f) []
-single-characters f false = refl
-single-characters format.Moodle true = refl
-single-characters format.Html true = refl
-single-characters format.Plain true = refl
-single-characters format.Markdown true = refl
-
-rich-arrow : (f : Format) (r : Rich) → has_arrow (chars r.text) ≡ false → occurs (is_at landmark.Arrow) (rich_marks f r) ≡ false
-rich-arrow f r none =
-    occurs-arrow (rich_marks f r)
-    ∙ ap has_arrow (map-append character (map lex.single (cond (is_marked f r) (format_mark r.format) [])) (marks_of_text r.text))
-    ∙ ap (λ (t : List ℕ). has_arrow (t ++ map character (marks_of_text r.text))) (single-characters r.format (is_marked f r))
-    ∙ ap (λ (t : List ℕ). has_arrow (cond (is_marked f r) (format_mark r.format) [] ++ t)) (text_marks-characters (chars r.text))
-    ∙ go (is_marked f r)
-  where
-    go : (b : Bool) → has_arrow (cond b (format_mark r.format) [] ++ chars r.text) ≡ false
-    go true = mark_arrow r.format (chars r.text) ∙ none
-    go false = none
 
 -- ---- one pair
 
@@ -186,6 +125,9 @@ pair-ends f t =
     ∙ ReadBackPieces.ends-behind (map character (Sign 61 ∷ (stem ++ arrow))) cs some
     ∙ t.1.answer.ends
 
+pair-piece : (f : Format) (t : Known (IsPair f)) → IsPiece (pair_part f t.0)
+pair-piece f t = record { begins = refl; ends = pair-ends f t; closed = pair-passes 125 [] f t refl; no_hashes = pair-passes 35 (35 ∷ 35 ∷ 35 ∷ []) f t refl }
+
 pair-begins : (f : Format) (t : Known (IsPair f)) → IsPart (is_at landmark.Equals) (pair_part f t.0)
 pair-begins f t = record { passes = passes-plain 61 [] (pair_part f t.0).1 (pair-plain f t.0); begins = λ ys. refl }
 
@@ -201,29 +143,6 @@ matching-sort f t ps no_tilde =
     ap (λ (x : Bool). sort_by false x true (occurs here a) (before (is_at landmark.Hash) a)) no_tilde
     ∙ ap (λ (x : Bool). sort_by false false true x (before (is_at landmark.Hash) a)) arrows
 
-reads-matching : (f : Format) (p : Pair) (pairs : List Pair) (each : Each (IsPair f) (p ∷ pairs)) (none : Bool)
-    → ReadsAnswers f [] (map (λ (t : Known (IsPair f)). ReadBackPieces.piece_line (characters_written f t) (part_of f t)) (known (IsPair f) (p ∷ pairs) each)) none
-    (from_first (pair_part f p) (map (part_of f) (known (IsPair f) pairs each.1))) sort.Matching (kind.Matching (p ∷ pairs))
-reads-matching f p pairs each none =
-    let ts = known (IsPair f) (p ∷ pairs) each in
-    let ps = map (part_of f) (known (IsPair f) pairs each.1) in
-    let first = pair_part f p in
-    let marks = ReadBackPieces.joined_marks-items (characters_written f) (part_of f) ts in
-    let whole = ap (λ (m : Marks). m ++ gap_before none) marks in
-    let pass = λ (s : ℕ) (ss : List ℕ) (other : (61 == s) ≡ false). ReadBackPieces.all-pass (signs_at (s ∷ ss)) (part_of f) ts (λ t. pair-passes s ss f t other) in
-    let through = λ (s : ℕ) (ss : List ℕ) (other : (61 == s) ≡ false). passes-append (signs_at (s ∷ ss)) (parts_marks (first ∷ ps)) (gap_before none)
-    (ReadBackPieces.passes-parts (signs_at (s ∷ ss)) (first ∷ ps) (passes-plain s ss gap refl) (pass s ss other))
-    (ReadBackPieces.passes-gap_before (signs_at (s ∷ ss)) none (passes-plain s ss (Plain 10 ∷ []) refl) (passes-plain s ss gap refl)) in
-    let no_tilde = passes-occurs (signs_at (126 ∷ [])) (from_first first ps) (ReadBackPieces.passes-from_first (signs_at (126 ∷ [])) first ps (passes-plain 126 [] gap refl) (pass 126 [] refl)) in
-    record {
-      no_hashes = ap (occurs (is_at landmark.Hashes)) whole ∙ passes-occurs (is_at landmark.Hashes) (parts_marks (first ∷ ps) ++ gap_before none) (through 35 (35 ∷ 35 ∷ 35 ∷ []) refl);
-      closed = subst (λ (m : Marks). Passes (is_at landmark.Closing) m) (sym whole) (through 125 [] refl);
-      left = ap trimmed whole ∙ ReadBackPieces.trimmed-parts first ps none refl (ReadBackPieces.all-end (part_of f) ts (pair-ends f));
-      sort = matching-sort f (p, each.0) ps no_tilde;
-      kind = ap (λ (qs : List Part). kind.Matching (map (pair_of f) qs)) (ReadBackPieces.pieces-parts (is_at landmark.Equals) 61 first ps (passes-plain 61 [] gap refl) (ReadBackPieces.all-parts (is_at landmark.Equals) (part_of f) ts (pair-begins f)))
-          ∙ ap kind.Matching (ReadBackPieces.map-spaced (pair_of f) (part_of f) (λ (t : Known (IsPair f)). t.0) ts (λ t. reads-pair f t.0 t.1) ∙ known-items (IsPair f) (p ∷ pairs) each);
-    }
-
 pub asks-matching : (name : List ℕ) (r general : Rich) (pairs : List Pair) → IsFramed name r general (kind.Matching pairs) → Each (IsPair r.format) pairs → sound.IsSound (kind.Matching pairs)
     → IsQuestionText (question_with name r general (kind.Matching pairs))
 asks-matching name r general [] is each whole = absurd (omega (arith, whole.enough))
@@ -234,7 +153,13 @@ asks-matching name r general (p ∷ pairs) is each whole =
     let bytes = flat_map-known (IsPair f) (pair_piece f) (p ∷ pairs) each in
     let few = le-ltb 64 (length (p ∷ pairs)) whole.few in
     let enough = le-ltb (length (p ∷ pairs)) 2 whole.enough in
-    let a = from_first (pair_part f p) (map (part_of f) (known (IsPair f) pairs each.1)) in
+    let first : Known (IsPair f) = (p, each.0) in
+    let later = known (IsPair f) pairs each.1 in
+    let ps = map (part_of f) later in
+    let a = from_first (pair_part f p) ps in
+    let no_tilde = passes-occurs (signs_at (126 ∷ [])) a (ReadBackPieces.passes-from_first (signs_at (126 ∷ [])) (pair_part f p) ps (passes-plain 126 [] gap refl) (ReadBackPieces.all-pass (signs_at (126 ∷ [])) (part_of f) ts (λ t. pair-passes 126 [] f t refl))) in
+    let cut = ReadBackPieces.pieces-parts (is_at landmark.Equals) 61 (pair_part f p) ps (passes-plain 61 [] gap refl) (ReadBackPieces.all-parts (is_at landmark.Equals) (part_of f) ts (pair-begins f)) in
+    let value = ap (map (pair_of f)) cut ∙ ReadBackPieces.map-spaced (pair_of f) (part_of f) (λ (t : Known (IsPair f)). t.0) ts (λ t. reads-pair f t.0 t.1) ∙ known-items (IsPair f) (p ∷ pairs) each in
     let faultless : IsFaultless q sort.Matching a = record {
       short = ap (λ (x : Bool). not x || nat_lt 64 (length (p ∷ pairs))) is.short ∙ few;
       pieces = refl;
@@ -246,9 +171,11 @@ asks-matching name r general (p ∷ pairs) is each whole =
       feedback = refl;
       right = refl;
     } in
-    asks-lines name r general (kind.Matching (p ∷ pairs)) (codes "{") (flat_map (λ (t : Known (IsPair f)). canonical.line (text_written f t)) ts) [] (map (λ (t : Known (IsPair f)). ReadBackPieces.piece_line (characters_written f t) (part_of f t)) ts) a sort.Matching is
+    asks-items name r general (kind.Matching (p ∷ pairs)) (codes "{") [] (text_written f) (characters_written f) (part_of f) ts a sort.Matching is
     (ap (λ (b : List ℕ). canonical.in_lines (codes "{") b f general) bytes)
     Writes-opening
-    (ReadBackPieces.lines-items (text_written f) (characters_written f) (part_of f) ts (λ t. pair-line f t.0 t.1))
-    (reads-matching f p pairs each (is_nothing general.text))
+    (λ t. pair-line f t.0 t.1)
+    (reads-pieces (characters_written f) (part_of f) first later (is_nothing general.text) (pair-piece f))
+    (matching-sort f first ps no_tilde)
+    (ap kind.Matching value)
     faultless

@@ -21,7 +21,7 @@ use Rattle.gift_read.proofs.ReadBackFrame.{named_marks, braced}
 use Rattle.gift_read.proofs.ReadBackGeneral.{hashes, with_general}
 use Rattle.gift_read.proofs.ReadBackLines.{IsLine, Line, AreLines, joined, joined_marks}
 use Rattle.gift_read.proofs.ReadBackTold.{IsRead}
-use Rattle.gift_read.proofs.ReadBackBank.{IsPlainText, plain_text-append, IsQuestionText}
+use Rattle.gift_read.proofs.ReadBackBank.{IsPlainText, plain_text-append, feeds_text, IsQuestionText}
 use Rattle.gift_read.proofs.ReadBackWriting.{Writes, Writes-append, Writes-ascii, Writes-rich, front_text, front_characters, front_marks, Writes-front, front_marks-named}
 
 -- ---- lines, each with its line feed behind it
@@ -110,10 +110,6 @@ in_braces-shifted : (front opening : List ℕ) (ls : List Line) → (front ++ ((
 in_braces-shifted front opening ls =
     ap (λ (t : List ℕ). front ++ t) (append_assoc (opening ++ 10 ∷ []) (ended ls) (125 ∷ []) ∙ append_assoc opening (10 ∷ []) (ended ls ++ 125 ∷ []) ∙ ap (λ (t : List ℕ). opening ++ t) (shifted ls))
     ∙ sym (append_assoc front opening (joined (ls ++ (125 ∷ [], Sign 125 ∷ []) ∷ [])))
-
-feeds_text : IsPlainText (10 ∷ 10 ∷ []) (10 ∷ 10 ∷ [])
-unfolding encode_utf8
-feeds_text = record { is = refl; scalar = refl; no_return = refl }
 
 plain_text-same : (text cs ds : List ℕ) → cs ≡ ds → IsPlainText text cs → IsPlainText text ds
 plain_text-same text cs ds same is = record { is = is.is ∙ ap encode_utf8_all same; scalar = ap scalars (sym same) ∙ is.scalar; no_return = ap has_no_return (sym same) ∙ is.no_return }

@@ -1,6 +1,7 @@
 -- Places in marks that are put together.
-use Rattle.std.proofs.Common.{◌≡◌, ℕ, Bool, true, false, ◌&&◌, ◌||◌, List, [], ◌∷◌, ◌++◌, map, refl, sym, ap, ◌∙◌, append_assoc}
+use Rattle.std.proofs.Common.{◌≡◌, ℕ, Bool, true, false, List, [], ◌∷◌, ◌++◌, map, refl, sym, ap, ◌∙◌, append_assoc}
 use Rattle.std.specs.List.{list_all}
+use Rattle.std.proofs.Math.Bool.{and-false, or-true}
 use Rattle.std.proofs.lemmas.Bool.{and_parts, not-true}
 use Rattle.std.proofs.lemmas.List.{append-nil}
 use Rattle.std.proofs.lemmas.List.Folds.{list_all-append}
@@ -55,17 +56,12 @@ found-from here xs m ys passes holds = passes.from_is (m ∷ ys) ∙ rw holds re
 
 -- ---- the last place, behind which there is none
 
-occurs-behind : (here : Marks → Bool) (xs : Marks) (m : Piece) (ys : Marks) → here (m ∷ ys) ≡ true → occurs here (xs ++ m ∷ ys) ≡ true
-occurs-behind here [] m ys holds = rw holds refl
-occurs-behind here (x ∷ xs) m ys holds = rw (occurs-behind here xs m ys holds) (go (here (x ∷ (xs ++ m ∷ ys))))
-  where
-    go : (b : Bool) → (b || true) ≡ true
-    go true = refl
-    go false = refl
+pub occurs-later : (here : Marks → Bool) (xs ys : Marks) → occurs here ys ≡ true → occurs here (xs ++ ys) ≡ true
+occurs-later here [] ys found = found
+occurs-later here (x ∷ xs) ys found = rw (occurs-later here xs ys found) (or-true (here (x ∷ (xs ++ ys))))
 
-and-false : (b : Bool) → (b && false) ≡ false
-and-false true = refl
-and-false false = refl
+occurs-behind : (here : Marks → Bool) (xs : Marks) (m : Piece) (ys : Marks) → here (m ∷ ys) ≡ true → occurs here (xs ++ m ∷ ys) ≡ true
+occurs-behind here xs m ys holds = occurs-later here xs (m ∷ ys) (rw holds refl)
 
 not_last : (here : Marks → Bool) (x : Piece) (xs : Marks) (m : Piece) (ys : Marks) → here (m ∷ ys) ≡ true → is_last here (x ∷ (xs ++ m ∷ ys)) ≡ false
 not_last here x xs m ys holds = rw (occurs-behind here xs m ys holds) (and-false (here (x ∷ (xs ++ m ∷ ys))))

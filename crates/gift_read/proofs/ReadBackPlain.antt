@@ -91,7 +91,7 @@ abbrev pub essay_inner : Bool → Marks → Marks
 essay_inner true general = []
 essay_inner false general = Plain 10 ∷ Plain 9 ∷ (hashes ++ (general ++ (Plain 10 ∷ [])))
 
-plain-behind : (marks : Marks) → are_plain marks ≡ true → are_plain (marks ++ (Plain 10 ∷ [])) ≡ true
+pub plain-behind : (marks : Marks) → are_plain marks ≡ true → are_plain (marks ++ (Plain 10 ∷ [])) ≡ true
 plain-behind marks plain = list_all-append _ marks (Plain 10 ∷ []) ∙ rw plain refl
 
 pub reads-essay : (b : Block) (name : List ℕ) (r general : Rich) → IsText name → name ≢ [] → IsText r.text → IsRich r.format general

@@ -1,4 +1,4 @@
--- A weight is read as it is written.
+-- Digits with a point among them: what they are worth, and that a weight is read as it is written.
 use Rattle.std.proofs.Common.{◌≡◌, ℕ, zero, suc, ◌+◌, ◌-◌, ◌*◌, ◌/◌, ◌%◌, ◌^◌, ◌<◌, ◌≤◌, Bool, true, false, cond, ◌==◌, ◌&&◌, List, [], ◌∷◌, ◌++◌, length, replicate, Option, Some, None, refl, sym, ap, ◌∙◌, arith, inl, ◌⊎◌, IfSome, IsTrue}
 use Rattle.std.specs.Fmt.{decimal}
 use Rattle.std.specs.Str.{all_ascii_digits}
@@ -70,7 +70,7 @@ value-cons d ds = digits_value-append (d ∷ []) ds
 nought : (n : ℕ) → 0 * n ≡ 0
 nought n = omega arith
 
-pow-split : (m n : ℕ) → n ≤ m → 10 ^ n * 10 ^ (m - n) ≡ 10 ^ m
+pub pow-split : (m n : ℕ) → n ≤ m → 10 ^ n * 10 ^ (m - n) ≡ 10 ^ m
 pow-split m n le = let all : n + (m - n) ≡ m = omega arith in sym (pow-add 10 n (m - n)) ∙ ap (λ (k : ℕ). 10 ^ k) all
 
 -- a digit before others, each side times the same power
@@ -96,46 +96,53 @@ shorter-value (d ∷ ds) = go ((d == 48) && is_nothing (without_zeros ds)) refl 
         (pow-split (length ds) (length (without_zeros ds)) (shorter-length ds)) before (value-cons d (without_zeros ds))
         ∙ sym (value-cons d ds)
 
--- ---- five places of a percentage
+-- ---- so many places behind the point
 
-abbrev pub places : ℕ → List ℕ
-places part = without_zeros (in_digits 5 part)
+-- both sides of the point fit in 64 bits
+pub record IsSized (k n : ℕ) : Type 0 where
+  pub some : 0 < k
+  pub whole : n / 10 ^ k < 2 ^ 64
+  pub part : n % 10 ^ k < 10 ^ k
+  pub fits : n % 10 ^ k < 2 ^ 64
 
-abbrev decimals_of : List ℕ → Option (List ℕ)
+abbrev pub places : ℕ → ℕ → List ℕ
+places k part = without_zeros (in_digits k part)
+
+abbrev pub decimals_of : List ℕ → Option (List ℕ)
 decimals_of [] = None
 decimals_of (d ∷ ds) = Some (d ∷ ds)
 
-behind_point-text : (ds : List ℕ) → behind_point ds ≡ point_text (decimals_of ds)
+pub behind_point-text : (ds : List ℕ) → behind_point ds ≡ point_text (decimals_of ds)
 behind_point-text [] = refl
 behind_point-text (d ∷ ds) = refl
 
-places-units : (part : ℕ) → part < 10 ^ 5 → digits_value 10 (places part) * 10 ^ (5 - length (places part)) ≡ part
-places-units part fits =
-    let all = in_digits-length 5 part (omega arith) fits (omega arith) in
-    ap (λ (k : ℕ). digits_value 10 (places part) * 10 ^ (k - length (places part))) (sym all) ∙ shorter-value (in_digits 5 part) ∙ in_digits-value 5 part (omega arith)
+pub record IsPlaces (k : ℕ) (ds : List ℕ) (part : ℕ) : Type 0 where
+  pub each : all_ascii_digits ds ≡ true
+  pub few : length ds ≤ k
+  pub units : digits_value 10 ds * 10 ^ (k - length ds) ≡ part
 
-point_units-places : (ds : List ℕ) (part : ℕ) → digits_value 10 ds * 10 ^ (5 - length ds) ≡ part → point_units 5 (decimals_of ds) ≡ part
-point_units-places [] part e = sym (nought (10 ^ 5)) ∙ e
-point_units-places (d ∷ ds) part e = e
+pub is_places : (k n : ℕ) → IsSized k n → IsPlaces k (places k (n % 10 ^ k)) (n % 10 ^ k)
+is_places k n is =
+    let part = n % 10 ^ k in
+    let all = in_digits-length k part is.some is.part is.fits in
+    record {
+      each = shorter-digits (in_digits k part) (in_digits-digits k part is.fits);
+      few = omega (arith, shorter-length (in_digits k part), all);
+      units = ap (λ (j : ℕ). digits_value 10 (places k part) * 10 ^ (j - length (places k part))) (sym all) ∙ shorter-value (in_digits k part) ∙ in_digits-value k part is.fits;
+    }
 
 -- ---- a weight
 
-record IsPlaces (ds : List ℕ) : Type 0 where
-  each : all_ascii_digits ds ≡ true
-  few : length ds ≤ 5
+pub sized-weight : (n : ℕ) → n ≤ one → IsSized 5 n
+sized-weight n le = record { some = omega arith; whole = omega arith; part = omega arith; fits = omega arith }
 
-pub places-digits : (part : ℕ) → part < 10 ^ 5 → all_ascii_digits (places part) ≡ true
-places-digits part fits = shorter-digits (in_digits 5 part) (in_digits-digits 5 part (omega arith))
+point_units-places : (k : ℕ) (ds : List ℕ) (part : ℕ) → IsPlaces k ds part → point_units k (decimals_of ds) ≡ part
+point_units-places k [] part is = sym (nought (10 ^ (k - 0))) ∙ is.units
+point_units-places k (d ∷ ds) part is = is.units
 
-is_places : (part : ℕ) → part < 10 ^ 5 → IsPlaces (places part)
-is_places part fits = record {
-  each = places-digits part fits;
-  few = omega (arith, shorter-length (in_digits 5 part), in_digits-length 5 part (omega arith) fits (omega arith));
-}
-
-formed-decimals : (ds : List ℕ) → IsPlaces ds → IfSome (decimals_of ds) (IsDigits 5)
-formed-decimals [] is = tt
-formed-decimals (d ∷ ds) is = record { each = is.each; few = is.few }
+formed-decimals : (k : ℕ) (ds : List ℕ) (part : ℕ) → IsPlaces k ds part → IfSome (decimals_of ds) (IsDigits k)
+formed-decimals k [] part is = tt
+formed-decimals k (d ∷ ds) part is = record { each = is.each; few = is.few }
 
 some_decimals : (ds : List ℕ) → IfSome (decimals_of ds) (λ decimals. (0 < length decimals) ⊎ IsTrue true)
 some_decimals [] = tt
@@ -145,16 +152,17 @@ pub size-spelled : (negative : Bool) (n : ℕ) → n ≤ one → IsSpelled perce
 size-spelled negative n le =
     let whole = n / 10 ^ 5 in
     let part = n % 10 ^ 5 in
-    let ds = places part in
-    let is = is_places part (omega arith) in
+    let ds = places 5 part in
+    let sized = sized-weight n le in
+    let is = is_places 5 n sized in
     let units : digits_value 10 (decimal whole) * 10 ^ 5 + point_units 5 (decimals_of ds) ≡ n =
-    rw (digits_value-decimal numerals whole (omega arith), point_units-places ds part (places-units part (omega arith))) (omega arith) in
+    rw (digits_value-decimal numerals whole sized.whole, point_units-places 5 ds part is) (omega arith) in
     record {
       parts = record { negative = negative; whole = decimal whole; decimals = decimals_of ds };
       formed = record {
-        whole = record { each = digits_decimal numerals whole (omega arith); few = length-decimal-le 3 whole (omega arith) (omega arith) (omega arith) };
-        some_whole = decimal_nonempty whole (omega arith);
-        decimals = formed-decimals ds is;
+        whole = record { each = digits_decimal numerals whole sized.whole; few = length-decimal-le 3 whole (omega arith) (omega arith) sized.whole };
+        some_whole = decimal_nonempty whole sized.whole;
+        decimals = formed-decimals 5 ds part is;
         some_decimals = some_decimals ds;
       };
       text_is = ap (λ (t : List ℕ). sign_text negative ++ (decimal whole ++ t)) (behind_point-text ds);

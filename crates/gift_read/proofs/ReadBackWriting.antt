@@ -25,7 +25,7 @@ use Rattle.gift_read.proofs.ReadBackRich.{written_characters, marks_of_text, esc
 use Rattle.gift_read.proofs.ReadBackFrame.{named_marks}
 use Rattle.gift_read.proofs.ReadBackLines.{is_feedless}
 use Rattle.gift_read.proofs.ReadBackTold.{IsRead}
-use Rattle.gift_read.proofs.ReadBackBank.{IsPlainText, plain_text-append, IsQuestionText}
+use Rattle.gift_read.proofs.ReadBackBank.{IsPlainText, plain_text-append, feeds_text, IsQuestionText}
 
 -- ---- text on one line
 
@@ -143,16 +143,12 @@ front_marks-named q rest =
 
 -- ---- a question on one line
 
-Writes-feeds : IsPlainText (10 ∷ 10 ∷ []) (10 ∷ 10 ∷ [])
-unfolding encode_utf8
-Writes-feeds = record { is = refl; scalar = refl; no_return = refl }
-
 pub one-line : (q : Question) (part cs : List ℕ) (marks : Marks) → IsText q.name → IsText q.text.text → answer_part q.kind q.text.format q.general ≡ part → Writes part cs marks
     → canonical_size q ≤ most_together
     → ((b : Block) → b.marks ≡ named_marks q.name (rich_marks format.Moodle q.text ++ marks) → IsRead b q) → IsQuestionText q
 one-line q part cs marks is_name is_text part_is writes small read =
     let whole = Writes-append (front_text q) part (front_characters q) cs (front_marks q) marks (Writes-front q is_name is_text) writes in
-    let text = plain_text-append (front_text q ++ part) (10 ∷ 10 ∷ []) (front_characters q ++ cs) (10 ∷ 10 ∷ []) whole.plain Writes-feeds in
+    let text = plain_text-append (front_text q ++ part) (10 ∷ 10 ∷ []) (front_characters q ++ cs) (10 ∷ 10 ∷ []) whole.plain feeds_text in
     record {
       first = (58 ∷ []) ++ written_characters q.name ++ (58 ∷ 58 ∷ []) ++ rich_characters format.Moodle q.text ++ cs;
       marks = front_marks q ++ marks;

@@ -6,14 +6,16 @@ use Rattle.qz_grading.specs.declared.question.Choice.{Choice}
 use Rattle.qz_grading.specs.declared.question.Format.{Format}
 use Rattle.qz_grading.specs.declared.question.Kind.{Kind}
 use Rattle.qz_grading.specs.declared.question.Kind.TheVariants as kind
+use Rattle.qz_grading.specs.declared.question.Num.{Num}
 use Rattle.qz_grading.specs.declared.question.Pair.{Pair}
 use Rattle.qz_grading.specs.declared.question.Question.{Question}
 use Rattle.qz_grading.specs.declared.question.Rich.{Rich}
+use Rattle.qz_grading.specs.declared.question.Short.{Short}
 use Rattle.qz_grading.specs.declared.question.Bank.{Bank}
 use Rattle.qz_grading.specs.declared.question.Item.{Item}
 use Rattle.qz_grading.specs.Canonical.{canonical, canonical_size}
 use Rattle.qz_grading.specs.Grading.{is_space}
-use Rattle.qz_grading.specs.Questions.{IsSound, are_no_longer, texts, is_weight}
+use Rattle.qz_grading.specs.Questions.{IsSound, are_no_longer, texts, is_weight, is_extent}
 use Rattle.gift_lex.specs.Blocks.{carriage_return, line_feed}
 use Rattle.gift_read.specs.Category.{slash}
 use Rattle.gift_read.specs.Gift.{reading}
@@ -75,6 +77,21 @@ pub record IsChoice (default : Format) (c : Choice) : Type 0 where
   pub some : c.text.text ≢ []
   pub feedback : IsRich default c.feedback
 
+-- A pattern isn't empty. An arrow in it, or in its feedback, would make the question one of matching.
+pub record IsAnswer (default : Format) (s : Short) : Type 0 where
+  pub weight : IsTrue (is_weight s.weight)
+  pub pattern : IsText s.pattern
+  pub some : s.pattern ≢ []
+  pub no_arrow : has_arrow (chars s.pattern) ≡ false
+  pub feedback : IsRich default s.feedback
+  pub no_arrow_behind : has_arrow (chars s.feedback.text) ≡ false
+
+-- a number, or numbers, with a weight
+pub record IsNumber (default : Format) (n : Num) : Type 0 where
+  pub weight : IsTrue (is_weight n.weight)
+  pub extent : IsTrue (is_extent n.extent)
+  pub feedback : IsRich default n.feedback
+
 -- the texts of a kind are such
 abbrev pub IsKind : Format → Kind → Type 0
 IsKind default kind.Description = Unit {0}
@@ -83,7 +100,8 @@ IsKind default (kind.TrueFalse right on_wrong on_right) = IsRich default on_wron
 IsKind default (kind.One choices) = Each (IsChoice default) choices
 IsKind default (kind.Several choices) = Each (IsChoice default) choices
 IsKind default (kind.Matching pairs) = Each (IsPair default) pairs
-IsKind default k = ⊥
+IsKind default (kind.ShortAnswer answers) = Each (IsAnswer default) answers
+IsKind default (kind.Numerical answers) = Each (IsNumber default) answers
 
 -- ---- questions
 
@@ -132,3 +150,11 @@ AreItems (i ∷ is) = IsItem i × AreItems is
 -- a bank of such questions is what its canonical text is read as
 pub record ReadsBack : Type 0 where
   pub same : (bank : Bank) → AreItems bank.items → reading (canonical bank) ≡ Ok bank
+
+-- each text that has a reading is read as a bank of such questions
+pub record ReadsWritten : Type 0 where
+  pub written : (text : List ℕ) (bank : Bank) → reading text ≡ Ok bank → AreItems bank.items
+
+-- Reading, writing and reading again gives what was read.
+pub record ReadsAgain : Type 0 where
+  pub same : (text : List ℕ) (bank : Bank) → reading text ≡ Ok bank → reading (canonical bank) ≡ Ok bank

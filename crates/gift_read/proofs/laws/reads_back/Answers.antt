@@ -1,6 +1,5 @@
 use Rattle.gift_read.proofs.ReadBackLaw.{reads_back}
-use Rattle.gift_read.proofs.ReadBackWeights as weights
 use Rattle.gift_read.proofs.laws.reads_back.Goals as goal
 
 pub returns : goal.returns
-returns c = let h = weights.numerals in reads_back
+returns c = reads_back
