@@ -1,6 +1,6 @@
 -- The one question of a bank, and what a version of it keeps.
-use Rattle.std.proofs.Common.{◌≡◌, ℕ, zero, suc, ◌≤◌, true, false, ◌==◌, List, [], ◌∷◌, ◌++◌, ◌+◌, ℤ, length, replicate, None, refl, arith}
-use Rattle.std.specs.Prelude.{IsTrue, sum_by}
+use Rattle.std.proofs.Common.{◌≡◌, ℕ, zero, suc, ◌≤◌, List, [], ◌∷◌, ◌++◌, ◌+◌, ℤ, length, map, replicate, refl, arith}
+use Rattle.std.specs.Prelude.{All, IfSome, IsTrue, sum_by}
 use Rattle.std.proofs.lemmas.List.{length-replicate}
 use Rattle.std.proofs.lemmas.List.Folds.{sum_by-replicate}
 use Rattle.std.proofs.lemmas.List.Sums.{sum_by-append}
@@ -31,14 +31,8 @@ version-is-question q penalty hints is written few = record {
   together = no-longer q hints is;
 }
 
--- ---- the one question
-
-pub none-or-more : (items : List Item) → (length items == 1) ≡ false → only_question items ≡ None
-none-or-more [] other = refl
-none-or-more (item ∷ []) other = absurd cc
-none-or-more (item ∷ next ∷ items) other = refl
-
-pub one-item : (items : List Item) → length items ≡ 1 → (item : Item) × (items ≡ item ∷ [])
-one-item [] one = absurd cc
-one-item (item ∷ []) one = (item, refl)
-one-item (item ∷ next ∷ items) one = absurd (omega (arith, one))
+-- the one question of a bank keeps what each of its questions keeps
+pub only-is-question : (items : List Item) → All IsQuestion (map (λ (i : Item). i.question) items) → IfSome (only_question items) IsQuestion
+only-is-question [] all = tt
+only-is-question (item ∷ []) all = all 0 item.question (omega arith)
+only-is-question (item ∷ next ∷ items) all = tt

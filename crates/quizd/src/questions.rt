@@ -1,8 +1,7 @@
 //! The question that the GIFT text of a word has.
 
-ghost use Rattle.std.specs.Prelude.{◌≡◌, ◌≤◌, [], map, replicate, All, IfOk, IfSome};
+ghost use Rattle.std.specs.Prelude.{◌≡◌, ◌≤◌, [], replicate, IfOk, IfSome};
 ghost use Rattle.qz_decimal.specs.Reading.{IsWrittenFraction};
-ghost use Rattle.qz_grading.specs.declared.question.Item.{Item};
 ghost use Rattle.qz_grading.specs.Questions.{IsQuestion};
 ghost use Rattle.quizd.specs.Replay.{only_question, question_of, as_version};
 
@@ -15,9 +14,7 @@ use std::alloc::Global;
 
 /// The question of a bank that has exactly one.
 fn only_question(mut items: Listed<Item>) -> Option<Question>
-    requires { All IsQuestion (map (λ (i : Item). i.question) items) }
-    ensures value { result ≡ only_question items }
-    ensures question { IfSome result IsQuestion }
+    ensures { result ≡ only_question items }
 {
     if items.items.len() != 1 {
         return None;

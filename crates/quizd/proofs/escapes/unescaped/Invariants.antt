@@ -3,8 +3,8 @@ use Rattle.quizd.specs.Words.{unescaped}
 use Rattle.quizd.proofs.GatheringLemmas.{in_front}
 use Rattle.quizd.proofs.escapes.unescaped.Given as goal
 
-abbrev pub invariant-loop-first : goal.invariant-loop-first
-invariant-loop-first l = in_front l.items.items (unescaped l.rest) ≡ unescaped l.word
+abbrev pub invariant-loop-rest : goal.invariant-loop-rest
+invariant-loop-rest l = in_front l.items.items (unescaped l.rest) ≡ unescaped l.word
 
-abbrev pub decreases-loop-first : goal.decreases-loop-first
-decreases-loop-first l = length l.rest
+abbrev pub decreases-loop-rest : goal.decreases-loop-rest
+decreases-loop-rest l = length l.rest
