@@ -1,8 +1,9 @@
 pub mod LineLemmas
 pub mod NumberLemmas
-pub mod NarrowLemmas
+pub mod VersionLemmas
 pub mod ReplayLemmas
 pub mod PartLemmas
+pub mod GatheringLemmas
 pub mod AskingLemmas
 pub mod PlayLemmas
 pub mod KeptLemmas

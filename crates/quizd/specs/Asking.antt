@@ -1,4 +1,4 @@
--- What a line of a script asks. No word of these requests is a text, so an escape in a word makes it malformed.
+-- What a line of a script asks.
 use Rattle.std.specs.Prelude.{◌≡◌, ℕ, ◌++◌, not, Bool, true, false, if◌then◌else◌, nat_lt, is_none, is_some, List, [], ◌∷◌, length, Option, Some, None, Result, Ok, Err, bytes_eq, codes}
 use Rattle.std.specs.Str.{is_utf8}
 use Rattle.qz_terms.specs.declared.ask.Ask.{Ask}
@@ -14,7 +14,8 @@ use Rattle.quizd.specs.declared.script_line.ScriptLine.{ScriptLine}
 use Rattle.quizd.specs.declared.script_line.ScriptLine.TheVariants as script
 use Rattle.quizd.specs.declared.asking.Verb.{Verb}
 use Rattle.quizd.specs.declared.asking.Verb.TheVariants as verb
-use Rattle.quizd.specs.Replay.{◌>>=◌, line_at as word_at, or_line as or_word, answer_of}
+use Rattle.quizd.specs.Answers.{answer_of}
+use Rattle.quizd.specs.Replay.{◌>>=◌, line_at as word_at, or_line as or_word}
 use Rattle.quizd.specs.Words.{words_of, moment_of, name_of, slot_of, certainty_of, attempt_of, token_of, key_of}
 
 -- the requests that are read so far

@@ -1,7 +1,8 @@
 pub mod Lines
+pub mod Words
+pub mod Answers
 pub mod Replay
 pub mod Readings
-pub mod Words
 pub mod Asking
 pub mod Inputs
 pub mod Replies

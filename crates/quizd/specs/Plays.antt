@@ -1,7 +1,6 @@
 -- A slot that is replayed: what a line asks for, what comes of it, and what is said of it.
-use Rattle.std.specs.Prelude.{◌≡◌, ℕ, ◌≤◌, ℤ, IfSome, List, [], ◌∷◌, ◌++◌, Some, None, Result, Ok, Err, if◌then◌else◌, codes}
+use Rattle.std.specs.Prelude.{◌≡◌, ℕ, ℤ, IfSome, List, [], ◌∷◌, ◌++◌, Some, None, Result, Ok, Err, if◌then◌else◌, codes}
 use Rattle.qz_decimal.specs.Numbers.{IsMaxMark}
-use Rattle.qz_decimal.specs.Reading.{IsWrittenFraction}
 use Rattle.qz_grading.specs.declared.outcome.Behaviour.{Behaviour}
 use Rattle.qz_grading.specs.declared.outcome.Moved.{Moved}
 use Rattle.qz_grading.specs.declared.outcome.Moved.TheVariants.{Kept, Same}
@@ -18,7 +17,6 @@ use Rattle.qz_grading.specs.Words.{state_word, mark_or_dash}
 use Rattle.quizd.specs.declared.asked.Asked.{Asked}
 use Rattle.quizd.specs.declared.asked.Asked.TheVariants as asked
 use Rattle.quizd.specs.declared.slot.Slot.{Slot}
-use Rattle.quizd.specs.Replay.{question_in}
 use Rattle.quizd.specs.Replies.{refused_words}
 
 -- a slot, and the steps taken on it
@@ -31,10 +29,10 @@ pub record IsPlayable (slot : Slot) : Type 0 where
   pub question : IsQuestion slot.question
   pub max : IsMaxMark slot.max
 
--- a Mark is out of the max mark that is bound, and a version has its numbers in range
+-- a Mark is out of the max mark that is bound, and a version has a question and a max mark in range
 abbrev pub IsAskable : ℤ → Asked → Type 0
 IsAskable max (asked.Step x) = IfSome (given x) (λ m. m.1 ≡ max)
-IsAskable max (asked.Bind v) = IsMaxMark v.max × IsWrittenFraction v.penalty × (v.hints ≤ 20)
+IsAskable max (asked.Bind v) = IsMaxMark v.max × IsQuestion v.question
 
 -- how the slot behaves, whose question may have a behaviour of its own
 abbrev pub behaves : Slot → Behaviour
@@ -52,11 +50,11 @@ bind_fate old newer = if same_shape (shape old) (shape newer) then Ok Kept else 
 
 abbrev pub fate : Play → Asked → Result Moved Refusal
 fate p (asked.Step x) = step_fate p x
-fate p (asked.Bind v) = bind_fate p.slot.question (question_in v)
+fate p (asked.Bind v) = bind_fate p.slot.question v.question
 
 abbrev pub kept : Play → Asked → Play
 kept p (asked.Step x) = record p { taken = p.taken ++ x ∷ [] }
-kept p (asked.Bind v) = record p { slot = record { behaviour = p.slot.behaviour; max = v.max; question = question_in v } }
+kept p (asked.Bind v) = record p { slot = record { behaviour = p.slot.behaviour; max = v.max; question = v.question } }
 
 -- what is refused or the same adds nothing
 abbrev pub after_fate : Result Moved Refusal → Play → Asked → Play

@@ -1,18 +1,16 @@
 -- The head of a replay text, and words of its lines.
-use Rattle.std.specs.Prelude.{ℕ, Bool, true, false, if◌then◌else◌, List, [], ◌∷◌, replicate, Option, Some, None, option_map, option_and_then, Result, Ok, Err, ℤ, pos, int_le, bytes_eq, codes}
+use Rattle.std.specs.Prelude.{ℕ, if◌then◌else◌, List, [], ◌∷◌, replicate, Option, Some, None, option_map, option_and_then, Result, Ok, Err, ℤ, pos, int_le, bytes_eq, codes}
 use Rattle.std.specs.Result.{result_ok}
 use Rattle.qz_decimal.specs.Reading.{mark_in, fraction_in}
 use Rattle.qz_grading.specs.declared.outcome.Behaviour.{Behaviour}
 use Rattle.qz_grading.specs.declared.outcome.Behaviour.TheVariants as behaviour
-use Rattle.qz_grading.specs.declared.question.Format.TheVariants.{Moodle}
-use Rattle.qz_grading.specs.declared.question.Kind.TheVariants.{TrueFalse}
+use Rattle.qz_grading.specs.declared.question.Bank.{Bank}
+use Rattle.qz_grading.specs.declared.question.Item.{Item}
 use Rattle.qz_grading.specs.declared.question.Question.{Question}
-use Rattle.qz_grading.specs.declared.question.Rich.{Rich}
-use Rattle.qz_grading.specs.declared.response.Answer.{Answer}
-use Rattle.qz_grading.specs.declared.response.Answer.TheVariants as answer
+use Rattle.gift_read.specs.Gift.{Fault, reading}
 use Rattle.quizd.specs.declared.slot.Slot.{Slot}
-use Rattle.quizd.specs.declared.slot.Version.{Version}
 use Rattle.quizd.specs.Lines.{after, number_within}
+use Rattle.quizd.specs.Words.{only_word, text_of, words_of}
 
 -- ---- the lines of the head
 
@@ -50,17 +48,21 @@ hints_of word = number_within 0 20 word
 abbrev pub hints_line : List ℕ → Option ℕ
 hints_line line = option_and_then hints_of (after (codes "hints ") line)
 
--- a true-false question: whether true is right
-abbrev pub question_of : List ℕ → Option Bool
-question_of word = if bytes_eq word (codes "{T}") then Some true else (if bytes_eq word (codes "{F}") then Some false else None)
+-- the one question of a bank; its category doesn't matter
+abbrev pub only_question : List Item → Option Question
+only_question (item ∷ []) = Some item.question
+only_question items = None
 
-abbrev pub question_line : List ℕ → Option Bool
-question_line line = option_and_then question_of (after (codes "question ") line)
+abbrev pub one_question : Result Bank Fault → Option Question
+one_question (Ok bank) = only_question bank.items
+one_question (Err fault) = None
 
--- ---- the word of a response
+-- the question that the GIFT text of a word has, if it has exactly one
+abbrev pub question_of : List ℕ → Option Question
+question_of word = option_and_then (λ text. one_question (reading text)) (text_of word)
 
-abbrev pub answer_of : List ℕ → Option Answer
-answer_of word = if bytes_eq word (codes "blank") then Some answer.Blank else option_map answer.Pick (option_and_then (number_within 1 64) (after (codes "pick:") word))
+abbrev pub question_line : List ℕ → Option Question
+question_line line = option_and_then question_of (option_and_then (λ rest. only_word (words_of rest)) (after (codes "question ") line))
 
 -- ---- the text
 
@@ -79,15 +81,9 @@ abbrev pub line_at : {A : Type 0} → (List ℕ → Option A) → ℕ → List (
 line_at reading number [] = Err number
 line_at reading number (line ∷ lines) = or_line number (option_map (λ x. (x, lines)) (reading line))
 
-abbrev pub no_text : Rich
-no_text = record { format = Moodle; text = [] }
-
--- a true-false question without texts, and with so many empty hints
-abbrev pub true_false : Bool → ℤ → ℕ → Question
-true_false right penalty hints = record { name = codes "Question"; text = no_text; general = no_text; kind = TrueFalse right no_text no_text; penalty = penalty; hints = replicate hints [] }
-
-abbrev pub question_in : Version → Question
-question_in v = true_false v.right v.penalty v.hints
+-- a question with this penalty, and with so many empty hints
+abbrev pub as_version : ℤ → ℕ → Question → Question
+as_version penalty hints q = record q { penalty = penalty; hints = replicate hints [] }
 
 -- the slot that the first five lines describe, and the lines after them
 unfoldable pub head_of : List (List ℕ) → Result (Slot × List (List ℕ)) ℕ
@@ -96,8 +92,8 @@ head_of lines = do
   max ← line_at max_line 2 behaviour.1
   penalty ← line_at penalty_line 3 max.1
   hints ← line_at hints_line 4 penalty.1
-  right ← line_at question_line 5 hints.1
-  Ok (record { behaviour = behaviour.0; max = max.0; question = true_false right.0 penalty.0 hints.0 }, right.1)
+  question ← line_at question_line 5 hints.1
+  Ok (record { behaviour = behaviour.0; max = max.0; question = as_version penalty.0 hints.0 question.0 }, question.1)
 
 abbrev pub newline : List ℕ
 newline = 10 ∷ []

@@ -9,10 +9,11 @@ use Rattle.quizd.specs.declared.asked.Asked.TheVariants as asked
 use Rattle.quizd.specs.declared.asked.Deed.{Deed}
 use Rattle.quizd.specs.declared.asked.Deed.TheVariants as deed
 use Rattle.quizd.specs.declared.slot.Version.{Version}
+use Rattle.quizd.specs.Answers.{answer_of}
 use Rattle.quizd.specs.Asking.{end_at}
 use Rattle.quizd.specs.Lines.{lines_of}
 use Rattle.quizd.specs.Plays.{Play, next, standing, told}
-use Rattle.quizd.specs.Replay.{◌>>=◌, line_at as word_at, or_line, answer_of, max_of, penalty_of, hints_of, question_of, head_of, newline}
+use Rattle.quizd.specs.Replay.{◌>>=◌, line_at as word_at, or_line, as_version, max_of, penalty_of, hints_of, question_of, head_of, newline}
 use Rattle.quizd.specs.Words.{words_of, certainty_of}
 
 -- ---- the line of a step or of a newer version
@@ -45,8 +46,8 @@ version_of words = do
   max ← word_at max_of 2 words
   penalty ← word_at penalty_of 3 max.1
   hints ← word_at hints_of 4 penalty.1
-  right ← word_at question_of 5 hints.1
-  end_at 6 (record { max = max.0; penalty = penalty.0; hints = hints.0; right = right.0 }) right.1
+  question ← word_at question_of 5 hints.1
+  end_at 6 (record { max = max.0; question = as_version penalty.0 hints.0 question.0 }) question.1
 
 -- a mark is out of the max mark that is bound now
 abbrev pub asked_by : Deed → ℤ → List (List ℕ) → Result Asked ℕ

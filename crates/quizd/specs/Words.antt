@@ -31,6 +31,38 @@ abbrev pub Reads : {X Y : Type 0} → (X → Y) → Result X WordFault → Resul
 Reads view (Ok x) reading = reading ≡ Ok (view x)
 Reads view (Err f) reading = FailsAt f reading
 
+-- ---- texts
+
+-- what a backslash and this byte stand for
+abbrev pub escape_of : ℕ → Option ℕ
+escape_of c =
+    if c == 115 then Some 32
+    else (if c == 110 then Some 10
+    else (if c == 116 then Some 9
+    else (if c == 114 then Some 13
+    else (if c == 92 then Some 92 else None))))
+
+-- one before others, if they are there
+abbrev pub onto : Option ℕ → Option (List ℕ) → Option (List ℕ)
+onto (Some c) text = option_map (λ t. c ∷ t) text
+onto None text = None
+
+-- the text that is written with escapes; any other backslash is malformed
+abbrev pub unescaped : List ℕ → Option (List ℕ)
+unescaped [] = Some []
+unescaped (c ∷ []) = if c == 92 then None else Some (c ∷ [])
+unescaped (c ∷ d ∷ cs) = if c == 92 then onto (escape_of d) (unescaped cs) else onto (Some c) (unescaped (d ∷ cs))
+
+-- the text that a word spells, which has a byte; `\e` alone is the empty text
+abbrev pub text_of : List ℕ → Option (List ℕ)
+text_of [] = None
+text_of (c ∷ cs) = if bytes_eq (c ∷ cs) (codes "\\e") then Some [] else unescaped (c ∷ cs)
+
+-- a text that is one word
+abbrev pub only_word : List (List ℕ) → Option (List ℕ)
+only_word (word ∷ []) = Some word
+only_word words = None
+
 -- ---- numbers
 
 -- seconds since 1970, up to the year 2099

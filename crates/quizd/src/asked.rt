@@ -3,6 +3,7 @@
 ghost use Rattle.std.specs.Prelude.{◌≡◌, ◌≤◌, IfOk, IfSome, ℤ};
 ghost use Rattle.qz_decimal.specs.Numbers.{IsMaxMark};
 ghost use Rattle.qz_decimal.specs.Reading.{IsWrittenFraction};
+ghost use Rattle.qz_grading.specs.Questions.{IsQuestion};
 ghost use Rattle.quizd.specs.Asking.{end_at};
 ghost use Rattle.quizd.specs.Plays.{IsAskable};
 ghost use Rattle.quizd.specs.Replay.{line_at as word_at, max_of, penalty_of, hints_of, question_of};
@@ -10,11 +11,13 @@ ghost use Rattle.quizd.specs.Replayed.{deed_of, response_of, mark_of_word, given
 ghost use Rattle.quizd.specs.Words.{words_of, words_after, certainty_of, Reads};
 
 use crate::asking::{answer_at, certainty_at, end};
-use crate::reading::{hints_in, max_in, penalty_in, question_in};
+use crate::questions::{as_version, question_in};
+use crate::reading::{hints_in, max_in, penalty_in};
 use crate::slot::Version;
 use crate::words::{WordFault, first_word, next_word};
 use qz_decimal::{Fraction, Mark};
-use qz_grading::{Response, Step};
+use qz_grading::{Question, Response, Step};
+use std::alloc::Global;
 
 /// What a line asks for.
 #[derive(Drop)]
@@ -89,19 +92,23 @@ fn hints_at(rest: &mut &[u8], place: u32) -> Result<u32, WordFault>
     hints_in(next_word(rest, place)?).ok_or(WordFault::Malformed { place })
 }
 
-fn question_at(rest: &mut &[u8], place: u32) -> Result<bool, WordFault>
-    ensures { Reads (λ x. (x, words_after rest.new.now)) result (word_at question_of place (words_after rest.old.now)) }
+fn question_at(alloc: Global, rest: &mut &[u8], place: u32) -> Result<Question, WordFault>
+    ensures value { Reads (λ x. (x, words_after rest.new.now)) result (word_at question_of place (words_after rest.old.now)) }
+    ensures question { IfOk result IsQuestion }
 {
-    question_in(next_word(rest, place)?).ok_or(WordFault::Malformed { place })
+    match question_in(alloc, next_word(rest, place)?)? {
+        Some(question) => Ok(question),
+        None => Err(WordFault::Malformed { place }),
+    }
 }
 
 /// The certainty and the answer of a Save or a Submit.
 #[tactic(auto, unfolding(crate::specs::Replayed::response_of))]
-fn response(mut rest: &[u8]) -> Result<Response, WordFault>
+fn response(alloc: Global, mut rest: &[u8]) -> Result<Response, WordFault>
     ensures { Reads (λ x. x) result (response_of (words_after rest.now)) }
 {
     let certainty = certainty_at(&mut rest, 2)?;
-    let answer = answer_at(&mut rest, 3)?;
+    let answer = answer_at(alloc, &mut rest, 3)?;
     end(rest, 4)?;
     Ok(Response { answer, certainty })
 }
@@ -117,33 +124,30 @@ fn given(mut rest: &[u8]) -> Result<Mark, WordFault>
 }
 
 #[tactic(auto, unfolding(crate::specs::Replayed::version_of))]
-fn version(mut rest: &[u8]) -> Result<Version, WordFault>
+fn version(alloc: Global, mut rest: &[u8]) -> Result<Version, WordFault>
     ensures value { Reads (λ x. x) result (version_of (words_after rest.now)) }
     ensures max { IfOk result (λ v. IsMaxMark v.max) }
-    ensures penalty { IfOk result (λ v. IsWrittenFraction v.penalty) }
-    ensures hints { IfOk result (λ v. v.hints ≤ 20) }
+    ensures question { IfOk result (λ v. IsQuestion v.question) }
 {
     let max = max_at(&mut rest, 2)?;
     let penalty = penalty_at(&mut rest, 3)?;
     let hints = hints_at(&mut rest, 4)?;
-    let right = question_at(&mut rest, 5)?;
+    let question = question_at(alloc, &mut rest, 5)?;
     end(rest, 6)?;
     Ok(Version {
         max,
-        penalty,
-        hints,
-        right,
+        question: as_version(alloc, question, penalty, hints)?,
     })
 }
 
 /// What the words behind the first make of it. A mark is out of the max mark that is bound now.
-fn asked_by(deed: Deed, max: Mark, rest: &[u8]) -> Result<Asked, WordFault>
+fn asked_by(alloc: Global, deed: Deed, max: Mark, rest: &[u8]) -> Result<Asked, WordFault>
     ensures value { Reads (λ x. x) result (asked_by deed max (words_after rest.now)) }
     ensures askable { IfOk result (IsAskable max) }
 {
     match deed {
-        Deed::Save => Ok(Asked::Step(Step::Save(response(rest)?))),
-        Deed::Submit => Ok(Asked::Step(Step::Submit(response(rest)?))),
+        Deed::Save => Ok(Asked::Step(Step::Save(response(alloc, rest)?))),
+        Deed::Submit => Ok(Asked::Step(Step::Submit(response(alloc, rest)?))),
         Deed::Again => {
             end(rest, 2)?;
             Ok(Asked::Step(Step::Again))
@@ -156,17 +160,17 @@ fn asked_by(deed: Deed, max: Mark, rest: &[u8]) -> Result<Asked, WordFault>
             let mark = given(rest)?;
             Ok(Asked::Step(Step::Mark { mark, max }))
         }
-        Deed::Bind => Ok(Asked::Bind(version(rest)?)),
+        Deed::Bind => Ok(Asked::Bind(version(alloc, rest)?)),
     }
 }
 
 /// What a line asks for.
 #[tactic(auto, unfolding(crate::specs::Replayed::asked_of))]
-pub fn asked_on(line: &[u8], max: Mark) -> Result<Asked, WordFault>
+pub fn asked_on(alloc: Global, line: &[u8], max: Mark) -> Result<Asked, WordFault>
     ensures value { Reads (λ x. x) result (asked_of max (words_of line.now)) }
     ensures askable { IfOk result (IsAskable max) }
 {
     let (word, rest) = first_word(line);
     let deed = deed_in(word).ok_or(WordFault::Malformed { place: 1 })?;
-    asked_by(deed, max, rest)
+    asked_by(alloc, deed, max, rest)
 }

@@ -2,11 +2,12 @@
 
 ghost use Rattle.std.specs.Prelude.{◌≡◌, ◌≤◌, true, IfOk};
 ghost use Rattle.qz_terms.specs.Kept.{is_answer};
+ghost use Rattle.quizd.specs.Answers.{answer_of};
 ghost use Rattle.quizd.specs.Asking.{verb_of, takes_key, end_at, start_of, save_of, finish_of, grade_of, request_of, ask_of, CanBeAsked, IsOfVerb};
-ghost use Rattle.quizd.specs.Replay.{line_at as word_at, answer_of};
+ghost use Rattle.quizd.specs.Replay.{line_at as word_at};
 ghost use Rattle.quizd.specs.Words.{words_of, words_after, moment_of, last_moment, name_of, slot_of, certainty_of, attempt_of, token_of, key_of, Reads};
 
-use crate::reading::answer_in;
+use crate::answers::answer_in;
 use crate::words::{
     WordFault, attempt_in, certainty_in, first_word, key_in, moment_in, name_in, next_word,
     slot_in, token_in,
@@ -83,11 +84,11 @@ pub fn certainty_at(rest: &mut &[u8], place: u32) -> Result<u8, WordFault>
     certainty_in(next_word(rest, place)?).ok_or(WordFault::Malformed { place })
 }
 
-pub fn answer_at(rest: &mut &[u8], place: u32) -> Result<Answer, WordFault>
+pub fn answer_at(alloc: Global, rest: &mut &[u8], place: u32) -> Result<Answer, WordFault>
     ensures value { Reads (λ x. (x, words_after rest.new.now)) result (word_at answer_of place (words_after rest.old.now)) }
     ensures kept { IfOk result (λ a. is_answer a ≡ true) }
 {
-    match answer_in(next_word(rest, place)?) {
+    match answer_in(alloc, next_word(rest, place)?)? {
         Some(answer) => Ok(answer),
         None => Err(malformed(place)),
     }
@@ -104,14 +105,14 @@ fn start(mut rest: &[u8]) -> Result<Request, WordFault>
 }
 
 #[tactic(auto, unfolding(crate::specs::Asking::save_of))]
-fn save(mut rest: &[u8]) -> Result<Request, WordFault>
+fn save(alloc: Global, mut rest: &[u8]) -> Result<Request, WordFault>
     ensures value { Reads (λ x. x) result (save_of (words_after rest.now)) }
     ensures verb { IfOk result (IsOfVerb Verb.Save) }
 {
     let attempt = attempt_at(&mut rest, 5)?;
     let slot = slot_at(&mut rest, 6)?;
     let certainty = certainty_at(&mut rest, 7)?;
-    let response = answer_at(&mut rest, 8)?;
+    let response = answer_at(alloc, &mut rest, 8)?;
     end(rest, 9)?;
     Ok(Request::Save {
         attempt,
@@ -143,13 +144,13 @@ fn grade(mut rest: &[u8]) -> Result<Request, WordFault>
 }
 
 /// The request that the words behind a command make of it.
-fn request(verb: Verb, rest: &[u8]) -> Result<Request, WordFault>
+fn request(alloc: Global, verb: Verb, rest: &[u8]) -> Result<Request, WordFault>
     ensures value { Reads (λ x. x) result (request_of verb (words_after rest.now)) }
     ensures verb { IfOk result (IsOfVerb verb) }
 {
     match verb {
         Verb::Start => start(rest),
-        Verb::Save => save(rest),
+        Verb::Save => save(alloc, rest),
         Verb::Finish => finish(rest),
         Verb::Grade => grade(rest),
     }
@@ -219,7 +220,7 @@ pub fn ask_on(alloc: Global, line: &[u8]) -> Result<(u64, Ask), WordFault>
         Ask {
             caller: Caller::Token(token),
             key,
-            request: request(verb, rest)?,
+            request: request(alloc, verb, rest)?,
         },
     ))
 }

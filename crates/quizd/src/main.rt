@@ -1,14 +1,17 @@
 //! The quiz server's program.
 #![tactic(auto)]
 
+mod answers;
 mod asked;
 mod asking;
 mod command;
 mod desk;
+mod escapes;
 mod gift;
 mod lines;
 mod plain;
 mod played;
+mod questions;
 mod reading;
 mod replay;
 mod replies;

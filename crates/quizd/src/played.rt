@@ -8,7 +8,6 @@ ghost use Rattle.qz_grading.specs.Steps.{given};
 ghost use Rattle.quizd.specs.Plays.{IsPlayable, IsAskable, behaves, step_fate, bind_fate, fate, next, after_fate};
 
 use crate::asked::Asked;
-use crate::reading::question;
 use crate::slot::Slot;
 use qz_decimal::Mark;
 use qz_grading::{Behaviour, Moved, Question, Refusal, State, Step, Steps};
@@ -90,12 +89,7 @@ impl Played {
     }
 
     /// Takes what a line asks for, or refuses it for its first cause and stays as it was; so it does where memory is wanting.
-    pub fn take<L: Ledger>(
-        &mut self,
-        alloc: Global,
-        asked: Asked,
-        steps: &mut Steps<L>,
-    ) -> Result<Fate, NoMemory>
+    pub fn take<L: Ledger>(&mut self, asked: Asked, steps: &mut Steps<L>) -> Result<Fate, NoMemory>
         requires { IsAskable self.old.slot.max asked }
         ensures fate { IfOk result (λ told. told ≡ fate self.old asked) }
         ensures next { OnOk result (self.new ≡ next self.old asked) }
@@ -103,11 +97,7 @@ impl Played {
     {
         match asked {
             Asked::Step(step) => self.act(step, steps),
-            Asked::Bind(version) => {
-                let max = version.max;
-                let newer = question(alloc, version)?;
-                Ok(self.bind(newer, max, steps))
-            }
+            Asked::Bind(version) => Ok(self.bind(version.question, version.max, steps)),
         }
     }
 

@@ -1,21 +1,22 @@
 //! Reading the five lines at the head of a replay text, and words of its lines.
 
-ghost use Rattle.std.specs.Prelude.{◌≡◌, ◌≤◌, [], List, length, replicate, true, Some, IfSome, IfOk};
+ghost use Rattle.std.specs.Prelude.{◌≡◌, ◌≤◌, length, Some, IfSome, IfOk};
 ghost use Rattle.qz_decimal.specs.Numbers.{IsMaxMark};
 ghost use Rattle.qz_decimal.specs.Reading.{IsWrittenFraction};
 ghost use Rattle.qz_grading.specs.Questions.{IsQuestion};
-ghost use Rattle.qz_terms.specs.Kept.{is_answer};
 ghost use Rattle.quizd.specs.Lines.{lines_of, after};
 ghost use Rattle.quizd.specs.Plays.{IsPlayable};
 ghost use Rattle.quizd.specs.Readings.{Gives};
-ghost use Rattle.quizd.specs.Replay.{behaviour_named, behaviour_line, max_of, max_line, penalty_of, penalty_line, hints_of, hints_line, question_of, question_line, question_in, answer_of, line_at, head_of, no_text};
+ghost use Rattle.quizd.specs.Replay.{behaviour_named, behaviour_line, max_of, max_line, penalty_of, penalty_line, hints_of, hints_line, question_line, line_at, head_of};
 
 use crate::lines::{after, number, split_line};
-use crate::slot::{Slot, Version};
+use crate::questions::{as_version, question_in};
+use crate::slot::Slot;
 use crate::stop::Stop;
+use crate::words::cut;
 use qz_decimal::{Fraction, Mark};
-use qz_grading::{Answer, Behaviour, Format, Kind, Question, Rich};
-use qz_text::{Listed, NoMemory, Text};
+use qz_grading::{Behaviour, Question};
+use qz_text::NoMemory;
 use std::alloc::Global;
 
 /// The greatest max mark, 10,000 in units of 10^-7.
@@ -98,35 +99,17 @@ fn hints_on(line: &[u8]) -> Option<u32>
     hints_in(after(line, b"hints ")?)
 }
 
-/// A true-false question: whether true is right.
-pub fn question_in(word: &[u8]) -> Option<bool>
-    ensures { result ≡ question_of word.now }
+fn question_on(alloc: Global, line: &[u8]) -> Result<Option<Question>, NoMemory>
+    ensures value { IfOk result (λ found. found ≡ question_line line.now) }
+    ensures question { IfOk result (λ found. IfSome found IsQuestion) }
 {
-    if word == b"{T}".as_slice() {
-        return Some(true);
+    let Some(word) = after(line, b"question ") else {
+        return Ok(None);
+    };
+    if let Some(_) = cut(word, b' ') {
+        return Ok(None);
     }
-    if word == b"{F}".as_slice() {
-        return Some(false);
-    }
-    None
-}
-
-fn question_on(line: &[u8]) -> Option<bool>
-    ensures { result ≡ question_line line.now }
-{
-    question_in(after(line, b"question ")?)
-}
-
-/// The answer that a word gives.
-pub fn answer_in(word: &[u8]) -> Option<Answer>
-    ensures value { result ≡ answer_of word.now }
-    ensures kept { IfSome result (λ a. is_answer a ≡ true) }
-{
-    if word == b"blank".as_slice() {
-        return Some(Answer::Blank);
-    }
-    let choice = number(after(word, b"pick:")?, 1, 64)?;
-    Some(Answer::Pick(choice as u8))
+    question_in(alloc, word)
 }
 
 /// The first line, which `rest` then stands behind; this line is missing where there is none.
@@ -137,47 +120,6 @@ fn first_line<'a>(rest: &mut &'a [u8], line: u32) -> Result<&'a [u8], Stop>
     let (first, after) = split_line(rest).ok_or(Stop::Malformed { line })?;
     *rest = after;
     Ok(first)
-}
-
-fn no_rich(alloc: Global) -> Result<Rich, NoMemory>
-    ensures { IfOk result (λ made. made ≡ no_text) }
-{
-    Ok(Rich {
-        format: Format::Moodle,
-        text: Text::of(alloc, "")?,
-    })
-}
-
-/// So many empty hints.
-fn empty_hints(alloc: Global, count: u32) -> Result<Listed<Text>, NoMemory>
-    ensures { IfOk result (λ made. made ≡ replicate count []) }
-{
-    let mut items = Vec::new(alloc);
-    for _ in 0..count {
-        items.push(Text::of(alloc, "")?)?;
-    }
-    Ok(Listed { items })
-}
-
-/// The true-false question without texts that a version spells.
-pub fn question(alloc: Global, version: Version) -> Result<Question, NoMemory>
-    requires penalty { IsWrittenFraction version.penalty }
-    requires hints { version.hints ≤ 20 }
-    ensures value { IfOk result (λ made. made ≡ question_in version) }
-    ensures question { IfOk result IsQuestion }
-{
-    Ok(Question {
-        name: Text::of(alloc, "Question")?,
-        text: no_rich(alloc)?,
-        general: no_rich(alloc)?,
-        kind: Kind::TrueFalse {
-            right: version.right,
-            on_wrong: no_rich(alloc)?,
-            on_right: no_rich(alloc)?,
-        },
-        penalty: version.penalty,
-        hints: empty_hints(alloc, version.hints)?,
-    })
 }
 
 /// The behaviour on the first line, which `rest` then stands behind.
@@ -212,11 +154,15 @@ fn hints_at(rest: &mut &[u8]) -> Result<u32, Stop>
     hints_on(first_line(rest, 4)?).ok_or(Stop::Malformed { line: 4 })
 }
 
-fn question_at(rest: &mut &[u8]) -> Result<bool, Stop>
+fn question_at(alloc: Global, rest: &mut &[u8]) -> Result<Question, Stop>
     ensures value { Gives (λ x. (x, lines_of rest.new.now)) result (line_at question_line 5 (lines_of rest.old.now)) }
+    ensures question { IfOk result IsQuestion }
     ensures shorter { length rest.new.now ≤ length rest.old.now }
 {
-    question_on(first_line(rest, 5)?).ok_or(Stop::Malformed { line: 5 })
+    match question_on(alloc, first_line(rest, 5)?)? {
+        Some(question) => Ok(question),
+        None => Err(Stop::Malformed { line: 5 }),
+    }
 }
 
 /// The slot that the first five lines describe. `rest` then stands behind them.
@@ -230,16 +176,10 @@ pub fn head_at(alloc: Global, rest: &mut &[u8]) -> Result<Slot, Stop>
     let max = max_at(rest)?;
     let penalty = penalty_at(rest)?;
     let hints = hints_at(rest)?;
-    let right = question_at(rest)?;
-    let version = Version {
-        max,
-        penalty,
-        hints,
-        right,
-    };
+    let question = question_at(alloc, rest)?;
     Ok(Slot {
         behaviour,
         max,
-        question: question(alloc, version)?,
+        question: as_version(alloc, question, penalty, hints)?,
     })
 }

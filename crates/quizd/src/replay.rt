@@ -119,8 +119,8 @@ fn lines_behind<L: Ledger>(
     let mut rest = text;
     let mut number = 1u32;
     while let Some((line, after)) = split_line(rest) {
-        let asked = asked_at(line, number + HEAD, played.max())?;
-        let fate = played.take(alloc, asked, steps)?;
+        let asked = asked_at(alloc, line, number + HEAD, played.max())?;
+        let fate = played.take(asked, steps)?;
         told_line_onto(&mut out, number, fate, &played)?;
         rest = after;
         number += 1;
@@ -129,11 +129,11 @@ fn lines_behind<L: Ledger>(
 }
 
 /// What the line with this number in the text asks for, where this max mark is bound.
-fn asked_at(text: &[u8], line: u32, max: Mark) -> Result<Asked, Stop>
+fn asked_at(alloc: Global, text: &[u8], line: u32, max: Mark) -> Result<Asked, Stop>
     ensures value { Gives (λ x. x) result (or_line line (result_ok (asked_of max (words_of text.now)))) }
     ensures askable { IfOk result (IsAskable max) }
 {
-    match asked_on(text, max) {
+    match asked_on(alloc, text, max) {
         Ok(asked) => Ok(asked),
         Err(WordFault::Malformed { .. }) => Err(Stop::Malformed { line }),
         Err(WordFault::Memory) => Err(Stop::Memory),

@@ -90,7 +90,19 @@ fn head(
     hints: &str,
 ) -> Result<String, NoMemory> {
     Ok(format!(in alloc;
-        "behaviour {behaviour}\nmax {max}\npenalty {penalty}\nhints {hints}\nquestion {{T}}\n"
+        "behaviour {behaviour}\nmax {max}\npenalty {penalty}\nhints {hints}\nquestion Q\\s{{T}}\n"
+    )?)
+}
+
+/// The head of a replay of another question, with a penalty of a third and no hint.
+fn head_about(
+    alloc: Global,
+    behaviour: &str,
+    max: &str,
+    question: &str,
+) -> Result<String, NoMemory> {
+    Ok(format!(in alloc;
+        "behaviour {behaviour}\nmax {max}\npenalty 0.3333333\nhints 0\nquestion {question}\n"
     )?)
 }
 
@@ -179,6 +191,169 @@ fn a_teacher_marks(rt: HostRuntime) -> Result<(), Fail> {
 }
 
 #[test]
+fn questions_of_each_kind(rt: HostRuntime) -> Result<(), Fail> {
+    let alloc = rt.alloc();
+    for (max, question, rows) in [
+        (
+            "3",
+            "Q\\s{~%33.33333%a\\s~%33.33333%b\\s~%33.33333%c}",
+            "save 0 picks:1,2,3 | finish => complete - | gradedright 2.9999997
+            save 0 picks:3,1 | save 0 pick:1 | save 0 picks:2 | finish => refused 14 | refused 14 | complete - | gradedpartial 0.9999999",
+        ),
+        (
+            "10",
+            "M\\s{=a\\s->\\sx\\s=b\\s->\\sy\\s=c\\s->\\sz}",
+            "save 0 match:1,2,1 | finish => complete - | gradedpartial 6.6666670
+            save 0 match:1,0,0 | save 0 match:1,2 | save 0 match:0,0,4 | finish => todo - | refused 14 | refused 14 | gradedpartial 3.3333330",
+        ),
+        (
+            "1",
+            "N\\s{#3.14:0.01}",
+            "save 0 text:3.15 | finish => complete - | gradedright 1.0000000
+            save 0 text:3.1500000001 | finish => complete - | gradedwrong 0.0000000
+            save 0 text:1e99 | finish => todo - | gaveup -
+            save 0 text:\\s3.14\\n | finish => complete - | gradedright 1.0000000",
+        ),
+        (
+            "1",
+            "Where?\\s{=Café\\sNoir\\s=%50%a\\\\\\\\b}",
+            "save 0 text:\\tCAFÉ\\snoir | finish => complete - | gradedright 1.0000000
+            save 0 text:café\\\\snoir | finish => complete - | gradedwrong 0.0000000
+            save 0 text:A\\\\B | finish => complete - | gradedpartial 0.5000000
+            save 0 text: | save 0 text: | save 0 blank | finish => todo - | same todo - | todo - | gaveup -",
+        ),
+        (
+            "1",
+            "$CATEGORY:\\sx\\n\\n::Pick::Which?\\s{=a\\s~%-50%b}",
+            "save 0 pick:2 | finish => complete - | gradedwrong -0.5000000
+            save 0 picks:1 | save 0 text:a | save 0 pick:1 | finish => refused 14 | refused 14 | complete - | gradedright 1.0000000",
+        ),
+    ] {
+        let text = head_about(alloc, "deferredfeedback", max, question)?;
+        hold(&rt, alloc, text.as_str(), rows)?;
+    }
+    Ok(())
+}
+
+#[test]
+fn some_questions_behave_their_own_way(rt: HostRuntime) -> Result<(), Fail> {
+    let alloc = rt.alloc();
+    for behaviour in ["interactive", "deferredcbm"] {
+        let essay = head_about(alloc, behaviour, "5", "Write.\\s{}")?;
+        let rows =
+            "submit 0 text:x | save 1 text:x | save 0 pick:1 => refused 11 manualgraded | refused 14 | refused 14
+            save 0 text:\\s | save 0 text:One\\nline | finish | mark 4 => todo - | complete - | needsgrading - | mangrpartial 4.0000000";
+        hold(&rt, alloc, essay.as_str(), rows)?;
+        let description = head_about(alloc, behaviour, "0", "Read\\sthis.")?;
+        let rows =
+            "save 0 blank | mark 0 | finish | finish => refused 11 informationitem | refused 11 informationitem | finished - | refused 12 finished";
+        hold(&rt, alloc, description.as_str(), rows)?;
+    }
+    Ok(())
+}
+
+#[test]
+fn a_newer_version_of_another_shape_is_refused(rt: HostRuntime) -> Result<(), Fail> {
+    let alloc = rt.alloc();
+    let rows =
+        "save 0 pick:1 | finish | bind 2 0.3333333 0 {=a\\s~b} => complete - | gradedright 2.0000000 | refused 17 truefalse 0 0 choice 2 0
+        bind 2 0 0 {} | bind 2 0 0 Read. | bind 2 0 0 {#1} | bind 2 0 0 {a} => refused 17 truefalse 0 0 essay 0 0 | refused 17 truefalse 0 0 description 0 0 | refused 17 truefalse 0 0 numerical 0 0 | refused 17 truefalse 0 0 shortanswer 0 0
+        bind 2 0 0 {=a->x=b->y} | bind 2 0 0 {~a~b~c} => refused 17 truefalse 0 0 match 2 2 | refused 17 truefalse 0 0 choices 3 0";
+    let deferred = head(alloc, "deferredfeedback", "2", "0.3333333", "0")?;
+    hold(&rt, alloc, deferred.as_str(), rows)?;
+    let rows =
+        "submit 0 pick:1 | bind 2 0 0 {~a=b} | bind 1 0 0 {=a~%50%b} => gradedright 3.0000000 | gradedwrong 0.0000000 | gradedright 1.0000000
+        bind 2 0 0 {=a~b~c} => refused 17 choice 2 0 choice 3 0";
+    let immediate = head_about(alloc, "immediatefeedback", "3", "{=a~b}")?;
+    hold(&rt, alloc, immediate.as_str(), rows)?;
+    Ok(())
+}
+
+/// What is written where this line of the text has no reading.
+fn holds_malformed(rt: &impl Abort, alloc: Global, text: &[u8], line: u32) -> Result<(), NoMemory> {
+    let (status, written) = run_over(alloc, "replay", text, WELL, WELL)?;
+    let want = format!(in alloc; "malformed {line}\n")?;
+    let shown = String::from_utf8_lossy(alloc, text)?;
+    assert_eq!(rt; (status, written.as_str()), (3, want.as_str()), "{shown}");
+    Ok(())
+}
+
+#[test]
+fn a_gift_text_that_is_refused_has_no_reading(rt: HostRuntime) -> Result<(), Fail> {
+    let alloc = rt.alloc();
+    for question in [
+        "",
+        "{T} ",
+        "Q {T}",
+        "Q\\x{T}",
+        "{T}\\",
+        "\\e",
+        "//\\sonly\\sa\\scomment",
+        "$CATEGORY:\\sx",
+        "A\\s{=b",
+        "A\\s{~b}",
+        "{T}\\n\\n{F}",
+    ] {
+        let text = head_about(alloc, "adaptive", "1", question)?;
+        holds_malformed(&rt, alloc, text.as_bytes(), 5)?;
+        let text = format!(in alloc; "{HEAD}finish\nbind 2 0 0 {question}\n")?;
+        holds_malformed(&rt, alloc, text.as_bytes(), 7)?;
+    }
+    let mut text = Vec::from_slice(alloc, HEAD.as_bytes())?;
+    text.extend_from_slice(b"bind 2 0 0 a\xff{T}\n")?;
+    holds_malformed(&rt, alloc, &text, 6)?;
+    Ok(())
+}
+
+#[test]
+fn responses_without_a_reading(rt: HostRuntime) -> Result<(), Fail> {
+    let alloc = rt.alloc();
+    for response in [
+        "",
+        "Blank",
+        "pick",
+        "pick:",
+        "pick:0",
+        "pick:65",
+        "pick:01",
+        "pick:1,2",
+        "picks:",
+        "picks:1,",
+        "picks:,1",
+        "picks:1,65",
+        "picks:0",
+        "picks:1, 2",
+        "match:",
+        "match:65",
+        "match:1,,2",
+        "match:00",
+        "text",
+        "text:\\e",
+        "text:a\\",
+        "text:\\x",
+        "text:a b",
+        "Text:a",
+        "words:a",
+    ] {
+        let text = format!(in alloc; "{HEAD}save 0 {response}\n")?;
+        holds_malformed(&rt, alloc, text.as_bytes(), 6)?;
+    }
+    let mut text = Vec::from_slice(alloc, HEAD.as_bytes())?;
+    text.extend_from_slice(b"finish\nsave 0 text:\xc3\\s\xa9\n")?;
+    holds_malformed(&rt, alloc, &text, 7)?;
+    let mut longest = String::from_str(alloc, "save 0 text:")?;
+    for _ in 0..32_768 {
+        longest.push_str("\\sx")?;
+    }
+    let essay = head_about(alloc, "manualgraded", "1", "{}")?;
+    let rows = format!(in alloc; "{longest} => complete -")?;
+    hold(&rt, alloc, essay.as_str(), rows.as_str())?;
+    let text = format!(in alloc; "{essay}{longest}x\n")?;
+    holds_malformed(&rt, alloc, text.as_bytes(), 6)?;
+    Ok(())
+}
+
+#[test]
 fn the_first_line_without_a_reading_is_told(rt: HostRuntime) -> Result<(), Fail> {
     let alloc = rt.alloc();
     for (text, line) in [
@@ -201,7 +376,7 @@ fn the_first_line_without_a_reading_is_told(rt: HostRuntime) -> Result<(), Fail>
             4,
         ),
         (
-            "behaviour deferredfeedback\nmax 0\npenalty 1\nhints 20\nquestion {}\n",
+            "behaviour deferredfeedback\nmax 0\npenalty 1\nhints 20\nquestion\n",
             5,
         ),
         (
@@ -222,11 +397,10 @@ fn the_first_line_without_a_reading_is_told(rt: HostRuntime) -> Result<(), Fail>
         ("finish \n", 6),
         ("submit pick:1\n", 6),
         ("save 0  pick:1\n", 6),
-        ("save 0 picks:1,2\n", 6),
         ("again 1\n", 6),
         ("mark\nfinish\n", 6),
         ("mark 1 2\n", 6),
-        ("bind 2 0 0 {T}\nbind 2 0 0 {}\n", 7),
+        ("bind 2 0 0 {T}\nbind 2 0 0 {T} {T}\n", 7),
         ("bind 10001 0 0 {T}\n", 6),
         ("bind 2 0 21 {T}\n", 6),
     ] {

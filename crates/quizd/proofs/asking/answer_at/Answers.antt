@@ -1,7 +1,7 @@
 use Rattle.std.proofs.Common.{sym, ◌∙◌}
-use Rattle.quizd.specs.Replay.{answer_of}
+use Rattle.quizd.specs.Answers.{answer_of}
 use Rattle.quizd.proofs.AskingLemmas.{word_at-reads}
 use Rattle.quizd.proofs.asking.answer_at.Goals as goal
 
 pub returns-in-Some-clause-value : goal.returns-in-Some-clause-value
-returns-in-Some-clause-value c = word_at-reads answer_of c.args.place _ _ _ c.in-Some.answer c.in_ok-next_word.ensures (sym c.in-Some.is ∙ c.answer_in.ensures.value)
+returns-in-Some-clause-value c = word_at-reads answer_of c.args.place _ _ _ c.in-Some.answer c.in_ok-next_word.ensures (sym c.in-Some.is ∙ c.in_ok-answer_in.ensures.value)
