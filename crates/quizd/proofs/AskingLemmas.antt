@@ -9,7 +9,9 @@ use Rattle.std.proofs.lemmas.Bool.Decides.{nat_tests}
 use Rattle.std.proofs.lemmas.Str.{IsUtf8-from_ascii}
 use Rattle.quizd.specs.Asking.{end_at}
 use Rattle.quizd.specs.Replay.{line_at as word_at}
-use Rattle.quizd.specs.Words.{IsCutAt, attempt_of, is_token, is_token_byte, token_of, words_after}
+use Rattle.quizd.specs.declared.words.WordFault.{WordFault}
+use Rattle.quizd.specs.declared.words.WordFault.TheVariants as fault
+use Rattle.quizd.specs.Words.{FailsAt, IsCutAt, attempt_of, is_token, is_token_byte, token_of, words_after}
 use Rattle.quizd.proofs.PartLemmas.{some_part}
 
 -- a word too many
@@ -29,6 +31,20 @@ word_at-reads reading place (w ∷ ws) word rest x there is =
     let same : w ≡ word = ap (λ (p : List ℕ × List (List ℕ)). p.0) both in
     let behind : ws ≡ rest = ap (λ (p : List ℕ × List (List ℕ)). p.1) both in
     rw (same, ← is, behind) refl
+
+-- and one that isn't is told
+pub word_at-none : {A : Type 0} (reading : List ℕ → Option A) (place : ℕ) (words : List (List ℕ)) (word : List ℕ) (rest : List (List ℕ)) → word_at (λ w. Some w) place words ≡ Ok (word, rest) → None ≡ reading word → word_at reading place words ≡ Err place
+word_at-none reading place [] word rest there is = absurd cc
+word_at-none reading place (w ∷ ws) word rest there is =
+    let both : ◌≡◌ {A = List ℕ × List (List ℕ)} (w, ws) (word, rest) = cc in
+    let same : w ≡ word = ap (λ (p : List ℕ × List (List ℕ)). p.0) both in
+    rw (same, ← is) refl
+
+-- a word too many is told whatever stood before it
+pub end-fails : {A : Type 0} (place : ℕ) (x : A) (words : List (List ℕ)) (f : WordFault) → FailsAt f (end_at place (tt {0}) words) → FailsAt f (end_at place x words)
+end-fails place x words fault.Memory fails = tt
+end-fails place x [] (fault.Malformed n) fails = absurd cc
+end-fails place x (word ∷ words) (fault.Malformed n) fails = cc
 
 -- ---- tokens are ASCII
 

@@ -4,6 +4,7 @@ pub mod VersionLemmas
 pub mod ReplayLemmas
 pub mod PartLemmas
 pub mod GatheringLemmas
+pub mod AnswerLemmas
 pub mod AskingLemmas
 pub mod PlayLemmas
 pub mod KeptLemmas

@@ -1,14 +1,19 @@
 -- A replay that goes on by one line.
-use Rattle.std.proofs.Common.{◌≡◌, ℕ, ◌+◌, List, [], ◌∷◌, ◌++◌, Result, Ok, Err, refl, sym, ap, ◌∙◌, append-nil, append_assoc}
+use Rattle.std.proofs.Common.{◌≡◌, ℕ, ℤ, ◌+◌, List, [], ◌∷◌, ◌++◌, Some, None, Result, Ok, Err, refl, sym, ap, ◌∙◌, append-nil, append_assoc}
+use Rattle.std.specs.Prelude.{codes}
 use Rattle.std.specs.Result.{result_ok}
+use Rattle.qz_grading.specs.declared.question.Question.{Question}
 use Rattle.quizd.specs.declared.asked.Asked.{Asked}
 use Rattle.quizd.specs.declared.stop.Stop.{Stop}
 use Rattle.quizd.specs.declared.stop.Stop.TheVariants as stop
 use Rattle.quizd.specs.Readings.{Fails}
 use Rattle.quizd.specs.Plays.{Play, next, told}
-use Rattle.quizd.specs.Replay.{◌>>=◌, or_line}
-use Rattle.quizd.specs.Replayed.{asked_of, line_of, with_front, steps_told}
-use Rattle.quizd.specs.Words.{words_of}
+use Rattle.quizd.specs.Asking.{end_at}
+use Rattle.quizd.specs.Lines.{after}
+use Rattle.quizd.specs.Replay.{◌>>=◌, as_version, hints_of, line_at as word_at, max_of, or_line, penalty_of, question_line, question_of}
+use Rattle.quizd.specs.Replayed.{asked_of, line_of, with_front, steps_told, version_of}
+use Rattle.quizd.specs.Words.{IsCutAt, words_of}
+use Rattle.quizd.proofs.PartLemmas.{some_part}
 
 with_front-more : (front line : List ℕ) (reading : Result (List ℕ) ℕ) → with_front front (reading >>= λ others. Ok (line ++ others)) ≡ with_front (front ++ line) reading
 with_front-more front line (Ok more) = ap (λ (t : List ℕ). Ok t) (sym (append_assoc front line more))
@@ -52,3 +57,16 @@ unfolding steps_told
 says_all number p lines front all none so_far =
     let one : steps_told number p lines ≡ Ok [] = rw none refl in
     sym so_far ∙ ap (with_front front) one ∙ ap (λ (t : List ℕ). Ok t) (append-nil front)
+
+-- ---- the words of a newer version
+
+-- where all are of their form, a word may yet be left
+pub version_is : (words behind_max behind_penalty behind_hints behind : List (List ℕ)) (max penalty : ℤ) (hints : ℕ) (q : Question)
+    → word_at max_of 2 words ≡ Ok (max, behind_max) → word_at penalty_of 3 behind_max ≡ Ok (penalty, behind_penalty) → word_at hints_of 4 behind_penalty ≡ Ok (hints, behind_hints) → word_at question_of 5 behind_hints ≡ Ok (q, behind)
+    → version_of words ≡ end_at 6 (record { max = max; question = as_version penalty hints q }) behind
+unfolding version_of
+version_is words behind_max behind_penalty behind_hints behind max penalty hints q one two three four = rw (one, two, three, four) refl
+
+-- a line with a space in its last word
+pub two-words : (line word front behind : List ℕ) → Some word ≡ after (codes "question ") line → IsCutAt 32 word front behind → None ≡ question_line line
+two-words line word front behind there cut = rw (← there, cut.parts, (some_part 32 behind).2) refl

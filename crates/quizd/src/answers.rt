@@ -67,13 +67,14 @@ fn typed_in(alloc: Global, word: &[u8]) -> Result<Option<Answer>, NoMemory>
     ensures value { IfOk result (λ found. found ≡ typed_of word.now) }
     ensures kept { IfOk result (λ found. IfSome found (λ a. is_answer a ≡ true)) }
 {
-    let Some(bytes) = unescaped(alloc, word)? else {
+    let Some(found) = unescaped(alloc, word)? else {
         return Ok(None);
     };
-    if bytes.as_slice().len() > LONGEST {
+    let bytes = found.as_slice();
+    if bytes.len() > LONGEST {
         return Ok(None);
     }
-    match str::from_utf8(bytes.as_slice()) {
+    match str::from_utf8(bytes) {
         Ok(text) => Ok(Some(Answer::Words(Typed::of(alloc, text)?))),
         Err(_) => Ok(None),
     }
