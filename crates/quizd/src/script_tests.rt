@@ -127,6 +127,30 @@ fn the_catalogue_refuses(rt: HostRuntime) -> Result<(), Fail> {
 }
 
 #[test]
+fn every_response_is_read(rt: HostRuntime) -> Result<(), Fail> {
+    let alloc = rt.alloc();
+    for (response, want) in [
+        ("picks:1,2", "refused 14"),
+        ("match:0,64", "refused 14"),
+        ("text:two\\swords", "refused 14"),
+        ("pick:2", "ok 2 step complete -"),
+        ("picks:1,", "refused 1 8 0"),
+        ("match:65", "refused 1 8 0"),
+        ("text:\\e", "refused 1 8 0"),
+    ] {
+        let text = format!(in alloc; "110 ann k1 start 1\n120 ann k2 save 2.1 1 0 {response}\n")?;
+        let want = format!(in alloc; "ok 1 started 2.1 1 -\n{want}\n")?;
+        let (status, written) = scripted(alloc, text.as_bytes(), WELL)?;
+        assert_eq!(rt;
+            (status, written.as_str()),
+            (0, want.as_str()),
+            "{response}"
+        );
+    }
+    Ok(())
+}
+
+#[test]
 fn lines_that_are_no_text_or_too_long(rt: HostRuntime) -> Result<(), Fail> {
     let alloc = rt.alloc();
     let (status, written) = scripted(alloc, &[255, 10], WELL)?;
