@@ -1,6 +1,7 @@
 pub mod Lines
 pub mod Words
 pub mod Answers
+pub mod ExamplesWords
 pub mod Replay
 pub mod Readings
 pub mod Asking
