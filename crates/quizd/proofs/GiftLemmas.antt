@@ -5,9 +5,9 @@ use Rattle.std.proofs.lemmas.Bool.{false≢true}
 use Rattle.std.specs.Io.KnownBytes.{Consumes, IsAtEnd}
 use Rattle.qz_outside.specs.Sources.{AppendsFront}
 use Rattle.gift_read.specs.Gift.{reading}
-use Rattle.quizd.specs.declared.stop.Stop.{Stop}
-use Rattle.quizd.specs.declared.stop.Stop.TheVariants as stop
-use Rattle.quizd.specs.Endings.{Outside, status_of}
+use Rattle.qz_ending.specs.declared.stop.Stop.{Stop}
+use Rattle.qz_ending.specs.declared.stop.Stop.TheVariants as stop
+use Rattle.qz_ending.specs.Endings.{Outside, status_of}
 use Rattle.quizd.specs.GiftEndings.{GiftEnds, GiftsAll, Writes}
 use Rattle.std.specs.Result.{IsErr, IsErrAnd}
 

@@ -7,13 +7,13 @@ use Rattle.std.proofs.KnownBytes.{Consumes-nil, Consumes-trans}
 use Rattle.quizd.specs.declared.script_line.ScriptLine.{ScriptLine}
 use Rattle.quizd.specs.declared.script_line.ScriptLine.TheVariants as script
 use Rattle.quizd.specs.declared.script_input.Given.TheVariants as given
-use Rattle.quizd.specs.declared.stop.Stop.{Stop}
-use Rattle.quizd.specs.declared.stop.Stop.TheVariants as stop
-use Rattle.quizd.specs.Asking.{kept, line_limit, with_piece}
+use Rattle.qz_ending.specs.declared.stop.Stop.{Stop}
+use Rattle.qz_ending.specs.declared.stop.Stop.TheVariants as stop
+use Rattle.quizd.specs.ScriptLines.{kept, line_limit, with_piece}
 use Rattle.quizd.specs.Inputs.{Buffer, Ends, Fills, FillStops, Gives, GivesNext, GoesOn, IsUnfed, NextStops, fed_parts, given_last}
-use Rattle.quizd.specs.Words.{IsCutAt}
+use Rattle.qz_wire.specs.Words.{IsCutAt}
 use Rattle.quizd.proofs.KeptLemmas.{kept-piece}
-use Rattle.quizd.proofs.PartLemmas.{parts-append}
+use Rattle.qz_wire.proofs.PartLemmas.{parts-append}
 
 -- some bytes were read, and with what was held they are the front of a line and what is held now
 pub record IsBegun (old now : Buffer) (left rest : Option (List ℕ)) (before later : ℕ) (line : ScriptLine) : Type 0 where

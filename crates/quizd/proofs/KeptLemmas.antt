@@ -6,7 +6,7 @@ use Rattle.std.specs.declared.str.Utf8Error.{Utf8Error}
 use Rattle.std.proofs.lemmas.Bool.Decides.{nat_tests}
 use Rattle.std.proofs.lemmas.Str.{IsUtf8-from_is_utf8, is_utf8-from_IsUtf8}
 use Rattle.quizd.specs.declared.script_line.ScriptLine.TheVariants as script
-use Rattle.quizd.specs.Asking.{kept, line_limit, with_piece}
+use Rattle.quizd.specs.ScriptLines.{kept, line_limit, with_piece}
 
 pub kept-long : (text : List ℕ) → line_limit < length text → kept text ≡ script.TooLong
 kept-long text long = let test : nat_lt line_limit (length text) ≡ true = grind (arith, nat_tests) in rw test refl

@@ -1,12 +1,3 @@
-pub mod LineLemmas
-pub mod NumberLemmas
-pub mod VersionLemmas
-pub mod ReplayLemmas
-pub mod PartLemmas
-pub mod GatheringLemmas
-pub mod AnswerLemmas
-pub mod AskingLemmas
-pub mod PlayLemmas
 pub mod KeptLemmas
 pub mod InputLemmas
 pub mod RetryLemmas

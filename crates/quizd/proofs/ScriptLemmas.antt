@@ -10,17 +10,17 @@ use Rattle.qz_terms.specs.declared.reply.Reply.{Reply}
 use Rattle.qz_terms.specs.Serial.{Lists}
 use Rattle.quizd.specs.declared.script_input.Given.TheVariants as given
 use Rattle.quizd.specs.declared.script_line.ScriptLine.{ScriptLine}
-use Rattle.quizd.specs.declared.stop.Stop.{Stop}
-use Rattle.quizd.specs.declared.stop.Stop.TheVariants as stop
-use Rattle.quizd.specs.Asking.{kept, kept_item}
-use Rattle.quizd.specs.Endings.{Outside, status_of}
+use Rattle.qz_ending.specs.declared.stop.Stop.{Stop}
+use Rattle.qz_ending.specs.declared.stop.Stop.TheVariants as stop
+use Rattle.quizd.specs.ScriptLines.{kept, kept_item}
+use Rattle.qz_ending.specs.Endings.{Outside, status_of}
 use Rattle.quizd.specs.Inputs.{Buffer, GivesNext, NextStops, fed_parts}
-use Rattle.quizd.specs.Lines.{lines_of}
-use Rattle.quizd.specs.Replies.{reply_line}
+use Rattle.qz_wire.specs.Lines.{lines_of}
+use Rattle.qz_wire.specs.Replies.{reply_line}
 use Rattle.quizd.specs.Retries.{GoesOnce}
 use Rattle.quizd.specs.Scripts.{AnswersLine, AnswerStops, Answered, AreFirst, LeavesLine, Says, SayStops, ScriptCut, ScriptDone, ServeEnds, ServesAll, but_last, ended_lines}
 use Rattle.quizd.proofs.RetryLemmas.{nothing_answered, one_more_answered}
-use Rattle.quizd.proofs.PartLemmas.{glued, glued-more, parts-append, some_part}
+use Rattle.qz_wire.proofs.PartLemmas.{glued, glued-more, parts-append, some_part}
 
 -- ---- one line
 

@@ -5,12 +5,12 @@ use Rattle.qz_outside.specs.Causes.{HasRisen}
 use Rattle.qz_outside.specs.Sources.{AppendsFront}
 use Rattle.quizd.specs.declared.command.Command.{Command}
 use Rattle.quizd.specs.declared.command.Command.TheVariants as command
-use Rattle.quizd.specs.declared.stop.Stop.{Stop}
-use Rattle.quizd.specs.declared.stop.Stop.TheVariants as stop
-use Rattle.quizd.specs.Endings.{Outside}
-use Rattle.quizd.specs.Replay.{newline}
+use Rattle.qz_ending.specs.declared.stop.Stop.{Stop}
+use Rattle.qz_ending.specs.declared.stop.Stop.TheVariants as stop
+use Rattle.qz_ending.specs.Endings.{Outside}
+use Rattle.qz_wire.specs.Lines.{newline}
 use Rattle.quizd.specs.Plain.{first_lists}
-use Rattle.quizd.specs.ReplayEndings.{ReplayEnds, ReplaysAll}
+use Rattle.qz_replay.specs.ReplayEndings.{ReplayEnds, ReplaysAll}
 use Rattle.quizd.specs.Scripts.{ServeEnds, ServesAll, script_limit}
 use Rattle.quizd.specs.GiftEndings.{GiftEnds, GiftsAll}
 

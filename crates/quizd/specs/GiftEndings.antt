@@ -6,10 +6,10 @@ use Rattle.qz_outside.specs.Sources.{AppendsFront}
 use Rattle.qz_grading.specs.declared.question.Bank.{Bank}
 use Rattle.qz_grading.specs.Canonical.{canonical}
 use Rattle.gift_read.specs.Gift.{Fault, reading}
-use Rattle.quizd.specs.declared.stop.Stop.{Stop}
-use Rattle.quizd.specs.declared.stop.Stop.TheVariants as stop
-use Rattle.quizd.specs.Endings.{Outside, Read, SourceFailed, MemoryWanted, PastLimit, text_limit}
-use Rattle.quizd.specs.Replay.{newline}
+use Rattle.qz_ending.specs.declared.stop.Stop.{Stop}
+use Rattle.qz_ending.specs.declared.stop.Stop.TheVariants as stop
+use Rattle.qz_ending.specs.Endings.{Outside, Read, SourceFailed, MemoryWanted, PastLimit, text_limit}
+use Rattle.qz_wire.specs.Lines.{newline}
 
 -- what is said of a bank: how many questions it has, or its canonical text
 abbrev pub bank_text : Bool → Bank → List ℕ

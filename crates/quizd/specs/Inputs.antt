@@ -7,10 +7,10 @@ use Rattle.quizd.specs.declared.script_input.Given.{Given}
 use Rattle.quizd.specs.declared.script_input.Given.TheVariants as given
 use Rattle.quizd.specs.declared.script_line.ScriptLine.{ScriptLine}
 use Rattle.quizd.specs.declared.script_line.ScriptLine.TheVariants as script
-use Rattle.quizd.specs.declared.stop.Stop.{Stop}
-use Rattle.quizd.specs.declared.stop.Stop.TheVariants as stop
-use Rattle.quizd.specs.Asking.{kept, with_piece}
-use Rattle.quizd.specs.Words.{parts_at}
+use Rattle.qz_ending.specs.declared.stop.Stop.{Stop}
+use Rattle.qz_ending.specs.declared.stop.Stop.TheVariants as stop
+use Rattle.quizd.specs.ScriptLines.{kept, with_piece}
+use Rattle.qz_wire.specs.Words.{parts_at}
 
 -- the bytes that were read and not given out yet, how many were read in all, and how many may be
 pub record Buffer : Type 0 where

@@ -7,13 +7,13 @@ use Rattle.qz_outside.specs.Sources.{AppendsFront}
 use Rattle.qz_terms.specs.declared.reply.Reply.{Reply}
 use Rattle.qz_terms.specs.Serial.{Lists, Serial}
 use Rattle.quizd.specs.declared.script_line.ScriptLine.{ScriptLine}
-use Rattle.quizd.specs.declared.stop.Stop.{Stop}
-use Rattle.quizd.specs.declared.stop.Stop.TheVariants as stop
-use Rattle.quizd.specs.Asking.{kept_item, line_item}
-use Rattle.quizd.specs.Endings.{Outside}
+use Rattle.qz_ending.specs.declared.stop.Stop.{Stop}
+use Rattle.qz_ending.specs.declared.stop.Stop.TheVariants as stop
+use Rattle.quizd.specs.ScriptLines.{kept_item, line_item}
+use Rattle.qz_ending.specs.Endings.{Outside}
 use Rattle.quizd.specs.Inputs.{fed_parts}
-use Rattle.quizd.specs.Lines.{lines_of}
-use Rattle.quizd.specs.Replies.{reply_line}
+use Rattle.qz_wire.specs.Lines.{lines_of}
+use Rattle.qz_wire.specs.Replies.{reply_line}
 use Rattle.quizd.specs.Retries.{ActOnce, AllStand, GoesOnce, is_keep_fault}
 
 -- so many bytes a script has at most

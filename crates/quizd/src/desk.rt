@@ -1,7 +1,7 @@
 //! What answers requests.
 
 ghost use Rattle.qz_terms.specs.Serial.{Lists};
-ghost use Rattle.quizd.specs.Asking.{CanBeAsked};
+ghost use Rattle.qz_wire.specs.Asking.{CanBeAsked};
 ghost use Rattle.quizd.specs.Retries.{IsAskedOnce};
 
 use qz_terms::{Ask, Reply};

@@ -4,12 +4,12 @@ ghost use Rattle.std.specs.Prelude.{◌≡◌, string_bytes, MatchResult, Some, 
 ghost use Rattle.std.specs.Io.KnownBytes.{Appends};
 ghost use Rattle.qz_outside.specs.Causes.{HasRisen};
 ghost use Rattle.qz_outside.specs.Sources.{AppendsFront};
-ghost use Rattle.quizd.specs.Endings.{Ended};
+ghost use Rattle.qz_ending.specs.Endings.{Ended};
 ghost use Rattle.quizd.specs.GiftEndings.{GiftEnds, GiftsAll, bank_text, fault_text, Writes};
 
-use crate::stop::Stop;
 use gift_read::{GiftFault, read};
 use gift_write::{WriteErr, write};
+use qz_ending::Stop;
 use qz_grading::Bank;
 use qz_outside::{Sink, Source, read_all, write_all};
 use qz_text::NoMemory;

@@ -1,37 +1,25 @@
 //! The quiz server's program.
 #![tactic(auto)]
 
-mod answers;
-mod asked;
-mod asking;
 mod command;
 mod desk;
-mod escapes;
 mod gift;
-mod lines;
+#[cfg(test)]
+mod gift_tests;
 mod plain;
-mod played;
-mod questions;
-mod reading;
-mod replay;
-mod replies;
 mod run;
-mod saying;
 mod script;
 mod script_input;
 mod script_line;
 #[cfg(test)]
 mod script_tests;
-mod slot;
-mod stop;
 #[cfg(test)]
-mod tests;
-mod words;
+mod usage_tests;
 
 pub use gift::gift;
 use qz_outside::{StdSink, StdSource};
+pub use qz_replay::replay;
 use qz_text::{NoMemory, Text};
-pub use replay::replay;
 pub use run::run;
 pub use script::script;
 use std::alloc::Global;

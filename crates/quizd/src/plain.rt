@@ -6,7 +6,7 @@ ghost use Rattle.qz_shard.specs.Holdings.{Answers, IsAsked, StartsHere, is_chang
 ghost use Rattle.qz_terms.specs.Answer.{first_refusal};
 ghost use Rattle.qz_terms.specs.Catalog.{user_of};
 ghost use Rattle.qz_terms.specs.Cause.{forbidden, missing_in};
-ghost use Rattle.quizd.specs.Asking.{CanBeAsked};
+ghost use Rattle.qz_wire.specs.Asking.{CanBeAsked};
 ghost use Rattle.quizd.specs.Retries.{IsAskedOnce};
 ghost use Rattle.quizd.specs.Plain.{HasPlan, IsRead, catalogue, one_shard, plan, plain, sky, user_by};
 

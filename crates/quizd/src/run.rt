@@ -1,14 +1,14 @@
 //! The command line.
 
 ghost use Rattle.quizd.specs.Commands.{UsageWritten, RunEnds, RunsAll};
-ghost use Rattle.quizd.specs.Endings.{Ended};
+ghost use Rattle.qz_ending.specs.Endings.{Ended};
 
 use crate::command::{Command, command_of};
 use crate::gift::gift;
-use crate::replay::replay;
 use crate::script::script;
-use crate::stop::Stop;
+use qz_ending::Stop;
 use qz_outside::{Sink, Source, write_all};
+use qz_replay::replay;
 use qz_text::Text;
 use std::alloc::Global;
 

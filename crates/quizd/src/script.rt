@@ -1,22 +1,22 @@
 //! Answering the lines of a script.
 
 ghost use Rattle.std.specs.Prelude.{◌≡◌, ◌<◌, ◌^◌, length, MatchResult, Some, None};
-ghost use Rattle.quizd.specs.Asking.{kept_item};
-ghost use Rattle.quizd.specs.Endings.{Ended};
+ghost use Rattle.quizd.specs.ScriptLines.{kept_item};
+ghost use Rattle.qz_ending.specs.Endings.{Ended};
 ghost use Rattle.quizd.specs.Plain.{first_lists};
 ghost use Rattle.quizd.specs.Retries.{GoesOnce};
 ghost use Rattle.quizd.specs.Scripts.{AnswersLine, AnswerStops, Says, SayStops, ServeEnds, ServesAll, script_limit};
 
 use crate::desk::Desk;
 use crate::plain::Plain;
-use crate::replies::reply_onto;
 use crate::script_input::{Given, ScriptInput};
 use crate::script_line::{Misread, ScriptLine};
-use crate::stop::Stop;
+use qz_ending::Stop;
 use qz_grading::Refusal;
 use qz_outside::{Sink, Source, write_all};
 use qz_terms::Reply;
 use qz_text::NoMemory;
+use qz_wire::reply_onto;
 use std::alloc::Global;
 
 /// So many bytes one call reads at most.

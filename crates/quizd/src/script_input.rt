@@ -4,10 +4,10 @@ ghost use Rattle.std.specs.Prelude.{◌≡◌, ◌+◌, ◌<◌, ◌≤◌, [], 
 ghost use Rattle.quizd.specs.Inputs.{Ends, FillStops, Fills, GivesNext, GoesOn, NextStops, given_last};
 
 use crate::script_line::ScriptLine;
-use crate::stop::Stop;
-use crate::words::cut;
+use qz_ending::Stop;
 use qz_outside::{Source, read_piece};
 use qz_text::NoMemory;
+use qz_wire::cut;
 use std::alloc::Global;
 use std::marker::Model;
 

@@ -2,12 +2,12 @@
 
 ghost use Rattle.std.specs.Prelude.{◌≡◌, [], IfOk};
 ghost use Rattle.std.specs.Str.{is_utf8};
-ghost use Rattle.quizd.specs.Asking.{CanBeAsked, IsItem, kept, kept_item, with_piece};
+ghost use Rattle.qz_wire.specs.Asking.{CanBeAsked};
+ghost use Rattle.quizd.specs.ScriptLines.{IsItem, kept, kept_item, with_piece};
 
-use crate::asking::ask_on;
-use crate::words::WordFault;
 use qz_terms::Ask;
 use qz_text::{Bytes, NoMemory};
+use qz_wire::{WordFault, ask_on};
 use std::alloc::Global;
 
 /// A line has at most so many bytes, its line feed not counted.

@@ -1,5 +1,0 @@
-use Rattle.quizd.proofs.ReplayLemmas.{two-words}
-use Rattle.quizd.proofs.reading.question_on.Goals as goal
-
-pub returns-in-Some-cut-clause-value : goal.returns-in-Some-cut-clause-value
-returns-in-Some-cut-clause-value c = two-words c.args.line.now c.in-Some.word.now _ _ c.in-Some.ensures c.in-Some-cut.ensures

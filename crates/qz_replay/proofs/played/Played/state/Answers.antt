@@ -1,0 +1,6 @@
+use Rattle.qz_replay.proofs.played.Played.state.Goals as goal
+
+pub returns : goal.returns
+returns c =
+    let shown = c.state.ensures c.self.inside.question c.self.invariant.bound in
+    rw (← c.self.view_is, ← c.self.invariant.behaviour) shown

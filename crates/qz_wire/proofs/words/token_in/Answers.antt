@@ -1,0 +1,6 @@
+use Rattle.std.proofs.Common.{sym, ◌∙◌}
+use Rattle.qz_wire.proofs.AskingLemmas.{token_text}
+use Rattle.qz_wire.proofs.words.token_in.Goals as goal
+
+pub returns-then-is_token : goal.returns-then-is_token
+returns-then-is_token c = rw c.ok.ensures.value (token_text c.args.word.now c.from_utf8.result (sym c.is_token.ensures ∙ c.if-is_token.true) c.from_utf8.ensures.cases)

@@ -1,0 +1,32 @@
+-- Worked words: the texts and the answers that they spell.
+use Rattle.std.specs.Prelude.{◌≡◌, [], ◌∷◌, Some, None, codes, refl}
+use Rattle.gift_read.specs.Computing.{gift}
+use Rattle.qz_grading.specs.declared.response.Answer.TheVariants as answer
+use Rattle.qz_wire.specs.Answers.{answer_of}
+use Rattle.qz_wire.specs.Words.{text_of}
+
+pub escapes : text_of (codes "a\\sb\\n\\\\s") ≡ Some (codes "a b\n\\s")
+escapes = refl
+
+pub the_empty_text : text_of (codes "\\e") ≡ Some []
+the_empty_text = refl
+
+pub only_alone : text_of (codes "a\\e") ≡ None
+only_alone = refl
+
+pub several : answer_of (codes "picks:1,3") ≡ Some (answer.Picks (1 ∷ 3 ∷ []))
+several = refl
+
+pub none_chosen : answer_of (codes "match:2,0,3") ≡ Some (answer.Match (2 ∷ 0 ∷ 3 ∷ []))
+none_chosen = refl
+
+pub a_number_is_missing : answer_of (codes "picks:1,") ≡ None
+a_number_is_missing = refl
+
+pub typed : answer_of (codes "text:two\\swords") ≡ Some (answer.Words (codes "two words"))
+unfolding gift
+typed = refl
+
+pub typed_nothing : answer_of (codes "text:") ≡ Some (answer.Words [])
+unfolding gift
+typed_nothing = refl

@@ -1,0 +1,95 @@
+-- What is said of a reply: a line of words.
+use Rattle.std.specs.Prelude.{ℕ, List, [], ◌++◌, Option, Some, None, ℤ, decimal, codes}
+use Rattle.qz_grading.specs.declared.outcome.State.{State}
+use Rattle.qz_grading.specs.declared.question.Shape.{Shape}
+use Rattle.qz_grading.specs.declared.refusal.AttemptId.{AttemptId}
+use Rattle.qz_grading.specs.declared.refusal.Refusal.{Refusal}
+use Rattle.qz_grading.specs.declared.refusal.Refusal.TheVariants as refusal
+use Rattle.qz_grading.specs.declared.refusal.Thing.{Thing}
+use Rattle.qz_grading.specs.declared.refusal.Thing.TheVariants as thing
+use Rattle.qz_grading.specs.Words.{behaviour_word, grade_text, kind_word, mark_text, state_word}
+use Rattle.qz_terms.specs.declared.reply.Done.{Done}
+use Rattle.qz_terms.specs.declared.reply.Done.TheVariants as done
+use Rattle.qz_terms.specs.declared.reply.Reply.{Reply}
+use Rattle.qz_terms.specs.declared.reply.Reply.TheVariants as reply
+use Rattle.qz_terms.specs.declared.reply.Shown.{Shown}
+use Rattle.qz_terms.specs.declared.reply.Shown.TheVariants as shown
+use Rattle.qz_wire.specs.Lines.{newline}
+
+-- words with a space between them
+abbrev pub then_word : List ℕ → List ℕ → List ℕ
+then_word front word = front ++ (codes " " ++ word)
+
+-- ---- values
+
+-- a dash where there is none
+abbrev pub shown_words : {A : Type 0} → (A → List ℕ) → Shown A → List ℕ
+shown_words spelling shown.None = codes "-"
+shown_words spelling shown.Hidden = codes "hidden"
+shown_words spelling (shown.Value x) = spelling x
+
+abbrev pub moment_word : Option ℕ → List ℕ
+moment_word None = codes "-"
+moment_word (Some moment) = decimal moment
+
+-- `USER.NTH`
+abbrev pub attempt_word : AttemptId → List ℕ
+attempt_word a = decimal a.user ++ (codes "." ++ decimal a.nth)
+
+abbrev pub shape_words : Shape → List ℕ
+shape_words s = then_word (then_word (kind_word s.kind) (decimal s.first)) (decimal s.second)
+
+abbrev pub thing_number : Thing → ℕ
+thing_number thing.User = 1
+thing_number thing.Group = 2
+thing_number thing.Entry = 3
+thing_number thing.Version = 4
+thing_number thing.Quiz = 5
+thing_number thing.Slot = 6
+thing_number thing.Attempt = 7
+thing_number thing.Job = 8
+thing_number thing.Shard = 9
+
+-- ---- replies
+
+abbrev pub standing_words : List ℕ → State → Shown ℤ → List ℕ
+standing_words front state mark = then_word (then_word front (state_word state)) (shown_words mark_text mark)
+
+-- the words behind the place, for each reply to the requests that are read so far
+abbrev pub done_words : Done → List ℕ
+done_words (done.Started attempt slots due) = then_word (then_word (then_word (codes "started") (attempt_word attempt)) (decimal slots)) (moment_word due)
+done_words (done.Stepped state mark) = standing_words (codes "step") state mark
+done_words (done.Same state mark) = standing_words (codes "same") state mark
+done_words (done.Finished total) = then_word (codes "finished") (shown_words mark_text total)
+done_words (done.Grade grade) = then_word (codes "grade") (shown_words grade_text grade)
+done_words d = []
+
+-- the number of a refusal and its words
+abbrev pub refused_words : Refusal → List ℕ
+refused_words (refusal.Malformed place rule) = then_word (then_word (codes "1") (decimal place)) (decimal rule)
+refused_words refusal.UnknownToken = codes "2"
+refused_words (refusal.Forbidden rule) = then_word (codes "3") (decimal rule)
+refused_words (refusal.Unknown what) = then_word (codes "4") (decimal (thing_number what))
+refused_words (refusal.KeyReused place) = then_word (codes "5") (decimal place)
+refused_words (refusal.NotOpen opens) = then_word (codes "6") (decimal opens)
+refused_words (refusal.Late due) = then_word (codes "7") (decimal due)
+refused_words (refusal.Closed place) = then_word (codes "8") (decimal place)
+refused_words (refusal.NoAttemptsLeft allowed) = then_word (codes "9") (decimal allowed)
+refused_words (refusal.Unfinished attempt) = then_word (codes "10") (attempt_word attempt)
+refused_words (refusal.WrongAction behaviour) = then_word (codes "11") (behaviour_word behaviour)
+refused_words (refusal.SlotEnded state) = then_word (codes "12") (state_word state)
+refused_words refusal.NeedsTryAgain = codes "13"
+refused_words refusal.Misfit = codes "14"
+refused_words (refusal.OutOfRange max) = then_word (codes "15") (mark_text max)
+refused_words refusal.NotFinished = codes "16"
+refused_words (refusal.Incompatible bound newer) = then_word (then_word (codes "17") (shape_words bound)) (shape_words newer)
+refused_words (refusal.TooMany limit) = then_word (codes "18") (decimal limit)
+refused_words refusal.KeepFault = codes "19"
+refused_words refusal.Memory = codes "20"
+
+abbrev pub reply_words : Reply → List ℕ
+reply_words (reply.Ok place d) = then_word (then_word (codes "ok") (decimal place)) (done_words d)
+reply_words (reply.Refused r) = then_word (codes "refused") (refused_words r)
+
+abbrev pub reply_line : Reply → List ℕ
+reply_line r = reply_words r ++ newline

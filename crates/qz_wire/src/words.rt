@@ -1,0 +1,155 @@
+//! The words of a line: numbers, attempts, tokens and keys.
+
+ghost use Rattle.std.specs.List.{list_all};
+ghost use Rattle.std.specs.Prelude.{◌≡◌, ◌≤◌, ◌∷◌, [], Some, MatchOption, IfSome, option_copied, option_map};
+ghost use Rattle.qz_wire.specs.Numbered.{line_at as word_at};
+ghost use Rattle.qz_wire.specs.Words.{parts_at, words_of, words_after, moment_of, name_of, slot_of, certainty_of, attempt_of, is_dash, is_token_byte, is_token, token_of, key_of, Reads, IsCutAt};
+
+use crate::lines::{number, place_of};
+use qz_grading::AttemptId;
+use qz_text::NoMemory;
+use std::alloc::{AllocError, AllocFailed};
+
+/// Why words couldn't be read.
+#[derive(Clone, Copy, Debug, PartialEq, Eq)]
+pub enum WordFault {
+    /// The word with this number, from 1, isn't of its form, is missing, or is one too many.
+    Malformed { place: u32 },
+    /// Memory was wanting.
+    Memory,
+}
+
+impl From<NoMemory> for WordFault {
+    ghost use Rattle.qz_wire.specs.declared.words.WordFault.TheVariants as fault;
+
+    ghost from_gives = { λ _ given. given ≡ fault.Memory };
+
+    fn from(_: NoMemory) -> Self {
+        WordFault::Memory
+    }
+}
+
+/// The greatest moment, at the end of 2099.
+const LAST_MOMENT: u32 = 4_102_444_799;
+
+/// A token or a key has at most so many bytes.
+const TOKEN: usize = 64;
+
+/// What stands before and behind the first of these bytes.
+pub fn cut(text: &[u8], byte: u8) -> Option<(&[u8], &[u8])>
+    ensures { MatchOption result (parts_at byte text.now ≡ text.now ∷ []) (λ r. IsCutAt byte text.now r.0.now r.1.now) }
+{
+    let place = place_of(text, byte)?;
+    Some((text.split_at(place).0, text.split_at(place + 1).1))
+}
+
+/// The first word of a line, and what stands behind it, from its space on.
+pub fn first_word(line: &[u8]) -> (&[u8], &[u8])
+    ensures { words_of line.now ≡ result.0.now ∷ words_after result.1.now }
+{
+    match cut(line, b' ') {
+        None => (line, &[]),
+        Some((word, _)) => line.split_at(word.len()),
+    }
+}
+
+/// The next word, behind which `rest` then stands. It has this number, and is missing where no word is left.
+pub fn next_word<'a>(rest: &mut &'a [u8], place: u32) -> Result<&'a [u8], WordFault>
+    ensures { Reads (λ r. (r.now, words_after rest.new.now)) result (word_at (λ w. Some w) place (words_after rest.old.now)) }
+{
+    let [_, line @ ..] = *rest else {
+        return Err(WordFault::Malformed { place });
+    };
+    let (word, behind) = first_word(line);
+    *rest = behind;
+    Ok(word)
+}
+
+/// The moment that a word spells, in seconds since 1970.
+pub fn moment_in(word: &[u8]) -> Option<u64>
+    ensures value { result ≡ moment_of word.now }
+    ensures range { IfSome result (λ moment. moment ≤ 4102444799) }
+{
+    Some(u64::from(number(word, 0, LAST_MOMENT)?))
+}
+
+/// The number of a thing.
+pub fn name_in(word: &[u8]) -> Option<u32>
+    ensures { result ≡ name_of word.now }
+{
+    number(word, 0, u32::MAX)
+}
+
+/// The number of a slot.
+pub fn slot_in(word: &[u8]) -> Option<u16>
+    ensures { result ≡ slot_of word.now }
+{
+    Some(number(word, 0, 65_535)? as u16)
+}
+
+/// How certain a student is, from 0 (not given) to 3.
+pub fn certainty_in(word: &[u8]) -> Option<u8>
+    ensures value { result ≡ certainty_of word.now }
+    ensures range { IfSome result (λ certainty. certainty ≤ 3) }
+{
+    Some(number(word, 0, 3)? as u8)
+}
+
+/// The attempt that `USER.NTH` names.
+pub fn attempt_in(word: &[u8]) -> Option<AttemptId>
+    ensures { result ≡ attempt_of word.now }
+{
+    let (user, nth) = cut(word, b'.')?;
+    if let Some(_) = cut(nth, b'.') {
+        return None;
+    }
+    Some(AttemptId {
+        user: name_in(user)?,
+        nth: name_in(nth)?,
+    })
+}
+
+fn is_token_byte(byte: u8) -> bool
+    ensures { result ≡ is_token_byte byte }
+{
+    byte.is_ascii_alphanumeric() || byte == b'-' || byte == b'_'
+}
+
+fn has_token_bytes(word: &[u8]) -> bool
+    ensures { result ≡ list_all is_token_byte word.now }
+{
+    word.iter().all(|byte| is_token_byte(*byte))
+}
+
+fn is_dash(word: &[u8]) -> bool
+    ensures { result ≡ is_dash word.now }
+{
+    word == b"-".as_slice()
+}
+
+fn is_token(word: &[u8]) -> bool
+    ensures { result ≡ is_token word.now }
+{
+    1 <= word.len() && word.len() <= TOKEN && has_token_bytes(word) && !is_dash(word)
+}
+
+/// The token or key that a word is.
+pub fn token_in(word: &[u8]) -> Option<&str>
+    ensures { option_copied result ≡ token_of word.now }
+{
+    if is_token(word) {
+        str::from_utf8(word).ok()
+    } else {
+        None
+    }
+}
+
+/// The key that a word is, or none for a dash.
+pub fn key_in(word: &[u8]) -> Option<Option<&str>>
+    ensures { option_map (λ key. option_copied key) result ≡ key_of word.now }
+{
+    if is_dash(word) {
+        return Some(None);
+    }
+    Some(Some(token_in(word)?))
+}
