@@ -1,6 +1,8 @@
 -- Worked words: the texts and the answers that they spell.
 use Rattle.std.specs.Prelude.{◌≡◌, [], ◌∷◌, Some, None, codes, refl}
-use Rattle.gift_read.specs.Computing.{gift}
+use Rattle.std.specs.Char.{encode_utf8}
+use Rattle.std.specs.Str.{chars, is_utf8}
+use Rattle.std.specs.Str.Lossy.{utf8_valid_len}
 use Rattle.qz_grading.specs.declared.response.Answer.TheVariants as answer
 use Rattle.qz_wire.specs.Answers.{answer_of}
 use Rattle.qz_wire.specs.Words.{text_of}
@@ -24,9 +26,9 @@ pub a_number_is_missing : answer_of (codes "picks:1,") ≡ None
 a_number_is_missing = refl
 
 pub typed : answer_of (codes "text:two\\swords") ≡ Some (answer.Words (codes "two words"))
-unfolding gift
+unfolding chars encode_utf8 is_utf8 utf8_valid_len
 typed = refl
 
 pub typed_nothing : answer_of (codes "text:") ≡ Some (answer.Words [])
-unfolding gift
+unfolding chars encode_utf8 is_utf8 utf8_valid_len
 typed_nothing = refl
