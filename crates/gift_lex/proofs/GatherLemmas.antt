@@ -8,7 +8,7 @@ use Rattle.std.proofs.lemmas.Grind.{flat_map-append}
 use Rattle.gift_lex.specs.declared.block.Block.{Block}
 use Rattle.gift_lex.specs.declared.block.Piece.TheVariants.{Plain}
 use Rattle.gift_lex.specs.declared.gathering.Started.{Started}
-use Rattle.gift_lex.specs.Blocks.{Line, line_feed, is_blank, is_comment, is_category, runs, cut, only_comments, groups, line_marks, last_number, block_of}
+use Rattle.gift_lex.specs.Blocks.{Line, line_feed, is_blank_line, is_comment, is_category, runs, cut, only_comments, groups, line_marks, last_number, block_of}
 use Rattle.gift_lex.specs.Gathering.{at_front, grown, ended, gathered}
 
 -- ---- the block that has started with some lines
@@ -137,15 +137,15 @@ step-other before line later parts has joins e =
 gathered-onto : (before lines : List Line) → gathered (started_by before) lines ≡ blocks (onto before (cut_runs (only_comments before) (runs lines)))
 gathered-onto before [] = rw append-nil (ended-started before)
 gathered-onto before (line ∷ later) =
-    rw (at_front-started before) (go (is_blank line.1) (only_comments before && is_category line.1) refl (gathered-onto [] later ∙ onto-nil (cut_runs true (runs later))) (ap (λ s. gathered s later) (sym (started_by-push before line)) ∙ gathered-onto (before ++ line ∷ []) later))
+    rw (at_front-started before) (go (is_blank_line line.1) (only_comments before && is_category line.1) refl (gathered-onto [] later ∙ onto-nil (cut_runs true (runs later))) (ap (λ s. gathered s later) (sym (started_by-push before line)) ∙ gathered-onto (before ++ line ∷ []) later))
   where
     go : (blank ends : Bool) → (only_comments before && is_category line.1) ≡ ends → gathered None later ≡ blocks (cut_runs true (runs later))
         → gathered (Some (grown (started_by before) line)) later ≡ blocks (onto (before ++ line ∷ []) (cut_runs (only_comments (before ++ line ∷ [])) (runs later)))
         → cond blank (ended (started_by before) ++ gathered None later) (cond ends (ended (Some (grown (started_by before) line)) ++ gathered None later) (gathered (Some (grown (started_by before) line)) later))
         ≡ blocks (onto before (cut_runs (only_comments before) (cond blank ([] ∷ runs later) (onto_first line (runs later)))))
     go true ends is none more = step-blank before (gathered None later) (runs later) none
-    go false true is none more = step-category before line (gathered None later) (runs later) (slice_split-first (λ l. is_blank l.1) later) is none
-    go false false is none more = step-other before line (gathered (Some (grown (started_by before) line)) later) (runs later) (slice_split-first (λ l. is_blank l.1) later) is more
+    go false true is none more = step-category before line (gathered None later) (runs later) (slice_split-first (λ l. is_blank_line l.1) later) is none
+    go false false is none more = step-other before line (gathered (Some (grown (started_by before) line)) later) (runs later) (slice_split-first (λ l. is_blank_line l.1) later) is more
 
 -- gathered line by line, the blocks are those of the groups
 pub gathered-groups : (lines : List Line) → gathered None lines ≡ map block_of (groups lines)

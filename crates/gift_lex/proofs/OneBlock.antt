@@ -6,7 +6,7 @@ use Rattle.gift_lex.specs.declared.block.Block.{Block}
 use Rattle.gift_lex.specs.declared.block.Piece.{Piece}
 use Rattle.gift_lex.specs.declared.block.Piece.TheVariants.{Plain}
 use Rattle.gift_lex.specs.declared.gathering.Started.{Started}
-use Rattle.gift_lex.specs.Blocks.{is_blank, is_comment, is_category, marks_of, line_marks, block_of, groups}
+use Rattle.gift_lex.specs.Blocks.{is_blank_line, is_comment, is_category, marks_of, line_marks, block_of, groups}
 use Rattle.gift_lex.specs.Gathering.{gathered, grown}
 use Rattle.gift_lex.proofs.GatherLemmas.{gathered-groups}
 
@@ -19,7 +19,7 @@ pub record Gives (blocks : List Block) (marks : List Piece) (rest : List (List �
 
 -- a line that is neither blank nor a comment
 abbrev pub is_inked : List ℕ → Bool
-is_inked cs = not (is_blank cs) && not (is_comment cs)
+is_inked cs = not (is_blank_line cs) && not (is_comment cs)
 
 abbrev pub further_marks : List (List ℕ) → List Piece
 further_marks ls = flat_map (λ (cs : List ℕ). Plain 10 ∷ marks_of cs) ls
@@ -37,13 +37,13 @@ gathered-more s [] n rest text inked = record {
 }
 gathered-more s (l ∷ ls) n rest text inked =
     let parts = and_parts (is_inked l) (list_all is_inked ls) inked in
-    let line = and_parts (not (is_blank l)) (not (is_comment l)) parts.0 in
+    let line = and_parts (not (is_blank_line l)) (not (is_comment l)) parts.0 in
     let s2 : Started = grown (Some s) (n, l) in
     let still : s2.only_comments ≡ false = rw text refl in
     let later = gathered-more s2 ls (n + 1) rest still parts.1 in
     let here = line_marks-inked n l (not-true (is_comment l) line.1) in
     let goes : gathered (Some s) (enumerate_from n ((l ∷ ls) ++ [] ∷ rest)) ≡ gathered (Some s2) (enumerate_from (n + 1) (ls ++ [] ∷ rest)) =
-    rw (not-true (is_blank l) line.0, text) refl in
+    rw (not-true (is_blank_line l) line.0, text) refl in
     record {
       block = later.block;
       number = later.number;
@@ -55,13 +55,13 @@ gathered-more s (l ∷ ls) n rest text inked =
 pub gives-lines : (cs : List ℕ) (ls : List (List ℕ)) (n : ℕ) (rest : List (List ℕ)) → is_inked cs ≡ true → is_category cs ≡ false → list_all is_inked ls ≡ true
     → Gives (map block_of (groups (enumerate_from n (cs ∷ (ls ++ [] ∷ rest))))) (marks_of cs ++ further_marks ls) rest
 gives-lines cs ls n rest inked no_category also =
-    let line = and_parts (not (is_blank cs)) (not (is_comment cs)) inked in
+    let line = and_parts (not (is_blank_line cs)) (not (is_comment cs)) inked in
     let no_comment = not-true (is_comment cs) line.1 in
     let s : Started = grown None (n, cs) in
     let text : s.only_comments ≡ false = rw no_comment refl in
     let later = gathered-more s ls (n + 1) rest text also in
     let goes : gathered None (enumerate_from n (cs ∷ (ls ++ [] ∷ rest))) ≡ gathered (Some s) (enumerate_from (n + 1) (ls ++ [] ∷ rest)) =
-    rw (not-true (is_blank cs) line.0, no_category) refl in
+    rw (not-true (is_blank_line cs) line.0, no_category) refl in
     record {
       block = later.block;
       number = later.number;
@@ -73,13 +73,13 @@ gives-lines cs ls n rest inked no_category also =
 pub gives-category : (cs : List ℕ) (n : ℕ) (rest : List (List ℕ)) → is_inked cs ≡ true → is_category cs ≡ true
     → Gives (map block_of (groups (enumerate_from n (cs ∷ [] ∷ rest)))) (marks_of cs) rest
 gives-category cs n rest inked category =
-    let line = and_parts (not (is_blank cs)) (not (is_comment cs)) inked in
+    let line = and_parts (not (is_blank_line cs)) (not (is_comment cs)) inked in
     let no_comment = not-true (is_comment cs) line.1 in
     let s : Started = grown None (n, cs) in
     let text : s.only_comments ≡ false = rw no_comment refl in
     let block : Block = record { line = s.line; last_line = s.last_line; marks = s.marks } in
     let goes : gathered None (enumerate_from n (cs ∷ [] ∷ rest)) ≡ block ∷ gathered None (enumerate_from (n + 1 + 1) rest) =
-    rw (not-true (is_blank cs) line.0, category, no_comment) refl in
+    rw (not-true (is_blank_line cs) line.0, category, no_comment) refl in
     record {
       block = block;
       number = n + 1 + 1;

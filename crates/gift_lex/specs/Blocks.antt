@@ -72,8 +72,8 @@ unindented [] = []
 unindented (c ∷ cs) = if is_gap c then unindented cs else c ∷ cs
 
 -- a line of spaces and tabs alone is blank
-abbrev pub is_blank : List ℕ → Bool
-is_blank cs = list_all is_gap cs
+abbrev pub is_blank_line : List ℕ → Bool
+is_blank_line cs = list_all is_gap cs
 
 abbrev pub is_comment : List ℕ → Bool
 is_comment cs = starts_with nat_eq (unindented cs) (codes "//")
@@ -85,7 +85,7 @@ is_category cs = starts_with nat_eq (unindented cs) (codes "$CATEGORY:")
 
 -- the longest runs of lines without a blank line
 abbrev pub runs : List Line → List (List Line)
-runs lines = slice_split (λ line. is_blank line.1) lines
+runs lines = slice_split (λ line. is_blank_line line.1) lines
 
 -- Lines of one run, cut behind each category line that stands at the front of its block but for comments. The test tells
 -- whether nothing else of its block stands before the first of these lines.

@@ -5,7 +5,7 @@ use Rattle.std.specs.List.{enumerate_from}
 use Rattle.gift_lex.specs.declared.block.Block.{Block}
 use Rattle.gift_lex.specs.declared.block.Piece.TheVariants.{Plain}
 use Rattle.gift_lex.specs.declared.gathering.Started.{Started}
-use Rattle.gift_lex.specs.Blocks.{line_feed, carriage_return, with_plain_breaks, Line, between_feeds, is_blank, is_comment, is_category, line_marks, block_of, groups}
+use Rattle.gift_lex.specs.Blocks.{line_feed, carriage_return, with_plain_breaks, Line, between_feeds, is_blank_line, is_comment, is_category, line_marks, block_of, groups}
 
 -- ---- where a line ends
 
@@ -56,7 +56,7 @@ ended (Some started) =
 abbrev pub gathered : Option Started → List Line → List Block
 gathered started [] = ended started
 gathered started (line ∷ later) =
-    if is_blank line.1 then ended started ++ gathered None later
+    if is_blank_line line.1 then ended started ++ gathered None later
     else (if at_front started && is_category line.1 then ended (Some (grown started line)) ++ gathered None later else gathered (Some (grown started line)) later)
 
 -- a further line is taken, and ends a block or none: whatever follows it, the blocks are the same

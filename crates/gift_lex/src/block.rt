@@ -1,7 +1,6 @@
 //! What a GIFT text is read as: its blocks, each a list of marks.
 
-use qz_text::{Listed, NoMemory, TryCopy};
-use std::alloc::Global;
+use qz_text::Listed;
 
 /// A character of a block, with what a backslash before it makes of it.
 #[derive(Clone, Copy, Debug, PartialEq, Eq)]
@@ -25,20 +24,4 @@ pub struct Block {
     pub last_line: u32,
     /// Its marks, with a plain line feed between two lines. A comment counts as one space.
     pub marks: Listed<Piece>,
-}
-
-impl TryCopy for Piece {
-    fn try_copy(&self, _alloc: Global) -> Result<Piece, NoMemory> {
-        Ok(*self)
-    }
-}
-
-impl TryCopy for Block {
-    fn try_copy(&self, alloc: Global) -> Result<Block, NoMemory> {
-        Ok(Block {
-            line: self.line,
-            last_line: self.last_line,
-            marks: self.marks.try_copy(alloc)?,
-        })
-    }
 }

@@ -6,7 +6,7 @@ ghost use Rattle.std.specs.Str.{chars};
 ghost use Rattle.gift_lex.specs.Gathering.{at_front, begun, extended, ended, TakesLine};
 
 use crate::block::{Block, Piece};
-use crate::lines::{is_blank, is_category, is_comment};
+use crate::lines::{is_blank_line, is_category, is_comment};
 use crate::marks::push_marks;
 use qz_text::{Listed, NoMemory};
 use std::alloc::Global;
@@ -30,7 +30,7 @@ pub(crate) fn take_line(
     ensures taken { IfOk result (TakesLine started.old started.new (number, chars line.now)) }
     ensures over { IfOk result (λ block. OnSome block (started.new ≡ None)) }
 {
-    if is_blank(line) {
+    if is_blank_line(line) {
         return Ok(end(started));
     }
     let ends = at_front(started) && is_category(line);

@@ -2,7 +2,7 @@
 
 ghost use Rattle.std.specs.Prelude.{◌≡◌, ◌<◌, [], ◌∷◌, length, position, MatchOption, IfSome};
 ghost use Rattle.std.specs.Str.{chars};
-ghost use Rattle.gift_lex.specs.Blocks.{unindented, is_blank, is_comment, is_category};
+ghost use Rattle.gift_lex.specs.Blocks.{unindented, is_blank_line, is_comment, is_category};
 ghost use Rattle.gift_lex.specs.Gathering.{is_break, after_break, split_lines};
 
 use crate::characters::split_char;
@@ -44,8 +44,8 @@ fn after_break(text: &str) -> &str
 }
 
 /// Whether a line has spaces and tabs alone.
-pub(crate) fn is_blank(line: &str) -> bool
-    ensures { result ≡ is_blank (chars line.now) }
+pub(crate) fn is_blank_line(line: &str) -> bool
+    ensures { result ≡ is_blank_line (chars line.now) }
 {
     unindented(line).is_empty()
 }

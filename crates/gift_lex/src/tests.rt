@@ -1,5 +1,5 @@
 use super::*;
-use qz_text::{Listed, NoMemory, TryCopy};
+use qz_text::{Listed, NoMemory};
 use std::alloc::{AllocError, Global};
 use std::test::Fail;
 
@@ -71,15 +71,6 @@ fn reads_texts(rt: HostRuntime) -> Result<(), Fail> {
         let shown = read(alloc, text)?;
         assert_eq!(rt; shown.as_str(), want, "{text:?}");
     }
-    Ok(())
-}
-
-#[test]
-fn copies_blocks(rt: HostRuntime) -> Result<(), Fail> {
-    let alloc = rt.alloc();
-    let copy = blocks(alloc, EXPORTED)?.try_copy(alloc)?;
-    let shown = show(alloc, &copy)?;
-    assert_eq!(rt; shown.as_str(), READ);
     Ok(())
 }
 

@@ -4,7 +4,7 @@ use Rattle.std.specs.List.{list_any}
 use Rattle.gift_read.specs.declared.faults_of_values.Flaw.{Flaw}
 use Rattle.gift_read.specs.declared.faults_of_values.Flaw.TheVariants as flaw
 use Rattle.gift_read.specs.Flaws.{has_flaw}
-use Rattle.gift_read.specs.Places.{Marks, character, before, from, is_blank}
+use Rattle.gift_read.specs.Places.{Marks, character, before, from, are_blank}
 use Rattle.gift_read.specs.Parts.{Part, onto_part, cut, unless_blank, pieces}
 use Rattle.gift_read.proofs.PartLemmas.{later, cut-first}
 
@@ -44,7 +44,7 @@ length-pieces-le begins sign marks = omega (arith, drops (cut begins sign marks)
   where
     drops : (parts : List Part) → length (unless_blank parts) ≤ length parts
     drops [] = omega arith
-    drops (p ∷ parts) = go (is_blank p.1)
+    drops (p ∷ parts) = go (are_blank p.1)
       where
         go : (b : Bool) → length (cond b parts (p ∷ parts)) ≤ length (p ∷ parts)
         go true = omega arith

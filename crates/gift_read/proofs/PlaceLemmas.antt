@@ -4,7 +4,7 @@ use Rattle.std.proofs.lemmas.Bool.{ne_eqb}
 use Rattle.std.proofs.lemmas.List.{take_rest}
 use Rattle.std.proofs.lemmas.List.Folds.{list_all_at}
 use Rattle.gift_lex.specs.declared.block.Piece.{Piece}
-use Rattle.gift_read.specs.Places.{Marks, before, from, occurs, is_last, is_space, is_blank}
+use Rattle.gift_read.specs.Places.{Marks, before, from, occurs, is_last, is_space, are_blank}
 
 -- there is a place where something stands from it on
 pub occurs-from : (here : Marks → Bool) (marks : Marks) → occurs here marks ≡ not (eqb (length (from here marks)) 0)
@@ -58,14 +58,14 @@ last_further here whole found (m ∷ marks) some holds e =
     go false e = e
 
 -- marks up to the last that is no white space
-pub before_blank-take : (marks : Marks) (n : ℕ) (d : Piece) → n ≤ length marks → is_blank (drop n marks) ≡ true → (0 < n → is_space (get_or marks (n - 1) d) ≡ false) → before is_blank marks ≡ take n marks
+pub before_blank-take : (marks : Marks) (n : ℕ) (d : Piece) → n ≤ length marks → are_blank (drop n marks) ≡ true → (0 < n → is_space (get_or marks (n - 1) d) ≡ false) → before are_blank marks ≡ take n marks
 before_blank-take [] zero d fits blank ink = refl
 before_blank-take [] (suc n) d fits blank ink = absurd (omega arith)
 before_blank-take (m ∷ marks) zero d fits blank ink = rw blank refl
 before_blank-take (m ∷ marks) (suc n) d fits blank ink =
     let same : suc n - 1 ≡ n = omega arith in
     let last = rw same at (ink (omega arith)) in
-    let some : is_blank (m ∷ marks) ≡ false = list_all_at is_space (m ∷ marks) n d (omega arith) last in
+    let some : are_blank (m ∷ marks) ≡ false = list_all_at is_space (m ∷ marks) n d (omega arith) last in
     let later = before_blank-take marks n d (omega arith) blank (λ lt. behind n lt last) in
     rw some (ap (λ t. m ∷ t) later)
   where

@@ -10,7 +10,7 @@ use Rattle.qz_grading.specs.Questions as sound
 use Rattle.gift_read.specs.declared.places.Landmark.TheVariants as landmark
 use Rattle.gift_read.specs.declared.parts.Sort.{Sort}
 use Rattle.gift_read.specs.declared.parts.Sort.TheVariants as sort
-use Rattle.gift_read.specs.Places.{Marks, is_at, before, occurs, is_blank}
+use Rattle.gift_read.specs.Places.{Marks, is_at, before, occurs, are_blank}
 use Rattle.gift_read.specs.Texts.{text_of}
 use Rattle.gift_read.specs.Parts.{Part, is_named, in_name, name_marks, body, text_before, in_braces, answer_part, text_behind, answers, sort_of, pieces_of, answer_marks, feedback_marks}
 use Rattle.gift_read.specs.Values.{is_weighed, weight_told, unweighed, extent_of, question}
@@ -82,7 +82,7 @@ number_pieces sort.Numerical answers = pieces_of sort.Numerical answers
 number_pieces s answers = []
 
 abbrev pub has_blank_number : Part → Bool
-has_blank_number p = is_blank (unweighed (answer_marks p.1))
+has_blank_number p = are_blank (unweighed (answer_marks p.1))
 
 abbrev pub has_no_number : Part → Bool
 has_no_number p = is_none (extent_of (unweighed (answer_marks p.1)))

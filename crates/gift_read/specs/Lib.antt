@@ -5,11 +5,10 @@ pub mod Values
 pub mod Category
 pub mod Faults
 pub mod FirstFault
+pub mod Parted
 pub mod Flaws
-pub mod Room
 pub mod Gift
 pub mod Computing
 pub mod Examples
 pub mod ExamplesKinds
 pub mod ExamplesFaults
-pub mod Written

@@ -4,7 +4,7 @@ use Rattle.gift_lex.specs.declared.block.Piece.TheVariants.{Plain}
 use Rattle.gift_read.specs.declared.places.Landmark.TheVariants as landmark
 use Rattle.gift_read.specs.declared.parts.Sort.{Sort}
 use Rattle.gift_read.specs.declared.parts.Sort.TheVariants as sort
-use Rattle.gift_read.specs.Places.{Marks, character, tilde, equals, is_at, before, from, occurs, is_last, is_blank, unled, trimmed}
+use Rattle.gift_read.specs.Places.{Marks, character, tilde, equals, is_at, before, from, occurs, is_last, are_blank, unled, trimmed}
 use Rattle.gift_read.specs.Texts.{spells}
 
 -- ---- the name
@@ -48,7 +48,7 @@ abbrev pub gap : Marks
 gap = map Plain (codes "_____")
 
 abbrev pub question_text : Marks → Marks
-question_text body = if is_blank (text_behind body) then text_before body else text_before body ++ (gap ++ text_behind body)
+question_text body = if are_blank (text_behind body) then text_before body else text_before body ++ (gap ++ text_behind body)
 
 -- the general feedback, behind the last place with four hashes
 abbrev pub general_marks : Marks → Marks
@@ -102,7 +102,7 @@ cut begins sign (m ∷ marks) = if begins (m ∷ marks) then (sign, []) ∷ cut 
 -- nothing stands before the first but white space
 abbrev pub unless_blank : List Part → List Part
 unless_blank [] = []
-unless_blank (p ∷ parts) = if is_blank p.1 then parts else p ∷ parts
+unless_blank (p ∷ parts) = if are_blank p.1 then parts else p ∷ parts
 
 abbrev pub pieces : (Marks → Bool) → ℕ → Marks → List Part
 pieces begins sign marks = unless_blank (cut begins sign marks)

@@ -22,10 +22,10 @@ character (Plain c) = c
 abbrev pub is_space : Piece → Bool
 is_space m = grading.is_space (character m)
 
-abbrev pub is_sign : ℕ → Piece → Bool
-is_sign s (Escaped c) = false
-is_sign s (Sign c) = c == s
-is_sign s (Plain c) = false
+abbrev pub is_this_sign : ℕ → Piece → Bool
+is_this_sign s (Escaped c) = false
+is_this_sign s (Sign c) = c == s
+is_this_sign s (Plain c) = false
 
 abbrev pub tilde : ℕ
 tilde = 126
@@ -35,7 +35,7 @@ equals = 61
 
 -- a choice begins with either sign
 abbrev pub begins_choice : Piece → Bool
-begins_choice m = is_sign tilde m || is_sign equals m
+begins_choice m = is_this_sign tilde m || is_this_sign equals m
 
 -- ---- what marks begin with
 
@@ -43,7 +43,7 @@ begins_choice m = is_sign tilde m || is_sign equals m
 abbrev pub signs_at : List ℕ → Marks → Bool
 signs_at [] marks = true
 signs_at (s ∷ signs) [] = false
-signs_at (s ∷ signs) (m ∷ marks) = is_sign s m && signs_at signs marks
+signs_at (s ∷ signs) (m ∷ marks) = is_this_sign s m && signs_at signs marks
 
 -- these characters, signs or not
 abbrev pub characters_at : List ℕ → Marks → Bool
@@ -97,8 +97,8 @@ is_last here (m ∷ marks) = here (m ∷ marks) && not (occurs here marks)
 -- ---- outer white space
 
 -- whether all is white space
-abbrev pub is_blank : Marks → Bool
-is_blank marks = list_all is_space marks
+abbrev pub are_blank : Marks → Bool
+are_blank marks = list_all is_space marks
 
 abbrev pub is_ink : Marks → Bool
 is_ink [] = false
@@ -110,4 +110,4 @@ unled marks = from is_ink marks
 
 -- and without that behind them
 abbrev pub trimmed : Marks → Marks
-trimmed marks = before is_blank (unled marks)
+trimmed marks = before are_blank (unled marks)

@@ -4,7 +4,6 @@ ghost use Rattle.std.specs.Prelude.{◌≡◌};
 ghost use Rattle.gift_read.specs.declared.fault.GiftFault.TheVariants.{Memory};
 
 use qz_text::NoMemory;
-use std::alloc::{AllocError, AllocFailed};
 
 /// Why a text has no reading.
 #[derive(Clone, Copy, Debug, PartialEq, Eq)]
@@ -23,22 +22,6 @@ impl From<NoMemory> for GiftFault {
     ghost from_gives = { λ _ e. e ≡ Memory };
 
     fn from(_: NoMemory) -> Self {
-        GiftFault::Memory
-    }
-}
-
-impl From<AllocError> for GiftFault {
-    ghost from_gives = { λ _ e. e ≡ Memory };
-
-    fn from(_: AllocError) -> Self {
-        GiftFault::Memory
-    }
-}
-
-impl<T: Drop> From<AllocFailed<T>> for GiftFault {
-    ghost from_gives = { λ _ e. e ≡ Memory };
-
-    fn from(_: AllocFailed<T>) -> Self {
         GiftFault::Memory
     }
 }

@@ -1,11 +1,11 @@
 //! Which rule a block breaks first.
 
-ghost use Rattle.std.specs.Prelude.{◌≡◌, ◌+◌, ◌≤◌, false, Some, length, nat_le, IfOk, IfSome, IfNone};
+ghost use Rattle.std.specs.Prelude.{◌≡◌, ◌+◌, ◌≤◌, false, Some, length, IfOk, IfSome, IfNone};
 ghost use Rattle.qz_grading.specs.declared.question.Format.{Format};
 ghost use Rattle.qz_grading.specs.Questions as sound;
 ghost use Rattle.gift_read.specs.declared.parts.Sort.TheVariants as sort;
 ghost use Rattle.gift_read.specs.Category.{is_category};
-ghost use Rattle.gift_read.specs.Faults.{is_nameless, has_stray_brace, is_unclosed, broken_values, broken, line_of};
+ghost use Rattle.gift_read.specs.Faults.{has_stray_brace, broken_values, broken, line_of};
 ghost use Rattle.gift_read.specs.FirstFault.{first_of, IsWhole};
 ghost use Rattle.gift_read.specs.Parts.{pieces, body, answer_part, answers, sort_of};
 ghost use Rattle.gift_read.specs.Places.{is_at};
@@ -13,54 +13,30 @@ ghost use Rattle.gift_read.specs.Values.{kind_in, question};
 
 use crate::faults_of_values::fault_of_values;
 use crate::limits::{MOST_PARTS, is_long_text};
-use crate::parts::{
-    Sort, first_piece, sort_of, split_braces, split_general, split_name, split_part, split_piece,
-};
-use crate::places::{Landmark, behind, occurs, split, unled};
-use crate::room::is_at_most;
-use gift_lex::{Block, Piece};
-use qz_grading::Question;
+use crate::parts::{PartedBlock, Sort, first_piece, split_piece};
+use crate::places::{Landmark, behind, occurs, split};
+use gift_lex::Piece;
+use qz_grading::{Question, canonical_size_is_at_most};
 use qz_text::NoMemory;
 use std::alloc::Global;
 
-// ---- names and braces
-
-/// Whether a name stands at the front and has no end.
-fn is_nameless(marks: &[Piece]) -> bool
-    ensures { result ≡ is_nameless marks.now }
-{
-    match unled(marks) {
-        [Piece::Sign(':'), Piece::Sign(':'), in_name @ ..] => !occurs(Landmark::Colons, in_name),
-        _ => false,
-    }
-}
+// ---- braces
 
 /// Whether a brace closes none, or stands behind the answer part.
-fn has_stray_brace(body: &[Piece]) -> bool
-    ensures { result ≡ has_stray_brace body.now }
+fn has_stray_brace(block: &PartedBlock) -> bool
+    ensures { result ≡ has_stray_brace (body block.now.marks) }
 {
-    let (before, _) = split_braces(body);
-    let (_, behind) = split_part(body);
-    occurs(Landmark::Closing, before) || occurs(Landmark::Brace, behind)
-}
-
-/// Whether a brace isn't closed.
-fn is_unclosed(body: &[Piece]) -> bool
-    ensures { result ≡ is_unclosed body.now }
-{
-    let (_, inside) = split_braces(body);
-    occurs(Landmark::Opening, body) && !occurs(Landmark::Closing, inside)
+    occurs(Landmark::Closing, block.before()) || occurs(Landmark::Brace, block.behind())
 }
 
 /// The line on which the breach of a rule is told: the block's last where a brace isn't closed, and else its first.
-pub(crate) fn line_of(block: &Block, rule: u8) -> u32
+pub(crate) fn line_of(block: &PartedBlock, rule: u8) -> u32
     ensures { result ≡ line_of block.now rule }
 {
-    let (_, body) = split_name(block.marks.as_slice());
-    if rule == 5 && is_unclosed(body) && !has_stray_brace(body) {
-        block.last_line
+    if rule == 5 && block.is_unclosed() && !has_stray_brace(block) {
+        block.last_line()
     } else {
-        block.line
+        block.line()
     }
 }
 
@@ -106,33 +82,22 @@ fn number_count(answers: &[Piece]) -> usize
     if others.is_empty() { count } else { count + 1 }
 }
 
-/// How many choices, pairs or answers a question has, by the marks behind its name.
-fn part_count_of(body: &[Piece]) -> usize
-    ensures { (format : Format) → result
-        ≡ sound.parts (kind_in format (answers (answer_part body.now)) (sort_of body.now)) }
-{
-    let (answers, _) = split_general(split_part(body).0);
-    part_count(sort_of(body), answers)
-}
-
 // ---- before anything is built
 
 /// The first rule that a block breaks, as far as it can be told before its question is built: a name or a brace without its
 /// end, a name that is too long where the braces are at fault, or too many pieces.
-pub(crate) fn early_fault(block: &Block) -> Option<u8>
+pub(crate) fn early_fault(block: &PartedBlock) -> Option<u8>
     requires { is_category block.now.marks ≡ false }
     ensures told { IfSome result (λ rule. first_of (broken block.now) ≡ Some rule) }
     ensures whole { IfNone result (IsWhole block.now) }
 {
-    let marks = block.marks.as_slice();
-    if is_nameless(marks) {
+    if block.is_nameless() {
         return Some(4);
     }
-    let (name, body) = split_name(marks);
-    if has_stray_brace(body) || is_unclosed(body) {
-        return Some(if is_long_text(name) { 2 } else { 5 });
+    if has_stray_brace(block) || block.is_unclosed() {
+        return Some(if is_long_text(block.name()) { 2 } else { 5 });
     }
-    if part_count_of(body) > MOST_PARTS {
+    if part_count(block.sort(), block.answers()) > MOST_PARTS {
         return Some(2);
     }
     None
@@ -144,19 +109,17 @@ pub(crate) fn early_fault(block: &Block) -> Option<u8>
 const MOST_TOGETHER: usize = 262_144;
 
 /// The first of the rules 2 and 6 to 11 that a question breaks, read from the answers of a block.
-fn value_fault(alloc: Global, block: &Block, built: &Question) -> Result<Option<u8>, NoMemory>
+fn value_fault(alloc: Global, block: &PartedBlock, built: &Question) -> Result<Option<u8>, NoMemory>
     ensures { IfOk result (λ rule. rule
         ≡ first_of (broken_values built.now (sort_of (body block.now.marks)) (answers (answer_part (body block.now.marks))))) }
 {
-    let (_, body) = split_name(block.marks.as_slice());
-    let (answers, _) = split_general(split_part(body).0);
-    fault_of_values(alloc, built, sort_of(body), answers)
+    fault_of_values(alloc, built, block.sort(), block.answers())
 }
 
 /// The first rule that a block breaks whose name and braces are whole, told by the question that it spells.
 pub(crate) fn late_fault(
     alloc: Global,
-    block: &Block,
+    block: &PartedBlock,
     built: &Question,
 ) -> Result<Option<u8>, NoMemory>
     requires asked { is_category block.now.marks ≡ false }
@@ -166,7 +129,7 @@ pub(crate) fn late_fault(
 {
     match value_fault(alloc, block, built)? {
         Some(rule) => Ok(Some(rule)),
-        None if is_at_most(built, MOST_TOGETHER) => Ok(None),
+        None if canonical_size_is_at_most(built, MOST_TOGETHER) => Ok(None),
         None => Ok(Some(2)),
     }
 }

@@ -11,7 +11,7 @@ ghost use Rattle.gift_read.specs.Places.{is_at};
 
 use crate::limits::is_long;
 use crate::parts::{Sort, first_piece, split_answer, split_piece};
-use crate::places::{Landmark, behind, is_blank, occurs, split};
+use crate::places::{Landmark, are_blank, behind, occurs, split};
 use crate::values::{extent_of, is_weighed, unweighed, weight_told};
 use gift_lex::Piece;
 use qz_grading::{Kind, Question, has_no_blank, has_right_choice, has_stem, least_parts, parts};
@@ -39,7 +39,7 @@ impl Flaw {
         let (answer, _) = split_answer(piece);
         match self {
             Flaw::Weight => Ok(is_weighed(answer) && weight_told(alloc, answer)?.is_none()),
-            Flaw::BlankNumber => Ok(is_blank(unweighed(answer))),
+            Flaw::BlankNumber => Ok(are_blank(unweighed(answer))),
             Flaw::NoNumber => Ok(extent_of(alloc, unweighed(answer))?.is_none()),
         }
     }

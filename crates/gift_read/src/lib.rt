@@ -6,22 +6,22 @@ mod fault;
 mod faults;
 mod faults_of_values;
 mod kinds;
-pub mod laws;
 mod limits;
 mod parts;
 mod places;
 mod question;
 mod reading;
-mod room;
 mod texts;
 mod utf8;
 mod values;
-mod written;
 
 pub use fault::GiftFault;
 pub use reading::read;
 
+// What the definitions speak of: the laws of reading back name these.
+pub use parts::Sort;
+pub use places::Landmark;
+pub use reading::Entry;
+
 #[cfg(test)]
 mod tests;
-#[cfg(test)]
-mod tests_faults;

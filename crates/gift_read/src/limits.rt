@@ -8,7 +8,7 @@ ghost use Rattle.qz_grading.specs.declared.question.Pair.{Pair};
 ghost use Rattle.qz_grading.specs.declared.question.Short.{Short};
 ghost use Rattle.qz_grading.specs.Questions.{kind_texts, are_no_longer};
 ghost use Rattle.gift_read.specs.Faults.{most_bytes, is_long};
-ghost use Rattle.gift_read.specs.Room.{LeftBehind};
+ghost use Rattle.qz_grading.specs.Room.{LeftBehind};
 ghost use Rattle.gift_read.specs.Texts.{spelled, text_of};
 
 use crate::places::{character, trimmed};

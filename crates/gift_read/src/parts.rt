@@ -1,20 +1,23 @@
 //! The parts of a block: the name, the question text, the answer part, the general feedback, and the pieces.
 
-ghost use Rattle.std.specs.Prelude.{◌≡◌, ℕ, ◌<◌, [], ◌∷◌, ◌++◌, length, MatchOption, IfSome, IfOk};
-ghost use Rattle.gift_read.specs.Places.{is_at};
+ghost use Rattle.std.specs.Prelude.{◌≡◌, ℕ, ◌<◌, [], ◌∷◌, ◌++◌, length, drop, MatchOption, IfSome, IfOk};
+ghost use Rattle.gift_read.specs.declared.places.Landmark.TheVariants.{Closing};
+ghost use Rattle.gift_read.specs.Faults.{is_nameless, is_unclosed};
+ghost use Rattle.gift_read.specs.Places.{is_at, before, from};
 ghost use Rattle.gift_read.specs.Parts.{name_marks, body, text_before, in_braces, answer_part, text_behind, gap, question_text, general_marks, answers, truth, sort_in, sort_of, cut, pieces, numbers, answer_marks, feedback_marks};
 
 use crate::places::{
-    Landmark, behind, character, is_blank, occurs, split, split_last, trimmed, unled,
+    Landmark, are_blank, behind, character, occurs, split, split_last, trimmed, unled,
 };
 use crate::texts::spells;
-use gift_lex::Piece;
+use gift_lex::{Block, Piece};
 use qz_text::NoMemory;
 use std::alloc::Global;
+use std::marker::Model;
 
 /// What kind of question a block has.
 #[derive(Clone, Copy)]
-pub(crate) enum Sort {
+pub enum Sort {
     Description,
     Essay,
     Numerical,
@@ -26,8 +29,127 @@ pub(crate) enum Sort {
     ShortAnswer,
 }
 
+/// A block with its parts, which are found once. It is seen as the block.
+#[derive(Drop)]
+pub(crate) struct PartedBlock<'a> {
+    block: &'a Block,
+    name: &'a [Piece],
+    is_nameless: bool,
+    before: &'a [Piece],
+    is_unclosed: bool,
+    behind: &'a [Piece],
+    answers: &'a [Piece],
+    general: &'a [Piece],
+    sort: Sort,
+}
+
+impl<'a> Model for PartedBlock<'a> {
+    ghost use Rattle.gift_lex.specs.declared.block.Block.{Block};
+    ghost use Rattle.gift_read.specs.Parted.{HasParts};
+
+    ghost Value = { Block };
+
+    ghost view = { λ s. s.block.now };
+
+    ghost invariant = { λ s. HasParts s.block.now.marks s.name.now s.before.now s.answers.now
+        s.general.now s.behind.now s.is_nameless s.is_unclosed s.sort };
+}
+
+impl<'a> PartedBlock<'a> {
+    pub(crate) fn of(block: &'a Block) -> PartedBlock<'a>
+        ensures { result ≡ block.now }
+    {
+        let marks = block.marks.as_slice();
+        let (name, body) = split_name(marks);
+        let (before, inside) = split_braces(body);
+        let (part, behind) = split_part(inside);
+        let (answers, general) = split_general(part);
+        PartedBlock {
+            block,
+            name,
+            is_nameless: is_nameless(marks),
+            before,
+            is_unclosed: is_unclosed(body, inside),
+            behind,
+            answers,
+            general,
+            sort: sort_of(body, answers),
+        }
+    }
+
+    /// The number of its first line.
+    pub(crate) fn line(&self) -> u32
+        ensures { result ≡ self.now.line }
+    {
+        self.block.line
+    }
+
+    /// The number of its last line.
+    pub(crate) fn last_line(&self) -> u32
+        ensures { result ≡ self.now.last_line }
+    {
+        self.block.last_line
+    }
+
+    /// The name between two colons and two more, which may be missing.
+    pub(crate) fn name(&self) -> &[Piece]
+        ensures { result.now ≡ name_marks self.now.marks }
+    {
+        self.name
+    }
+
+    /// Whether the name has no end.
+    pub(crate) fn is_nameless(&self) -> bool
+        ensures { result ≡ is_nameless self.now.marks }
+    {
+        self.is_nameless
+    }
+
+    /// The text before the answer part.
+    pub(crate) fn before(&self) -> &[Piece]
+        ensures { result.now ≡ text_before (body self.now.marks) }
+    {
+        self.before
+    }
+
+    /// Whether the answer part has no end.
+    pub(crate) fn is_unclosed(&self) -> bool
+        ensures { result ≡ is_unclosed (body self.now.marks) }
+    {
+        self.is_unclosed
+    }
+
+    /// The text behind the answer part.
+    pub(crate) fn behind(&self) -> &[Piece]
+        ensures { result.now ≡ text_behind (body self.now.marks) }
+    {
+        self.behind
+    }
+
+    /// The answer part without the general feedback.
+    pub(crate) fn answers(&self) -> &[Piece]
+        ensures { result.now ≡ answers (answer_part (body self.now.marks)) }
+    {
+        self.answers
+    }
+
+    /// The general feedback.
+    pub(crate) fn general(&self) -> &[Piece]
+        ensures { result.now ≡ general_marks (answer_part (body self.now.marks)) }
+    {
+        self.general
+    }
+
+    /// What kind of question it has.
+    pub(crate) fn sort(&self) -> Sort
+        ensures { result ≡ sort_of (body self.now.marks) }
+    {
+        self.sort
+    }
+}
+
 /// The name of a block, and what follows it.
-pub(crate) fn split_name(marks: &[Piece]) -> (&[Piece], &[Piece])
+fn split_name(marks: &[Piece]) -> (&[Piece], &[Piece])
     ensures name { result.0.now ≡ name_marks marks.now }
     ensures body { result.1.now ≡ body marks.now }
 {
@@ -39,8 +161,18 @@ pub(crate) fn split_name(marks: &[Piece]) -> (&[Piece], &[Piece])
     (name, behind(rest, 2))
 }
 
+/// Whether a name stands at the front and has no end.
+fn is_nameless(marks: &[Piece]) -> bool
+    ensures { result ≡ is_nameless marks.now }
+{
+    match unled(marks) {
+        [Piece::Sign(':'), Piece::Sign(':'), in_name @ ..] => !occurs(Landmark::Colons, in_name),
+        _ => false,
+    }
+}
+
 /// The text before the answer part of a body, and what follows the opening brace.
-pub(crate) fn split_braces(body: &[Piece]) -> (&[Piece], &[Piece])
+fn split_braces(body: &[Piece]) -> (&[Piece], &[Piece])
     ensures before { result.0.now ≡ text_before body.now }
     ensures inside { result.1.now ≡ in_braces body.now }
 {
@@ -48,18 +180,25 @@ pub(crate) fn split_braces(body: &[Piece]) -> (&[Piece], &[Piece])
     (before, behind(rest, 1))
 }
 
-/// The answer part, and the text behind it.
-pub(crate) fn split_part(body: &[Piece]) -> (&[Piece], &[Piece])
-    ensures part { result.0.now ≡ answer_part body.now }
-    ensures behind { result.1.now ≡ text_behind body.now }
+/// The answer part, and the text behind it, of what follows the opening brace.
+fn split_part(inside: &[Piece]) -> (&[Piece], &[Piece])
+    ensures part { result.0.now ≡ before (is_at Closing) inside.now }
+    ensures behind { result.1.now ≡ drop 1 (from (is_at Closing) inside.now) }
 {
-    let (_, inside) = split_braces(body);
     let (part, rest) = split(Landmark::Closing, inside);
     (part, behind(rest, 1))
 }
 
+/// Whether a brace isn't closed, of a body and what follows its opening brace.
+fn is_unclosed(body: &[Piece], inside: &[Piece]) -> bool
+    requires { inside.now ≡ in_braces body.now }
+    ensures { result ≡ is_unclosed body.now }
+{
+    occurs(Landmark::Opening, body) && !occurs(Landmark::Closing, inside)
+}
+
 /// The answers of an answer part, and the general feedback behind the last place with four hashes.
-pub(crate) fn split_general(part: &[Piece]) -> (&[Piece], &[Piece])
+fn split_general(part: &[Piece]) -> (&[Piece], &[Piece])
     ensures answers { result.0.now ≡ answers part.now }
     ensures general { result.1.now ≡ general_marks part.now }
 {
@@ -82,18 +221,19 @@ pub(crate) fn joined_text(
     Ok(marks)
 }
 
-/// What kind of question a body has.
-pub(crate) fn sort_of(body: &[Piece]) -> Sort
+/// What kind of question a body has whose answers were found.
+fn sort_of(body: &[Piece], found: &[Piece]) -> Sort
+    requires { found.now ≡ answers (answer_part body.now) }
     ensures { result ≡ sort_of body.now }
 {
     if !occurs(Landmark::Opening, body) {
         return Sort::Description;
     }
-    sort_in(split_general(split_part(body).0).0)
+    sort_in(found)
 }
 
 /// What kind of question has these answers.
-pub(crate) fn sort_in(answers: &[Piece]) -> Sort
+fn sort_in(answers: &[Piece]) -> Sort
     ensures { result ≡ sort_in answers.now }
 {
     if answers.is_empty() {
@@ -144,7 +284,7 @@ pub(crate) fn first_piece(begins: Landmark, sign: char, marks: &[Piece]) -> Opti
         (λ x. pieces (is_at begins) sign marks.now ≡ cut (is_at begins) x.0 x.1.now) }
 {
     let (first, next) = split_piece(begins, marks);
-    if is_blank(first) {
+    if are_blank(first) {
         return next;
     }
     Some((sign, marks))

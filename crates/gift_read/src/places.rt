@@ -3,13 +3,13 @@
 ghost use Rattle.std.specs.Prelude.{◌≡◌, ◌≤◌, length, take, drop};
 ghost use Rattle.std.specs.List.{list_any};
 ghost use Rattle.gift_read.specs.declared.places.Landmark.TheVariants.{Hashes};
-ghost use Rattle.gift_read.specs.Places.{character, is_space, is_sign, begins_choice, characters_at, others_at, is_at, before, from, occurs, is_last, is_blank, unled, trimmed};
+ghost use Rattle.gift_read.specs.Places.{character, is_space, is_this_sign, begins_choice, characters_at, others_at, is_at, before, from, occurs, is_last, are_blank, unled, trimmed};
 
 use gift_lex::Piece;
 
 /// What is looked for in a block.
 #[derive(Clone, Copy)]
-pub(crate) enum Landmark {
+pub enum Landmark {
     /// `::`, at either end of a name.
     Colons,
     /// `{`, which begins the answer part.
@@ -211,8 +211,8 @@ fn from_last(landmark: Landmark, marks: &[Piece]) -> &[Piece]
 }
 
 /// Whether marks are white space alone.
-pub(crate) fn is_blank(marks: &[Piece]) -> bool
-    ensures { result ≡ is_blank marks.now }
+pub(crate) fn are_blank(marks: &[Piece]) -> bool
+    ensures { result ≡ are_blank marks.now }
 {
     marks.iter().all(|mark| is_space(*mark))
 }
@@ -240,7 +240,7 @@ pub(crate) fn trimmed(marks: &[Piece]) -> &[Piece]
 
 /// Marks without the white space behind them.
 fn unfollowed(marks: &[Piece]) -> &[Piece]
-    ensures { result.now ≡ before is_blank marks.now }
+    ensures { result.now ≡ before are_blank marks.now }
 {
     let mut end = marks.len();
     while end > 0 {

@@ -1,59 +1,49 @@
 //! The question of a block.
 
 ghost use Rattle.std.specs.Prelude.{◌≡◌, IfOk};
-ghost use Rattle.gift_read.specs.Values.{penalty_of, name_or, question_about, question_in, question};
+ghost use Rattle.gift_read.specs.Parts.{body};
+ghost use Rattle.gift_read.specs.Values.{penalty_of, name_or, question_about, question};
 
 use crate::kinds::kind_in;
-use crate::parts::{joined_text, sort_of, split_braces, split_general, split_name, split_part};
-use crate::places::is_blank;
+use crate::parts::{PartedBlock, joined_text};
+use crate::places::are_blank;
 use crate::texts::{formatted, made_name, rich_of, split_format, text_of};
-use gift_lex::{Block, Piece};
-use qz_decimal::Fraction;
+use gift_lex::Piece;
+use qz_decimal::{Fraction, ONE};
 use qz_grading::{Format, Kind, Question};
 use qz_text::{Listed, NoMemory, Text};
 use std::alloc::Global;
 
-/// The penalty of a true-false question, and that of every other.
-const WHOLE: i64 = 10_000_000;
-
+/// The penalty of each question that isn't true-false.
 const THIRD: i64 = 3_333_333;
 
-/// The question of a block, whatever its faults.
-pub(crate) fn question(alloc: Global, block: &Block) -> Result<Question, NoMemory>
+/// The question of a block, whatever its faults. The text goes on behind the answer part, unless that is blank.
+pub(crate) fn question(alloc: Global, block: &PartedBlock) -> Result<Question, NoMemory>
     ensures { IfOk result (λ made. made ≡ question block.now) }
 {
-    let (name, body) = split_name(block.marks.as_slice());
-    let name = text_of(alloc, name)?;
-    question_in(alloc, name, body)
-}
-
-/// The question of the marks behind the name. The text goes on behind the answer part, unless that is blank.
-fn question_in(alloc: Global, name: Text, body: &[Piece]) -> Result<Question, NoMemory>
-    ensures { IfOk result (λ made. made ≡ question_in name body.now) }
-{
-    let (before, _) = split_braces(body);
-    let (_, behind) = split_part(body);
-    if is_blank(behind) {
-        return question_about(alloc, name, before, body);
+    let name = text_of(alloc, block.name())?;
+    let before = block.before();
+    let behind = block.behind();
+    if are_blank(behind) {
+        return question_about(alloc, name, before, block);
     }
     let text = joined_text(alloc, before, behind)?;
-    question_about(alloc, name, &text, body)
+    question_about(alloc, name, &text, block)
 }
 
-/// The question with a text, and what else the marks behind the name tell.
+/// The question with a text, and what else a block tells.
 fn question_about(
     alloc: Global,
     name: Text,
     text: &[Piece],
-    body: &[Piece],
+    block: &PartedBlock,
 ) -> Result<Question, NoMemory>
-    ensures { IfOk result (λ made. made ≡ question_about name text.now body.now) }
+    ensures { IfOk result (λ made. made ≡ question_about name text.now (body block.now.marks)) }
 {
     let name = name_or(alloc, name, split_format(text).1)?;
     let text = formatted(alloc, Format::Moodle, text)?;
-    let (answers, general) = split_general(split_part(body).0);
-    let general = rich_of(alloc, text.format, general)?;
-    let kind = kind_in(alloc, text.format, answers, sort_of(body))?;
+    let general = rich_of(alloc, text.format, block.general())?;
+    let kind = kind_in(alloc, text.format, block.answers(), block.sort())?;
     let penalty = penalty_of(&kind);
     Ok(Question {
         name,
@@ -80,7 +70,7 @@ fn penalty_of(kind: &Kind) -> Fraction
     ensures { result ≡ penalty_of kind.now }
 {
     match kind {
-        Kind::TrueFalse { .. } => Fraction(WHOLE),
+        Kind::TrueFalse { .. } => Fraction(ONE),
         _ => Fraction(THIRD),
     }
 }

@@ -1,6 +1,6 @@
 //! The reading of a text.
 
-ghost use Rattle.std.specs.Prelude.{◌≡◌, true, [], ◌∷◌, All, map, codes, IfOk, OnOk};
+ghost use Rattle.std.specs.Prelude.{◌≡◌, true, false, [], ◌∷◌, All, map, codes, IfOk, OnOk};
 ghost use Rattle.gift_lex.specs.Blocks.{blocks_of};
 ghost use Rattle.qz_grading.specs.declared.question.Bank.{Bank};
 ghost use Rattle.qz_grading.specs.declared.question.Item.{Item};
@@ -13,6 +13,7 @@ ghost use Rattle.gift_read.specs.Gift.{Tells, Answers, Fault, told, taken, items
 use crate::category::{is_bad_path, is_category, path};
 use crate::fault::GiftFault;
 use crate::faults::{early_fault, late_fault, line_of};
+use crate::parts::PartedBlock;
 use crate::question::question;
 use crate::utf8::as_text;
 use gift_lex::{Block, Blocks};
@@ -100,7 +101,7 @@ impl Gathered {
 
 /// What a block is read as.
 #[derive(Drop)]
-pub(crate) enum Entry {
+pub enum Entry {
     /// The names on the path of a category, which holds for the questions that follow.
     Category(Listed<Text>),
     Asked(Question),
@@ -113,6 +114,29 @@ fn told(alloc: Global, block: &Block) -> Result<Entry, GiftFault>
     if is_category(block.marks.as_slice()) {
         return category(alloc, block);
     }
+    asked(alloc, &PartedBlock::of(block))
+}
+
+/// The names on the path of a category line.
+fn category(alloc: Global, block: &Block) -> Result<Entry, GiftFault>
+    requires { is_category block.now.marks ≡ true }
+    ensures { Answers result (told block.now) }
+{
+    let names = path(alloc, block.marks.as_slice())?;
+    if is_bad_path(names.as_slice()) {
+        return Err(GiftFault::Malformed {
+            line: block.line,
+            rule: 3,
+        });
+    }
+    Ok(Entry::Category(names))
+}
+
+/// The question of a block that is no category line.
+fn asked(alloc: Global, block: &PartedBlock) -> Result<Entry, GiftFault>
+    requires { is_category block.now.marks ≡ false }
+    ensures { Answers result (told block.now) }
+{
     if let Some(rule) = early_fault(block) {
         return Err(malformed(block, rule));
     }
@@ -123,20 +147,8 @@ fn told(alloc: Global, block: &Block) -> Result<Entry, GiftFault>
     Ok(Entry::Asked(made))
 }
 
-/// The names on the path of a category line.
-fn category(alloc: Global, block: &Block) -> Result<Entry, GiftFault>
-    requires { is_category block.now.marks ≡ true }
-    ensures { Answers result (told block.now) }
-{
-    let names = path(alloc, block.marks.as_slice())?;
-    if is_bad_path(names.as_slice()) {
-        return Err(malformed(block, 3));
-    }
-    Ok(Entry::Category(names))
-}
-
 /// The fault of a block that breaks a rule first.
-fn malformed(block: &Block, rule: u8) -> GiftFault
+fn malformed(block: &PartedBlock, rule: u8) -> GiftFault
     ensures { result ≡ Malformed (line_of block.now rule) rule }
 {
     GiftFault::Malformed {

@@ -1,135 +1,125 @@
 use super::*;
-use gift_write::spell;
-use qz_text::NoMemory;
-use std::alloc::Global;
+use std::alloc::{AllocError, Global};
 use std::test::Fail;
 
-/// The canonical text of what a text is read as, or its fault.
-fn told(alloc: Global, text: &str) -> Result<String, NoMemory> {
-    match read(alloc, text.as_bytes()) {
-        Ok(bank) => {
-            let canonical = spell(alloc, &bank)?;
-            Ok(String::from_str(alloc, canonical.as_str())?)
-        }
-        Err(GiftFault::Malformed { line, rule }) => Ok(format!(in alloc; "{line} {rule}")?),
-        Err(GiftFault::Memory) => Err(NoMemory),
+/// What is told of a text: the line and rule of its fault, or how many questions it has, and 0.
+fn told(alloc: Global, text: &[u8]) -> Option<(usize, u8)> {
+    match read(alloc, text) {
+        Ok(bank) => Some((bank.items.items.len(), 0)),
+        Err(GiftFault::Malformed { line, rule }) => Some((line as usize, rule)),
+        Err(GiftFault::Memory) => None,
     }
 }
 
-// ---- texts, each with its canonical text
+#[test]
+fn tells_the_first_fault(rt: HostRuntime) -> Result<(), Fail> {
+    let alloc = rt.alloc();
+    let rows = [
+        ("}", (1, 5)),
+        ("::a", (1, 4)),
+        ("A{=%200%b =c}", (1, 7)),
+        ("A{#1:-1}", (1, 9)),
+        ("A{T#a#b#c}", (1, 10)),
+        ("$CATEGORY: a/ /b", (1, 3)),
+        ("A {=b", (1, 5)),
+        ("a\r\n\r\n// b\r\nc {\r\nd\r\n\r\ne", (5, 5)),
+        ("a{T}\n\n// b\n\nc{=d~}\n\n::e", (5, 6)),
+    ];
+    for (text, want) in rows {
+        assert_eq!(rt; told(alloc, text.as_bytes()), Some(want), "{text:?}");
+    }
+    assert_eq!(rt; told(alloc, b"\xff"), Some((1, 1)));
+    assert_eq!(rt; told(alloc, b"::a\r\rb\r\n\xc3"), Some((4, 1)));
+    Ok(())
+}
 
-// A bank as a Moodle site exports it.
-const EXPORTED: (&str, &str) = (
-    "// question: 0  name: Switch category to $course$/top/Week 1\n\
-$CATEGORY: $course$/top/Week 1\n\
-\n\
-\n\
-// question: 11  name: Capital\n\
-::Capital::[html]<p>Capital of France?</p>{\n\
-\t=Paris#Yes\n\
-\t~Lyon#No\n\
-\t~%50%Paris area\n\
-\t####See page 4\n\
-}\n\
-\n",
-    "$CATEGORY: $course$/top/Week 1\n\
-\n\
-::Capital::[html]<p>Capital of France?</p>{\n\
-\t=Paris#Yes\n\
-\t~Lyon#No\n\
-\t~%50%Paris area\n\
-\t####See page 4\n\
-}\n\
-\n",
-);
-
-// What the manual shows of each kind, with other questions.
-const BY_HAND: [(&str, &str); 15] = [
+// An exported bank in parts, and what is told of its front where it is cut behind any character of the part.
+const PARTS: [(&str, (usize, u8)); 20] = [
+    ("/", (1, 0)),
     (
-        "Now come three sums.",
-        "::Now come three sums.::Now come three sums.\n\n",
+        "/ question: 0  name: Switch category to $course$/top/Week 1\n",
+        (0, 0),
     ),
-    (
-        "::Tides:: Why are there two a day? {####The moon pulls.}",
-        "::Tides::Why are there two a day?{\n\t####The moon pulls.\n}\n\n",
-    ),
-    (
-        "Oslo is in Norway.{T}",
-        "::Oslo is in Norway.::Oslo is in Norway.{TRUE}\n\n",
-    ),
-    (
-        "// on the sky\n::Moon::The moon is a star.{FALSE#It only shines back.#Right!####Chapter 2}",
-        "::Moon::The moon is a star.{FALSE#It only shines back.#Right!####Chapter 2}\n\n",
-    ),
-    (
-        "Sure? {F##Well\\: yes}",
-        "::Sure?::Sure?{FALSE##Well\\: yes}\n\n",
-    ),
-    (
-        "Water boils {~above =at ~below} 100 degrees.",
-        "::Water boils _____ 100 degrees.::Water boils _____ 100 degrees.{\n\t~above\n\t=at\n\t~below\n}\n\n",
-    ),
-    (
-        "Which are prime? {~%-100%four ~%50%five#Yes ~%50.0%seven ~%-33.33333%nine}",
-        "::Which are prime?::Which are prime?{\n\t~%-100%four\n\t~%50%five#Yes\n\t~%50%seven\n\t~%-33.33333%nine\n}\n\n",
-    ),
-    (
-        "Which is 5? {~ \\= 2 + 2 = \\= 2 + 3#\\#1 = 5 ~%0%%x}",
-        "::Which is 5?::Which is 5?{\n\t~\\= 2 + 2\n\t=\\= 2 + 3#\\#1\n\t~%100%5\n\t~%0%%x\n}\n\n",
-    ),
-    (
-        "Two plus two {=four =%50%4.\\#0#close} and more",
-        "::Two plus two _____ and more::Two plus two _____ and more{\n\t=four\n\t=%50%4.\\#0#close\n}\n\n",
-    ),
-    (
-        "Match{\n=[plain]a -> b\n= -> c\n=d->e->f\n}",
-        "::Match::Match{\n\t=[plain]a -> b\n\t= -> c\n\t=d -> e->f\n}\n\n",
-    ),
-    (
-        "When did they land? {#=1969:0#Yes =%50%+1969.50 : 2#Nearly ~#No}",
-        "::When did they land?::When did they land?{#\n\t=1969#Yes\n\t=%50%1969.5:2#Nearly\n\t=%0%*#No\n}\n\n",
-    ),
-    ("Pi {#3.141..3.142}", "::Pi::Pi{#\n\t=3.141..3.142\n}\n\n"),
-    ("{#-1.5e1}", "::Question::{#\n\t=-15\n}\n\n"),
-    (
-        "[markdown]*Thanks*{~[html]a#[moodle]b ~[c]}",
-        "::*Thanks*::[markdown]*Thanks*{\n\t~[html]a#[moodle]b\n\t~[markdown][c]\n}\n\n",
-    ),
-    (
-        "$CATEGORY: a//b/c\nx\\ny\n\n$CATEGORY:Default\n  {}\n\nz",
-        "$CATEGORY: a//b/c\n\n::x y::x\\ny\n\n$CATEGORY: Default\n\n::Question::{}\n\n::z::z\n\n",
-    ),
-];
-
-// Other letters, and other ends of lines.
-const LETTERS: [(&str, &str); 4] = [
-    ("", ""),
-    (
-        "\u{feff}Où est Zürich ?\r\n{=en Suisse~à Paris\\: non\u{1f600}}\r\rÉté{}\n",
-        "::Où est Zürich ?::Où est Zürich ?{\n\t=en Suisse\n\t~à Paris\\: non\u{1f600}\n}\n\n::Été::Été{}\n\n",
-    ),
-    (
-        "שלום\r\n עולם{T#לא#כן}",
-        "::שלום עולם::שלום\\n עולם{TRUE#לא#כן}\n\n",
-    ),
-    (
-        "\u{1f600}\u{3000}\u{feff}{=*}",
-        "::\u{1f600}\u{3000}\u{feff}::\u{1f600}\u{3000}\u{feff}{\n\t=*\n}\n\n",
-    ),
+    ("$CATEGORY", (1, 0)),
+    (": ", (1, 3)),
+    ("$course$", (0, 0)),
+    ("/", (1, 3)),
+    ("top", (0, 0)),
+    ("/", (1, 3)),
+    ("Week 1\n\n\n", (0, 0)),
+    ("/", (1, 0)),
+    ("/ question: 11  name: Capital\n", (0, 0)),
+    (":", (1, 0)),
+    (":Capital:", (5, 4)),
+    (":[html]<p>Capital of France?</p>", (1, 0)),
+    ("{\n\t", (6, 5)),
+    ("=Paris#Yes\n\t", (7, 5)),
+    ("~Lyon#No\n\t", (8, 5)),
+    ("~%50%Paris area\n\t", (9, 5)),
+    ("####See page 4\n", (10, 5)),
+    ("}\n\n", (1, 0)),
 ];
 
 #[test]
-fn reads_texts(rt: HostRuntime) -> Result<(), Fail> {
+fn reads_a_bank_cut_anywhere(rt: HostRuntime) -> Result<(), Fail> {
     let alloc = rt.alloc();
-    for rows in [
-        [EXPORTED].as_slice(),
-        BY_HAND.as_slice(),
-        LETTERS.as_slice(),
-    ] {
-        for (text, canonical) in rows {
-            assert_eq!(rt; told(alloc, text)?.as_str(), *canonical, "{text:?}");
-            assert_eq!(rt; told(alloc, canonical)?.as_str(), *canonical, "{text:?}");
+    let mut front = String::new(alloc);
+    for (part, want) in PARTS {
+        for c in part.chars() {
+            front.push(c)?;
+            assert_eq!(rt; told(alloc, front.as_bytes()), Some(want), "{front:?}");
         }
     }
+    Ok(())
+}
+
+fn push_repeated(text: &mut String, part: &str, count: u32) -> Result<(), AllocError> {
+    for _ in 0..count {
+        text.push_str(part)?;
+    }
+    Ok(())
+}
+
+/// A question whose canonical text has 18 bytes, and two more for each colon of its text and its general feedback.
+fn with_colons(alloc: Global, text: u32, general: u32) -> Result<String, AllocError> {
+    let mut gift = String::from_str(alloc, "::nn::")?;
+    push_repeated(&mut gift, "\\:", text)?;
+    gift.push_str("{T####")?;
+    push_repeated(&mut gift, "\\:", general)?;
+    gift.push_str("}")?;
+    Ok(gift)
+}
+
+#[test]
+fn keeps_the_limits(rt: HostRuntime) -> Result<(), Fail> {
+    let alloc = rt.alloc();
+    // The front of a text, what is repeated, how often, and what stands behind.
+    let rows = [
+        ("a{=b", "~c", 63, "}", (1, 0)),
+        ("a{=b", "~c", 64, "}", (1, 2)),
+        ("a{=b->c", "=d->e", 63, "}", (1, 0)),
+        ("a{=b->c", "=d->e", 64, "}", (1, 2)),
+        ("a{#", "=1", 63, "~#}", (1, 0)),
+        ("a{#", "=1", 64, "~#}", (1, 2)),
+        ("::", "x", 65_536, "::a{T}", (1, 0)),
+        ("::", "x", 65_537, "::a{T}", (1, 2)),
+        ("a{=", "é", 32_768, "}", (1, 0)),
+        ("a{=", "é", 32_769, "}", (1, 2)),
+        ("$CATEGORY:", "x", 65_537, "\na", (1, 0)),
+    ];
+    for (front, part, count, behind, want) in rows {
+        let mut text = String::from_str(alloc, front)?;
+        push_repeated(&mut text, part, count)?;
+        text.push_str(behind)?;
+        assert_eq!(rt;
+            told(alloc, text.as_bytes()),
+            Some(want),
+            "{front}{part} {count}"
+        );
+    }
+    let full = with_colons(alloc, 65_536, 65_527)?;
+    assert_eq!(rt; told(alloc, full.as_bytes()), Some((1, 0)));
+    let over = with_colons(alloc, 65_536, 65_528)?;
+    assert_eq!(rt; told(alloc, over.as_bytes()), Some((1, 2)));
     Ok(())
 }

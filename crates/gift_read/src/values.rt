@@ -7,13 +7,10 @@ ghost use Rattle.gift_read.specs.Values.{without_minus, is_figure, is_figures, p
 use crate::places::{Landmark, behind, character, front, occurs, split, trimmed};
 use crate::texts::{spelled, spells};
 use gift_lex::Piece;
-use qz_decimal::{Decimal, Fraction};
+use qz_decimal::{Decimal, Fraction, ONE};
 use qz_grading::Extent;
 use qz_text::NoMemory;
 use std::alloc::Global;
-
-/// The units in a weight of 1.
-const ONE: i64 = 10_000_000;
 
 // ---- weights
 

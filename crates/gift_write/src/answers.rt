@@ -3,7 +3,7 @@
 ghost use Rattle.std.specs.Prelude.{◌≡◌, ◌++◌, [], OnOk, string_bytes, codes, if◌then◌else◌, ◌&&◌};
 ghost use Rattle.qz_grading.specs.Canonical.{is_nothing, rich_text, general_line, general_behind, true_false_text, answer_part};
 
-use crate::pieces::{pieces_onto, single_choices_onto};
+use crate::answer_lines::{lines_onto, single_choices_onto};
 use crate::rich::{rich_behind_onto, rich_onto};
 use qz_grading::{Format, Kind, Rich};
 use qz_text::NoMemory;
@@ -39,22 +39,22 @@ pub(crate) fn answer_part_onto(
         }
         Kind::Several(choices) => {
             out.push_str("{\n")?;
-            pieces_onto(out, default, choices.as_slice())?;
+            lines_onto(out, default, choices.as_slice())?;
             close_onto(out, default, general)
         }
         Kind::Matching(pairs) => {
             out.push_str("{\n")?;
-            pieces_onto(out, default, pairs.as_slice())?;
+            lines_onto(out, default, pairs.as_slice())?;
             close_onto(out, default, general)
         }
         Kind::ShortAnswer(answers) => {
             out.push_str("{\n")?;
-            pieces_onto(out, default, answers.as_slice())?;
+            lines_onto(out, default, answers.as_slice())?;
             close_onto(out, default, general)
         }
         Kind::Numerical(answers) => {
             out.push_str("{#\n")?;
-            pieces_onto(out, default, answers.as_slice())?;
+            lines_onto(out, default, answers.as_slice())?;
             close_onto(out, default, general)
         }
     }

@@ -1,10 +1,10 @@
 //! The lines that name categories.
 
-ghost use Rattle.std.specs.Prelude.{◌≡◌, ◌++◌, ℕ, List, OnOk, string_bytes, bytes_eq, codes, zip};
-ghost use Rattle.std.specs.List.{list_all};
-ghost use Rattle.qz_grading.specs.Canonical.{same_path, category_path, category_line};
+ghost use Rattle.std.specs.Prelude.{◌≡◌, ◌++◌, ℕ, List, OnOk, string_bytes, codes};
+ghost use Rattle.qz_grading.specs.Canonical.{category_path, category_line};
 
 use crate::escaping::{Escape, text_onto};
+use qz_grading::same_texts;
 use qz_text::{NoMemory, Text};
 
 /// Adds a line with the names on the path of a category, and a blank line, where the path isn't the one before.
@@ -15,7 +15,7 @@ pub(crate) fn category_line_onto(
 ) -> Result<(), NoMemory>
     ensures { OnOk result (string_bytes out.new ≡ string_bytes out.old ++ category_line before.now path.now) }
 {
-    if same_path(before, path) {
+    if same_texts(before, path) {
         return Ok(());
     }
     path_line_onto(out, path)
@@ -29,21 +29,6 @@ fn path_line_onto(out: &mut String, path: &[Text]) -> Result<(), NoMemory>
     out.push_str("$CATEGORY: ")?;
     path_onto(out, path)?;
     Ok(out.push_str("\n\n")?)
-}
-
-fn same_path(one: &[Text], other: &[Text]) -> bool
-    ensures { result ≡ same_path one.now other.now }
-{
-    one.len() == other.len() && same_names(one, other)
-}
-
-/// Whether names at the same places are the same.
-fn same_names(one: &[Text], other: &[Text]) -> bool
-    ensures { result ≡ list_all (λ (p : List ℕ × List ℕ). bytes_eq p.0 p.1) (zip one.now other.now) }
-{
-    one.iter()
-        .zip(other)
-        .all(|(one, other)| one.as_bytes() == other.as_bytes())
 }
 
 /// Adds names with slashes between them. A slash in a name is doubled.

@@ -42,14 +42,15 @@ fn escaped_onto(out: &mut String, c: char) -> Result<(), NoMemory>
     if c == '\n' {
         return Ok(out.push_str("\\n")?);
     }
-    if is_sign(c) {
+    if gets_backslash(c) {
         out.push('\\')?;
         return Ok(out.push(c)?);
     }
     Ok(out.push(c)?)
 }
 
-fn is_sign(c: char) -> bool
+/// Whether a character gets a backslash.
+fn gets_backslash(c: char) -> bool
     ensures { result ≡ is_sign c }
 {
     matches!(c, '~' | '=' | '#' | '{' | '}' | ':' | '\\')

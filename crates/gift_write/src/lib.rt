@@ -1,17 +1,17 @@
 //! The canonical text of questions in GIFT, Moodle's text format for question banks, laid out as Moodle's writer does.
 #![tactic(auto)]
 
+mod answer_lines;
 mod answers;
 mod bank;
 mod categories;
 mod escaping;
 mod numbers;
-mod pieces;
 mod question;
 mod rich;
 
 pub use bank::{WriteErr, spell, write};
-pub use question::{size_of_question, spell_question};
+pub use question::question_onto;
 
 #[cfg(test)]
 mod tests;

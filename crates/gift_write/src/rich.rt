@@ -1,28 +1,16 @@
 //! Texts with a format.
 
 ghost use Rattle.std.specs.Prelude.{◌≡◌, ◌++◌, OnOk, string_bytes};
-ghost use Rattle.qz_grading.specs.Canonical.{format_mark, same_format, begins_with, rich_text, rich_behind};
+ghost use Rattle.qz_grading.specs.Canonical.{same_format, begins_with, rich_text, rich_behind};
 
 use crate::escaping::{Escape, text_onto};
 use qz_grading::{Format, Rich};
 use qz_text::NoMemory;
 
-/// The mark of a format, which stands in brackets before the text.
-fn format_mark(format: Format) -> &'static str
-    ensures { result.now ≡ format_mark format }
-{
-    match format {
-        Format::Moodle => "[moodle]",
-        Format::Html => "[html]",
-        Format::Plain => "[plain]",
-        Format::Markdown => "[markdown]",
-    }
-}
-
 fn same_format(one: Format, other: Format) -> bool
     ensures { result ≡ same_format one other }
 {
-    format_mark(one).as_bytes() == format_mark(other).as_bytes()
+    one.sign().as_bytes() == other.sign().as_bytes()
 }
 
 /// Whether a text begins with this byte.
@@ -40,7 +28,7 @@ pub(crate) fn rich_onto(out: &mut String, default: Format, rich: &Rich) -> Resul
     ensures { OnOk result (string_bytes out.new ≡ string_bytes out.old ++ rich_text default rich.now) }
 {
     if !same_format(default, rich.format) || begins_with(b'[', rich.text.as_bytes()) {
-        out.push_str(format_mark(rich.format))?;
+        out.push_str(rich.format.sign())?;
     }
     text_onto(out, Escape::Signs, rich.text.as_str())
 }

@@ -108,14 +108,29 @@ fn exported(alloc: Global) -> Result<Bank, NoMemory> {
     })
 }
 
+/// The canonical text of a bank of one question, in the category that needs no line.
+fn spelled(alloc: Global, question: Question) -> Result<Text, NoMemory> {
+    let mut names = Vec::new(alloc);
+    names.push(Text::of(alloc, "Default")?)?;
+    let mut items = Vec::new(alloc);
+    items.push(Item {
+        category: Listed { items: names },
+        question,
+    })?;
+    spell(
+        alloc,
+        &Bank {
+            items: Listed { items },
+        },
+    )
+}
+
 #[test]
 fn spells_a_bank(rt: HostRuntime) -> Result<(), Fail> {
     let alloc = rt.alloc();
     let bank = exported(alloc)?;
     let text = spell(alloc, &bank)?;
     assert_eq!(rt; text.as_str(), EXPORTED);
-    let size = size_of_question(alloc, &bank.items.items.first().ok_or("none")?.question)?;
-    assert_eq!(rt; size, 102);
     Ok(())
 }
 
@@ -123,16 +138,16 @@ fn spells_a_bank(rt: HostRuntime) -> Result<(), Fail> {
 fn spells_plain_kinds(rt: HostRuntime) -> Result<(), Fail> {
     let alloc = rt.alloc();
     let described = question(alloc, "[a] b=c:{~}#\\\nä", "", Kind::Description)?;
-    let text = spell_question(alloc, &described)?;
+    let text = spelled(alloc, described)?;
     assert_eq!(rt;
         text.as_str(),
         "::Q::[moodle][a] b\\=c\\:\\{\\~\\}\\#\\\\\\nä\n\n"
     );
     let essay = question(alloc, "Write.", "", Kind::Essay)?;
-    let text = spell_question(alloc, &essay)?;
+    let text = spelled(alloc, essay)?;
     assert_eq!(rt; text.as_str(), "::Q::Write.{}\n\n");
     let told = question(alloc, "Write.", "So.", Kind::Essay)?;
-    let text = spell_question(alloc, &told)?;
+    let text = spelled(alloc, told)?;
     assert_eq!(rt; text.as_str(), "::Q::Write.{\n\t####So.\n}\n\n");
     let truth = Kind::TrueFalse {
         right: false,
@@ -140,7 +155,7 @@ fn spells_plain_kinds(rt: HostRuntime) -> Result<(), Fail> {
         on_right: moodle(alloc, "Yes")?,
     };
     let asked = question(alloc, "Flat?", "G", truth)?;
-    let text = spell_question(alloc, &asked)?;
+    let text = spelled(alloc, asked)?;
     assert_eq!(rt; text.as_str(), "::Q::Flat?{FALSE##Yes####G}\n\n");
     Ok(())
 }
@@ -154,14 +169,14 @@ fn spells_pieces(rt: HostRuntime) -> Result<(), Fail> {
         choice(alloc, -3_333_333, "b", "")?,
     )?;
     let asked = question(alloc, "C", "", Kind::Several(several))?;
-    let text = spell_question(alloc, &asked)?;
+    let text = spelled(alloc, asked)?;
     assert_eq!(rt;
         text.as_str(),
         "::Q::C{\n\t~%100%[html]a\n\t~%-33.33333%[html]b\n}\n\n"
     );
     let pairs = listed(alloc, pair(alloc, "a", "1")?, pair(alloc, "", "2")?)?;
     let asked = question(alloc, "M", "", Kind::Matching(pairs))?;
-    let text = spell_question(alloc, &asked)?;
+    let text = spelled(alloc, asked)?;
     assert_eq!(rt; text.as_str(), "::Q::M{\n\t=a -> 1\n\t= -> 2\n}\n\n");
     let shorts = listed(
         alloc,
@@ -169,7 +184,7 @@ fn spells_pieces(rt: HostRuntime) -> Result<(), Fail> {
         short(alloc, 5000, "y")?,
     )?;
     let asked = question(alloc, "S", "", Kind::ShortAnswer(shorts))?;
-    let text = spell_question(alloc, &asked)?;
+    let text = spelled(alloc, asked)?;
     assert_eq!(rt; text.as_str(), "::Q::S{\n\t=%100%%x\n\t=%0.05%y\n}\n\n");
     let around_pi = Extent::Near {
         centre: Decimal(31_400_000_000),
@@ -181,7 +196,7 @@ fn spells_pieces(rt: HostRuntime) -> Result<(), Fail> {
         num(alloc, 0, Extent::Any, "")?,
     )?;
     let asked = question(alloc, "N", "", Kind::Numerical(nums))?;
-    let text = spell_question(alloc, &asked)?;
+    let text = spelled(alloc, asked)?;
     assert_eq!(rt;
         text.as_str(),
         "::Q::N{#\n\t=3.14:0.01#near\n\t=%0%*\n}\n\n"

@@ -1,7 +1,7 @@
 -- A line that is read piece by piece.
-use Rattle.std.proofs.Common.{◌≡◌, ℕ, ◌+◌, ◌≤◌, Bool, true, false, List, [], ◌∷◌, ◌++◌, length, drop, Option, refl, sym, ap, ◌∙◌, subst, append-nil, append_assoc, length-append, arith}
+use Rattle.std.proofs.Common.{◌≡◌, ℕ, zero, suc, ◌+◌, ◌<◌, ◌≤◌, ◌==◌, Bool, true, false, List, [], ◌∷◌, ◌++◌, length, drop, Option, refl, sym, ap, ◌∙◌, subst, append-nil, append_assoc, length-append, arith}
 use Rattle.std.specs.Io.KnownBytes.{Consumes, IsAtEnd}
-use Rattle.std.specs.Prelude.{nat_lt}
+use Rattle.std.specs.Prelude.{Contains, nat_lt, slice_index_or}
 use Rattle.std.proofs.lemmas.List.{drop-drop, drop_all, drop_at}
 use Rattle.std.proofs.KnownBytes.{Consumes-nil, Consumes-trans}
 use Rattle.quizd.specs.declared.script_line.ScriptLine.{ScriptLine}
@@ -13,7 +13,7 @@ use Rattle.quizd.specs.ScriptLines.{kept, line_limit, with_piece}
 use Rattle.quizd.specs.Inputs.{Buffer, Ends, Fills, FillStops, Gives, GivesNext, GoesOn, IsUnfed, NextStops, fed_parts, given_last}
 use Rattle.qz_wire.specs.Words.{IsCutAt}
 use Rattle.quizd.proofs.KeptLemmas.{kept-piece}
-use Rattle.qz_wire.proofs.PartLemmas.{parts-append}
+use Rattle.qz_wire.proofs.PartLemmas.{parts-append, some_part}
 
 -- some bytes were read, and with what was held they are the front of a line and what is held now
 pub record IsBegun (old now : Buffer) (left rest : Option (List ℕ)) (before later : ℕ) (line : ScriptLine) : Type 0 where
@@ -62,6 +62,7 @@ pub record IsHeldLine (old : Buffer) (left rest : Option (List ℕ)) (before lat
   pub taken : Consumes left rest bytes
   pub count : reads ≡ old.read + length bytes
   pub limit_is : limit ≡ old.limit
+  pub within : reads ≤ limit
   pub faults : before ≤ later
   pub unfed : IsUnfed (old.held ++ bytes)
   pub line_is : line ≡ kept (old.held ++ bytes)
@@ -72,6 +73,7 @@ holds_line old now new left rest before later line longer b e = record {
   taken = b.taken;
   count = e.read ∙ b.count;
   limit_is = e.limit ∙ b.limit;
+  within = e.within;
   faults = b.faults;
   unfed = subst IsUnfed (sym b.split) (unfed-append b.front now.held b.unfed e.unfed);
   line_is = e.longer_is ∙ (ap (λ (l : ScriptLine). with_piece l now.held) b.line_is ∙ (kept-piece b.front now.held ∙ ap kept (sym b.split)));
@@ -130,6 +132,7 @@ stops_next old mid left between rest before during later line stop.SinkFault h f
 stops_next old mid left between rest before during later line stop.SourceFault h f = record {
   bytes = h.bytes;
   taken = subst (Consumes left rest) (ap (λ (l : List ℕ). h.bytes ++ l) (none_left f.bytes f.within) ∙ append-nil h.bytes) (Consumes-trans left between rest h.bytes f.bytes h.taken f.taken);
+  within = omega (arith, h.count, h.limit_is, h.within);
   unfed = h.unfed;
   risen = λ below. omega (arith, h.faults, f.risen below);
 }
@@ -139,11 +142,43 @@ stops_next old mid left between rest before during later line stop.TooLong h f =
     more = f.more;
     taken = Consumes-trans left between rest h.bytes f.more h.taken f.taken;
     full = omega (arith, f.full, h.count, h.limit_is);
-    some = f.some;
+    one = f.one;
   };
   unfed = h.unfed;
 }
-stops_next old mid left between rest before during later line stop.Memory h f = record { bytes = h.bytes ++ f.bytes; taken = Consumes-trans left between rest h.bytes f.bytes h.taken f.taken }
+stops_next old mid left between rest before during later line stop.Memory h f = record {
+  bytes = h.bytes ++ f.bytes;
+  taken = Consumes-trans left between rest h.bytes f.bytes h.taken f.taken;
+  within = omega (arith, f.within, h.count, h.limit_is, length-append h.bytes f.bytes);
+}
+
+-- what is held found no memory
+pub unkept_next : (old now : Buffer) (left rest : Option (List ℕ)) (before later : ℕ) (line : ScriptLine) → IsBegun old now left rest before later line → now.read ≤ now.limit → NextStops old left rest before later stop.Memory
+unkept_next old now left rest before later line b within = record { bytes = b.bytes; taken = b.taken; within = omega (arith, b.count, b.limit, within) }
+
+-- ---- while a line feed is held
+
+contains-later : (b : ℕ) (bs : List ℕ) (k : ℕ) → (b == 10) ≡ false → k < length (b ∷ bs) → slice_index_or (b ∷ bs) k 10 ≡ 10 → Contains bs 10
+contains-later b bs zero other inside there = let same = rw there at other in absurd cc
+contains-later b bs (suc k) other inside there = (k, omega (arith, inside), there)
+
+unfed-later : (b : ℕ) (bs : List ℕ) → (b == 10) ≡ false → IsUnfed (b ∷ bs) → IsUnfed bs
+unfed-later b bs other unfed =
+    let some = some_part 10 bs in
+    let parts : (b ∷ some.0) ∷ some.1 ≡ (b ∷ bs) ∷ [] = rw (other, some.2) at unfed in
+    some.2 ∙ cc
+
+feed-cons : (b : ℕ) (bs : List ℕ) (t : Bool) → (b == 10) ≡ t → (Contains bs 10 → ¬ IsUnfed bs) → Contains (b ∷ bs) 10 → ¬ IsUnfed (b ∷ bs)
+feed-cons b bs true ends later fed unfed = let parts : [] ∷ fed_parts bs ≡ (b ∷ bs) ∷ [] = rw ends at unfed in cc
+feed-cons b bs false other later fed unfed = later (contains-later b bs fed.0 other fed.1 fed.2) (unfed-later b bs other unfed)
+
+feed-ends : (text : List ℕ) → Contains text 10 → ¬ IsUnfed text
+feed-ends [] fed unfed = omega (arith, fed.1)
+feed-ends (b ∷ bs) fed unfed = feed-cons b bs (b == 10) refl (feed-ends bs) fed unfed
+
+-- where a line feed was held, all that was held isn't read through without one
+pub never_unfed : {A : Type 0} (old held : List ℕ) → (Contains old 10 → A × (held ≡ old)) → IsUnfed held → ¬ Contains old 10
+never_unfed old held prompt unfed fed = feed-ends old fed (subst IsUnfed (prompt fed).1 unfed)
 
 -- ---- one line of what is held
 

@@ -4,5 +4,6 @@ pub mod RetryLemmas
 pub mod ScriptLemmas
 pub mod StandingLemmas
 pub mod DeskLemmas
-pub mod PlainLemmas
+pub mod JobLemmas
+pub mod SoloLemmas
 pub mod GiftLemmas

@@ -188,6 +188,7 @@ ends_reading a b left between rest holds written before during now early late ol
       output = s.output;
       after = b;
       taken = Consumes-trans left between rest s.bytes n.bytes s.taken n.taken;
+      within = omega (arith, n.within, s.count, length-append s.bytes n.bytes, s.limit_is);
       risen = λ below. omega (arith, s.read_later, n.risen below);
       answered = subst (λ (l : List (List ℕ)). Answered a b l s.output) (sym (ended_lines-unended (s.bytes ++ n.bytes) (old.held ++ n.bytes) s.lines parts)) s.answered;
       written = s.appends;
@@ -203,7 +204,7 @@ ends_reading a b left between rest holds written before during now early late ol
       output = s.output;
       after = b;
       taken = Consumes-trans left between rest s.bytes (n.bytes ++ n.past.more) s.taken n.past.taken;
-      past = omega (arith, full, ap length whole, length-append (s.bytes ++ n.bytes) n.past.more, n.past.some);
+      past = omega (arith, full, ap length whole, length-append (s.bytes ++ n.bytes) n.past.more, n.past.one);
       answered = subst (λ (l : List (List ℕ)). Answered a b l s.output) (sym lines) s.answered;
       written = s.appends;
     }
@@ -215,6 +216,7 @@ ends_reading a b left between rest holds written before during now early late ol
       output = s.output;
       after = b;
       taken = Consumes-trans left between rest s.bytes n.bytes s.taken n.taken;
+      within = omega (arith, n.within, s.count, length-append s.bytes n.bytes, s.limit_is);
       first = are_first (s.bytes ++ n.bytes) rest s.lines some.0 some.1 (parts-more s.bytes old.held n.bytes s.lines s.parts ∙ ap (λ (l : List (List ℕ)). s.lines ++ l) some.2);
       answered = s.answered;
       written = all_written holds written s.output s.appends;
@@ -232,47 +234,49 @@ more_written holds written wrote output more before f = record {
 }
 
 -- the lines before it are answered
-unanswered_line : (a b : Lists) (left rest holds written wrote : Option (List ℕ)) (before now early late : ℕ) (bytes output : List ℕ) (lines : List (List ℕ)) → Consumes left rest bytes → Answered a b lines output → Appends holds written output
-    → AreFirst lines bytes rest → Keeps written wrote → ScriptCut a (outside left before holds early) (outside rest now wrote late)
-unanswered_line a b left rest holds written wrote before now early late bytes output lines taken answered appends first kept = record {
+unanswered_line : (a b : Lists) (left rest holds written wrote : Option (List ℕ)) (before now early late limit : ℕ) (bytes output : List ℕ) (lines : List (List ℕ)) → Consumes left rest bytes → length bytes ≤ limit → Answered a b lines output → Appends holds written output
+    → AreFirst lines bytes rest → Keeps written wrote → ScriptCut limit a (outside left before holds early) (outside rest now wrote late)
+unanswered_line a b left rest holds written wrote before now early late limit bytes output lines taken within answered appends first kept = record {
   bytes = bytes;
   lines = lines;
   output = output;
   after = b;
   taken = taken;
+  within = omega (arith, within);
   first = first;
   answered = answered;
   written = all_written holds wrote output (Appends-kept holds written wrote output appends kept);
 }
 
 -- it is answered, and its reply isn't written whole
-left_line : (a b c : Lists) (left rest holds written wrote : Option (List ℕ)) (before now early late : ℕ) (bytes output front : List ℕ) (lines : List (List ℕ)) (line : ScriptLine) → Consumes left rest bytes → Answered a b lines output → Appends holds written output
-    → AreFirst (lines ++ front ∷ []) bytes rest → line ≡ kept front → LeavesLine b c written wrote line → ScriptCut a (outside left before holds early) (outside rest now wrote late)
-left_line a b c left rest holds written wrote before now early late bytes output front lines line taken answered appends first line_is o = record {
+left_line : (a b c : Lists) (left rest holds written wrote : Option (List ℕ)) (before now early late limit : ℕ) (bytes output front : List ℕ) (lines : List (List ℕ)) (line : ScriptLine) → Consumes left rest bytes → length bytes ≤ limit → Answered a b lines output → Appends holds written output
+    → AreFirst (lines ++ front ∷ []) bytes rest → line ≡ kept front → LeavesLine b c written wrote line → ScriptCut limit a (outside left before holds early) (outside rest now wrote late)
+left_line a b c left rest holds written wrote before now early late limit bytes output front lines line taken within answered appends first line_is o = record {
   bytes = bytes;
   lines = lines ++ front ∷ [];
   output = output ++ reply_line o.reply;
   after = c;
   taken = taken;
+  within = omega (arith, within);
   first = first;
   answered = one_more_answered a b c lines front output o.reply answered (subst (λ (l : ScriptLine). GoesOnce b c (kept_item l) o.reply) line_is o.goes);
   written = more_written holds written wrote output (reply_line o.reply) appends o.written;
 }
 
 -- so a script ends that stops at a line
-stops_line : (a b c : Lists) (left rest holds written wrote : Option (List ℕ)) (before now early mid late limit : ℕ) (bytes output front : List ℕ) (lines : List (List ℕ)) (line : ScriptLine) (s : Stop) → Consumes left rest bytes → Answered a b lines output → Appends holds written output
+stops_line : (a b c : Lists) (left rest holds written wrote : Option (List ℕ)) (before now early mid late limit : ℕ) (bytes output front : List ℕ) (lines : List (List ℕ)) (line : ScriptLine) (s : Stop) → Consumes left rest bytes → length bytes ≤ limit → Answered a b lines output → Appends holds written output
     → early ≤ mid → AreFirst lines bytes rest → AreFirst (lines ++ front ∷ []) bytes rest → line ≡ kept front → AnswerStops b c written wrote mid late line s → ServeEnds limit a (outside left before holds early) (outside rest now wrote late) (Some s)
-stops_line a b c left rest holds written wrote before now early mid late limit bytes output front lines line stop.BadWords taken answered appends later without with_it line_is o = absurd o
-stops_line a b c left rest holds written wrote before now early mid late limit bytes output front lines line (stop.Unreadable n rule) taken answered appends later without with_it line_is o = absurd o
-stops_line a b c left rest holds written wrote before now early mid late limit bytes output front lines line (stop.Malformed n) taken answered appends later without with_it line_is o = absurd o
-stops_line a b c left rest holds written wrote before now early mid late limit bytes output front lines line stop.SourceFault taken answered appends later without with_it line_is o = absurd o
-stops_line a b c left rest holds written wrote before now early mid late limit bytes output front lines line stop.TooLong taken answered appends later without with_it line_is o = absurd o
-stops_line a b c left rest holds written wrote before now early mid late limit bytes output front lines line stop.SinkFault taken answered appends later without with_it line_is o =
-    (left_line a b c left rest holds written wrote before now early late bytes output front lines line taken answered appends with_it line_is o.0, λ below. omega (arith, later, o.1 below))
-stops_line a b c left rest holds written wrote before now early mid late limit bytes output front lines line stop.Memory taken answered appends later without with_it line_is (inl k) =
-    unanswered_line a b left rest holds written wrote before now early late bytes output lines taken answered appends without k.1
-stops_line a b c left rest holds written wrote before now early mid late limit bytes output front lines line stop.Memory taken answered appends later without with_it line_is (inr o) =
-    left_line a b c left rest holds written wrote before now early late bytes output front lines line taken answered appends with_it line_is o
+stops_line a b c left rest holds written wrote before now early mid late limit bytes output front lines line stop.BadWords taken within answered appends later without with_it line_is o = absurd o
+stops_line a b c left rest holds written wrote before now early mid late limit bytes output front lines line (stop.Unreadable n rule) taken within answered appends later without with_it line_is o = absurd o
+stops_line a b c left rest holds written wrote before now early mid late limit bytes output front lines line (stop.Malformed n) taken within answered appends later without with_it line_is o = absurd o
+stops_line a b c left rest holds written wrote before now early mid late limit bytes output front lines line stop.SourceFault taken within answered appends later without with_it line_is o = absurd o
+stops_line a b c left rest holds written wrote before now early mid late limit bytes output front lines line stop.TooLong taken within answered appends later without with_it line_is o = absurd o
+stops_line a b c left rest holds written wrote before now early mid late limit bytes output front lines line stop.SinkFault taken within answered appends later without with_it line_is o =
+    (left_line a b c left rest holds written wrote before now early late limit bytes output front lines line taken within answered appends with_it line_is o.0, λ below. omega (arith, later, o.1 below))
+stops_line a b c left rest holds written wrote before now early mid late limit bytes output front lines line stop.Memory taken within answered appends later without with_it line_is (inl k) =
+    unanswered_line a b left rest holds written wrote before now early late limit bytes output lines taken within answered appends without k.1
+stops_line a b c left rest holds written wrote before now early mid late limit bytes output front lines line stop.Memory taken within answered appends later without with_it line_is (inr o) =
+    left_line a b c left rest holds written wrote before now early late limit bytes output front lines line taken within answered appends with_it line_is o
 
 -- it stopped at a line that a line feed ends
 pub ends_at_line : (a b c : Lists) (left between rest holds written wrote : Option (List ℕ)) (before during now early mid late : ℕ) (old new : Buffer) (limit : ℕ) (line : ScriptLine) (s : Stop) → IsServed a b left between holds written before during early mid old limit
@@ -281,7 +285,7 @@ ends_at_line a b c left between rest holds written wrote before during now early
     let some = some_part 10 new.held in
     let parts : fed_parts (v.bytes ++ n.bytes) ≡ v.lines ++ n.gives.front ∷ fed_parts new.held = parts-more v.bytes old.held n.bytes v.lines v.parts ∙ ap (λ (l : List (List ℕ)). v.lines ++ l) n.gives.parts in
     let behind : fed_parts (v.bytes ++ n.bytes) ≡ (v.lines ++ n.gives.front ∷ []) ++ some.0 ∷ some.1 = parts ∙ (sym (append_assoc v.lines (n.gives.front ∷ []) (fed_parts new.held)) ∙ ap (λ (l : List (List ℕ)). (v.lines ++ n.gives.front ∷ []) ++ l) some.2) in
-    stops_line a b c left rest holds written wrote before now early mid late limit (v.bytes ++ n.bytes) v.output n.gives.front v.lines line s (Consumes-trans left between rest v.bytes n.bytes v.taken n.reads.taken) v.answered v.appends v.written_later
+    stops_line a b c left rest holds written wrote before now early mid late limit (v.bytes ++ n.bytes) v.output n.gives.front v.lines line s (Consumes-trans left between rest v.bytes n.bytes v.taken n.reads.taken) (omega (arith, n.reads.count, v.count, length-append v.bytes n.bytes, n.reads.within, n.reads.limit, v.limit_is)) v.answered v.appends v.written_later
     (are_first (v.bytes ++ n.bytes) rest v.lines n.gives.front (fed_parts new.held) parts) (are_first (v.bytes ++ n.bytes) rest (v.lines ++ n.gives.front ∷ []) some.0 some.1 behind) n.gives.line_is o
 
 -- the last line, which the end of the source ends
@@ -307,7 +311,7 @@ ends_at_last a b c left between rest holds written wrote before during now early
     let text = old.held ++ n.bytes in
     let parts : fed_parts (v.bytes ++ n.bytes) ≡ v.lines ++ text ∷ [] = parts-more v.bytes old.held n.bytes v.lines v.parts ∙ ap (λ (l : List (List ℕ)). v.lines ++ l) n.gives.unfed in
     let lines : lines_of (v.bytes ++ n.bytes) ≡ v.lines ++ text ∷ [] = lines_of-unended (v.bytes ++ n.bytes) text v.lines parts ∙ ap (λ (l : List (List ℕ)). v.lines ++ l) (unended-some text n.gives.some) in
-    stops_line a b c left rest holds written wrote before now early mid late limit (v.bytes ++ n.bytes) v.output text v.lines line s (Consumes-trans left between rest v.bytes n.bytes v.taken n.reads.taken) v.answered v.appends v.written_later
+    stops_line a b c left rest holds written wrote before now early mid late limit (v.bytes ++ n.bytes) v.output text v.lines line s (Consumes-trans left between rest v.bytes n.bytes v.taken n.reads.taken) (omega (arith, n.reads.count, v.count, length-append v.bytes n.bytes, n.reads.within, n.reads.limit, v.limit_is)) v.answered v.appends v.written_later
     (are_first (v.bytes ++ n.bytes) rest v.lines text [] parts) (inr (sym lines, n.gives.at_end)) n.gives.line_is o
 
 -- ---- where nothing fails
@@ -325,19 +329,20 @@ serves_within limit a old new (Some (stop.Malformed n)) text e is within source 
 serves_within limit a old new (Some stop.SourceFault) text e is within source sink = absurd (source e.risen)
 serves_within limit a old new (Some stop.SinkFault) text e is within source sink = absurd (sink e.1)
 serves_within limit a old new (Some stop.Memory) text e is within source sink = inr refl
-serves_within limit a old new (Some stop.TooLong) text e is within source sink = absurd (inside_limit text e.bytes new.left limit (subst (λ (l : Option (List ℕ)). Consumes l new.left e.bytes) is e.taken) e.past within)
+serves_within limit a old new (Some stop.TooLong) text e is within source sink = absurd (inside_limit text e.bytes new.left limit (subst (λ (l : Option (List ℕ)). Consumes l new.left e.bytes) is e.taken) (omega (arith, e.past)) within)
 
 pub serves_all : (limit : ℕ) (a : Lists) (old new : Outside) (s : Option Stop) → ServeEnds limit a old new s → ServesAll limit old new (status_of s)
 serves_all limit a old new s e = record { done = λ text is within source sink. serves_within limit a old new s text e is within source sink }
 
 -- nothing was read, and nothing written
-pub none_served : (a : Lists) (left : Option (List ℕ)) (before : ℕ) (holds : Option (List ℕ)) (early : ℕ) → ScriptCut a (outside left before holds early) (outside left before holds early)
-none_served a left before holds early = record {
+pub none_served : (limit : ℕ) (a : Lists) (left : Option (List ℕ)) (before : ℕ) (holds : Option (List ℕ)) (early : ℕ) → ScriptCut limit a (outside left before holds early) (outside left before holds early)
+none_served limit a left before holds early = record {
   bytes = [];
   lines = [];
   output = [];
   after = a;
   taken = Consumes-nil left;
+  within = omega arith;
   first = inl ([], refl);
   answered = nothing_answered a;
   written = record { front = []; rest = []; split = refl; appends = Appends-nil holds };

@@ -9,7 +9,7 @@ use Rattle.qz_ending.specs.declared.stop.Stop.{Stop}
 use Rattle.qz_ending.specs.declared.stop.Stop.TheVariants as stop
 use Rattle.qz_ending.specs.Endings.{Outside}
 use Rattle.qz_wire.specs.Lines.{newline}
-use Rattle.quizd.specs.Plain.{first_lists}
+use Rattle.quizd.specs.Solo.{first_lists}
 use Rattle.qz_replay.specs.ReplayEndings.{ReplayEnds, ReplaysAll}
 use Rattle.quizd.specs.Scripts.{ServeEnds, ServesAll, script_limit}
 use Rattle.quizd.specs.GiftEndings.{GiftEnds, GiftsAll}

@@ -41,22 +41,23 @@ pub record Fills (old new : Buffer) (left rest : Option (List ℕ)) (before now 
   pub reads : ReadsMore old new left rest before now new.held
   pub some : MatchBool more (0 < length new.held) ((new.held ≡ []) × IsAtEnd rest)
 
--- a byte stood behind the last one that may be read
+-- one byte stood behind the last one that may be read
 pub record GoesPast (old : Buffer) (left rest : Option (List ℕ)) (bytes : List ℕ) : Type 0 where
   pub more : List ℕ
   pub taken : Consumes left rest (bytes ++ more)
   pub full : old.read + length bytes ≡ old.limit
-  pub some : 0 < length more
+  pub one : length more ≡ 1
 
--- some bytes were read
-pub record Unkept (left rest : Option (List ℕ)) : Type 0 where
+-- some bytes were read, at most one of them past the limit
+pub record Unkept (old : Buffer) (left rest : Option (List ℕ)) : Type 0 where
   pub bytes : List ℕ
   pub taken : Consumes left rest bytes
+  pub within : old.read + length bytes ≤ old.limit + 1
 
 abbrev pub FillStops : Buffer → Option (List ℕ) → Option (List ℕ) → ℕ → ℕ → Stop → Type 0
 FillStops old left rest before now stop.SourceFault = FailsReading 0 left rest before now
 FillStops old left rest before now stop.TooLong = GoesPast old left rest []
-FillStops old left rest before now stop.Memory = Unkept left rest
+FillStops old left rest before now stop.Memory = Unkept old left rest
 FillStops old left rest before now s = ⊥
 
 -- ---- one line of what is held
@@ -77,6 +78,7 @@ pub record GoesOn (old new : Buffer) (line longer : ScriptLine) : Type 0 where
   pub longer_is : longer ≡ with_piece line old.held
   pub read : new.read ≡ old.read
   pub limit : new.limit ≡ old.limit
+  pub within : new.read ≤ new.limit
 
 -- ---- the next line
 
@@ -109,6 +111,7 @@ pub record GivesNext (old new : Buffer) (left rest : Option (List ℕ)) (before 
 pub record NextFailed (old : Buffer) (left rest : Option (List ℕ)) (before now : ℕ) : Type 0 where
   pub bytes : List ℕ
   pub taken : Consumes left rest bytes
+  pub within : old.read + length bytes ≤ old.limit
   pub unfed : IsUnfed (old.held ++ bytes)
   pub risen : HasRisen before now
 
@@ -120,7 +123,7 @@ pub record NextGoesPast (old : Buffer) (left rest : Option (List ℕ)) : Type 0 
 abbrev pub NextStops : Buffer → Option (List ℕ) → Option (List ℕ) → ℕ → ℕ → Stop → Type 0
 NextStops old left rest before now stop.SourceFault = NextFailed old left rest before now
 NextStops old left rest before now stop.TooLong = NextGoesPast old left rest
-NextStops old left rest before now stop.Memory = Unkept left rest
+NextStops old left rest before now stop.Memory = Unkept old left rest
 NextStops old left rest before now s = ⊥
 
 -- what is given at the end of the source: a last line, if it has a byte

@@ -2,6 +2,6 @@ pub mod ScriptLines
 pub mod Inputs
 pub mod Retries
 pub mod Scripts
-pub mod Plain
+pub mod Solo
 pub mod GiftEndings
 pub mod Commands

@@ -7,10 +7,12 @@ use Rattle.qz_terms.specs.declared.plan.Plan.{Plan}
 use Rattle.qz_terms.specs.declared.reply.Done.{Done}
 use Rattle.qz_terms.specs.declared.reply.Reply.{Reply}
 use Rattle.qz_terms.specs.declared.reply.Reply.TheVariants as reply
-use Rattle.qz_terms.specs.Answer.{first_refusal, plan_for}
+use Rattle.qz_terms.specs.CatalogAnswer.{asks_catalog}
+use Rattle.qz_terms.specs.SchoolAnswer.{first_refusal, plan_for}
 use Rattle.qz_terms.specs.Catalog.{user_of}
 use Rattle.qz_terms.specs.Laws.{Stands}
 use Rattle.qz_terms.specs.Serial.{Asking, Asks, Goes, Line, Lists, Unread, part_list}
+use Rattle.qz_school.specs.Repeating.{StandsInCatalog}
 
 -- the keeper of a list failed
 abbrev pub is_keep_fault : Reply → Bool
@@ -19,7 +21,7 @@ is_keep_fault r = false
 
 -- A request stands in the list of its shard, and this was said of it: the catalogue knows its caller, refuses it nothing, and has a plan
 -- for it.
-pub record StandsIn (a : Lists) (ask : Ask) (told : Reply) : Type 0 where
+pub record StandsInShard (a : Lists) (ask : Ask) (told : Reply) : Type 0 where
   pub user : User
   pub plan : Plan
   pub shard : ℕ
@@ -27,6 +29,18 @@ pub record StandsIn (a : Lists) (ask : Ask) (told : Reply) : Type 0 where
   pub free : first_refusal a.records.list user ask.request ≡ None
   pub planned : plan_for a.records.list (part_list a shard) user ask.request ≡ Some plan
   pub stands : Stands (part_list a shard) user ask told
+
+-- A request to the catalogue, which knows its caller, stands in the catalogue's list, and this was said of it.
+pub record StandsInRecords (a : Lists) (ask : Ask) (told : Reply) : Type 0 where
+  pub user : User
+  pub known : user_of a.records.list ask.caller ≡ Some user
+  pub of_catalog : asks_catalog ask.request ≡ true
+  pub stands : StandsInCatalog a.records.list user ask told
+
+-- it stands in the list that it goes to
+pub data StandsIn (a : Lists) (ask : Ask) (told : Reply) : Type 0 where
+  in_shard : StandsInShard a ask told → StandsIn a ask told
+  in_records : StandsInRecords a ask told → StandsIn a ask told
 
 -- what was said before, or memory was wanting
 abbrev pub IsSaidAgain : Reply → Reply → Type 0

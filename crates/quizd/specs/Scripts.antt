@@ -1,5 +1,5 @@
 -- How a script ends: what it has read then, which of its lines it has answered, and what it has written.
-use Rattle.std.specs.Prelude.{◌≡◌, ◌⊎◌, ℕ, ◌<◌, ◌≤◌, true, not, List, [], ◌∷◌, ◌++◌, flat_map, map, length, take, Option, Some, None}
+use Rattle.std.specs.Prelude.{◌≡◌, ◌⊎◌, ℕ, ◌+◌, ◌<◌, ◌≤◌, true, not, List, [], ◌∷◌, ◌++◌, flat_map, map, length, take, Option, Some, None}
 use Rattle.std.specs.List.{list_all}
 use Rattle.std.specs.Io.KnownBytes.{Appends, Consumes, IsAtEnd, Keeps}
 use Rattle.qz_outside.specs.Causes.{HasRisen}
@@ -54,22 +54,23 @@ pub record ScriptDone (limit : ℕ) (a : Lists) (old new : Outside) : Type 0 whe
   pub written : Appends old.holds new.holds output
 
 -- the source failed, and every whole line that was read is answered
-pub record ScriptSourceFailed (a : Lists) (old new : Outside) : Type 0 where
+pub record ScriptSourceFailed (limit : ℕ) (a : Lists) (old new : Outside) : Type 0 where
   pub bytes : List ℕ
   pub output : List ℕ
   pub after : Lists
   pub taken : Consumes old.left new.left bytes
+  pub within : length bytes ≤ limit
   pub risen : HasRisen old.source_faults new.source_faults
   pub answered : Answered a after (ended_lines bytes) output
   pub written : Appends old.holds new.holds output
 
--- the source goes on behind the limit, and every whole line before it is answered
+-- the source goes on behind the limit, of which one byte was read, and every whole line before it is answered
 pub record ScriptTooLong (limit : ℕ) (a : Lists) (old new : Outside) : Type 0 where
   pub bytes : List ℕ
   pub output : List ℕ
   pub after : Lists
   pub taken : Consumes old.left new.left bytes
-  pub past : limit < length bytes
+  pub past : length bytes ≡ limit + 1
   pub answered : Answered a after (ended_lines (take limit bytes)) output
   pub written : Appends old.holds new.holds output
 
@@ -77,22 +78,23 @@ pub record ScriptTooLong (limit : ℕ) (a : Lists) (old new : Outside) : Type 0 
 abbrev pub AreFirst : List (List ℕ) → List ℕ → Option (List ℕ) → Type 0
 AreFirst lines bytes left = ((more : List (List ℕ)) × (ended_lines bytes ≡ lines ++ more)) ⊎ ((lines ≡ lines_of bytes) × IsAtEnd left)
 
--- the first lines are answered, and a front of what is said is written
-pub record ScriptCut (a : Lists) (old new : Outside) : Type 0 where
+-- the first lines are answered, and a front of what is said is written; at most one byte was read past the limit
+pub record ScriptCut (limit : ℕ) (a : Lists) (old new : Outside) : Type 0 where
   pub bytes : List ℕ
   pub lines : List (List ℕ)
   pub output : List ℕ
   pub after : Lists
   pub taken : Consumes old.left new.left bytes
+  pub within : length bytes ≤ limit + 1
   pub first : AreFirst lines bytes new.left
   pub answered : Answered a after lines output
   pub written : AppendsFront old.holds new.holds output
 
 abbrev pub ServeEnds : ℕ → Lists → Outside → Outside → Option Stop → Type 0
 ServeEnds limit a old new None = ScriptDone limit a old new
-ServeEnds limit a old new (Some stop.SourceFault) = ScriptSourceFailed a old new
-ServeEnds limit a old new (Some stop.SinkFault) = ScriptCut a old new × HasRisen old.sink_faults new.sink_faults
-ServeEnds limit a old new (Some stop.Memory) = ScriptCut a old new
+ServeEnds limit a old new (Some stop.SourceFault) = ScriptSourceFailed limit a old new
+ServeEnds limit a old new (Some stop.SinkFault) = ScriptCut limit a old new × HasRisen old.sink_faults new.sink_faults
+ServeEnds limit a old new (Some stop.Memory) = ScriptCut limit a old new
 ServeEnds limit a old new (Some stop.TooLong) = ScriptTooLong limit a old new
 ServeEnds limit a old new (Some s) = ⊥
 

@@ -6,17 +6,20 @@ mod desk;
 mod gift;
 #[cfg(test)]
 mod gift_tests;
-mod plain;
+#[cfg(test)]
+mod prompt_tests;
 mod run;
 mod script;
 mod script_input;
 mod script_line;
 #[cfg(test)]
 mod script_tests;
+mod solo;
 #[cfg(test)]
 mod usage_tests;
 
 pub use gift::gift;
+use qz_ending::Stop;
 use qz_outside::{StdSink, StdSource};
 pub use qz_replay::replay;
 use qz_text::{NoMemory, Text};
@@ -26,9 +29,6 @@ use std::alloc::Global;
 use std::process::ExitCode;
 use std::rt::Env;
 use std::{env, io};
-
-/// The status where memory was wanting before a command began.
-const NO_MEMORY: u8 = 8;
 
 /// The words of the command line behind the program's name. No words stand for arguments that the system doesn't give as text.
 fn arguments(rt: &(impl Env + Alloc<A = Global>)) -> Result<Vec<Text>, NoMemory> {
@@ -46,7 +46,7 @@ fn arguments(rt: &(impl Env + Alloc<A = Global>)) -> Result<Vec<Text>, NoMemory>
 
 fn main(rt: HostRuntime) -> ExitCode {
     let Ok(words) = arguments(&rt) else {
-        return ExitCode::from(NO_MEMORY);
+        return ExitCode::from(Stop::Memory.status());
     };
     let mut source = StdSource::new(rt.reader());
     let mut sink = StdSink::new(io::writer(&rt));

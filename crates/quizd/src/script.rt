@@ -3,20 +3,20 @@
 ghost use Rattle.std.specs.Prelude.{◌≡◌, ◌<◌, ◌^◌, length, MatchResult, Some, None};
 ghost use Rattle.quizd.specs.ScriptLines.{kept_item};
 ghost use Rattle.qz_ending.specs.Endings.{Ended};
-ghost use Rattle.quizd.specs.Plain.{first_lists};
+ghost use Rattle.quizd.specs.Solo.{first_lists};
 ghost use Rattle.quizd.specs.Retries.{GoesOnce};
 ghost use Rattle.quizd.specs.Scripts.{AnswersLine, AnswerStops, Says, SayStops, ServeEnds, ServesAll, script_limit};
 
 use crate::desk::Desk;
-use crate::plain::Plain;
 use crate::script_input::{Given, ScriptInput};
-use crate::script_line::{Misread, ScriptLine};
+use crate::script_line::ScriptLine;
+use crate::solo::Solo;
 use qz_ending::Stop;
 use qz_grading::Refusal;
 use qz_outside::{Sink, Source, write_all};
 use qz_terms::Reply;
 use qz_text::NoMemory;
-use qz_wire::reply_onto;
+use qz_wire::line_of;
 use std::alloc::Global;
 
 /// So many bytes one call reads at most.
@@ -25,7 +25,8 @@ const CHUNK: usize = 65_536;
 /// A script has at most so many bytes.
 const LIMIT: usize = 1_073_741_824;
 
-/// Answers the lines of a script over a school in memory, and answers the exit status.
+/// Answers the lines of a script over a school in memory that was just founded, with one shard and the manager's token `root`, and answers
+/// the exit status.
 ///
 /// Each reply is written before the next line is read, and the last line, which may lack its line feed, is answered at the end of the
 /// source. With status 9 the source has more than 1,073,741,824 bytes.
@@ -40,8 +41,10 @@ pub fn script<S: Source, O: Sink>(alloc: Global, source: &mut S, sink: &mut O) -
         (record { left = S.left source.new; source_faults = S.faults source.new; holds = O.holds sink.new; sink_faults = O.faults sink.new })
         result }
 {
-    let mut desk = Plain::new(alloc);
-    serve(alloc, LIMIT, &mut desk, source, sink)
+    match Solo::new(alloc, "root") {
+        Ok(mut desk) => serve(alloc, LIMIT, &mut desk, source, sink),
+        Err(NoMemory) => Stop::Memory.status(),
+    }
 }
 
 /// Answers the lines of a source over a desk, each before the next is read, and answers the exit status.
@@ -141,10 +144,11 @@ fn reply_to<D: Desk>(alloc: Global, desk: &mut D, line: &ScriptLine) -> Result<R
 {
     match line.item(alloc) {
         Ok((moment, ask)) => Ok(desk.ask(alloc, &ask, moment)),
-        Err(Misread::Malformed { place, rule }) => {
+        Err(Refusal::Malformed { place, rule }) => {
             Ok(Reply::Refused(Refusal::Malformed { place, rule }))
         }
-        Err(Misread::Memory) => Err(NoMemory),
+        Err(Refusal::Memory) => Err(NoMemory),
+        Err(_) => unreachable!(),
     }
 }
 
@@ -153,10 +157,9 @@ fn say<O: Sink>(alloc: Global, sink: &mut O, reply: &Reply) -> Result<(), Stop>
     ensures { MatchResult result (λ _. Says (O.holds sink.old) (O.holds sink.new) (O.faults sink.old) (O.faults sink.new) reply.now)
         (SayStops (O.holds sink.old) (O.holds sink.new) (O.faults sink.old) (O.faults sink.new) reply.now) }
 {
-    let mut said = String::new(alloc);
-    if reply_onto(&mut said, reply).is_err() {
+    let Ok(said) = line_of(alloc, reply) else {
         return Err(Stop::Memory);
-    }
+    };
     if write_all(sink, said.as_bytes()).is_err() {
         return Err(Stop::SinkFault);
     }

@@ -1,6 +1,6 @@
 //! A source that is read piece by piece and given out line by line.
 
-ghost use Rattle.std.specs.Prelude.{◌≡◌, ◌+◌, ◌<◌, ◌≤◌, [], length, IfOk, MatchBool, MatchResult};
+ghost use Rattle.std.specs.Prelude.{◌≡◌, ◌+◌, ◌<◌, ◌≤◌, [], length, Contains, IfOk, OnErr, MatchBool, MatchResult};
 ghost use Rattle.quizd.specs.Inputs.{Ends, FillStops, Fills, GivesNext, GoesOn, NextStops, given_last};
 
 use crate::script_line::ScriptLine;
@@ -75,6 +75,7 @@ impl ScriptInput {
         ensures some { 0 < result }
         ensures room { result ≤ most }
         ensures within { self.now.read < self.now.limit → self.now.read + result ≤ self.now.limit }
+        ensures last { self.now.read ≡ self.now.limit → result ≡ 1 }
     {
         if self.read < self.limit {
             most.min(self.limit - self.read)
@@ -106,7 +107,9 @@ impl ScriptInput {
 
     /// Adds what is held up to its first line feed to a line, which is then ended; or all that is held, where there is none.
     fn lengthen(&mut self, line: ScriptLine) -> Result<(ScriptLine, bool), NoMemory>
-        ensures { IfOk result (λ r. MatchBool r.1 (Ends self.old self.new line r.0) (GoesOn self.old self.new line r.0)) }
+        ensures longer { IfOk result (λ r. MatchBool r.1 (Ends self.old self.new line r.0) (GoesOn self.old self.new line r.0)) }
+        ensures unchanged { OnErr result (self.new ≡ self.old) }
+        ensures within { self.new.read ≤ self.new.limit }
     {
         let held = &self.piece[self.at..];
         match cut(held, b'\n') {
@@ -124,7 +127,7 @@ impl ScriptInput {
         }
     }
 
-    /// The next line. Nothing is read while a whole line is held, and what is read goes through the room.
+    /// The next line. Nothing is read while a line feed is held, and what is read goes through the room.
     pub fn next<S: Source>(
         &mut self,
         alloc: Global,
@@ -132,8 +135,9 @@ impl ScriptInput {
         room: &mut [u8],
     ) -> Result<Given, Stop>
         requires { 0 < length room.old }
-        ensures { MatchResult result (GivesNext self.old self.new (S.left source.old) (S.left source.new) (S.faults source.old) (S.faults source.new))
+        ensures given { MatchResult result (GivesNext self.old self.new (S.left source.old) (S.left source.new) (S.faults source.old) (S.faults source.new))
             (NextStops self.old (S.left source.old) (S.left source.new) (S.faults source.old) (S.faults source.new)) }
+        ensures prompt { Contains self.old.held 10 → source.new ≡ source.old }
     {
         let mut line = ScriptLine::empty(alloc);
         loop {

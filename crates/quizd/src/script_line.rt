@@ -5,9 +5,10 @@ ghost use Rattle.std.specs.Str.{is_utf8};
 ghost use Rattle.qz_wire.specs.Asking.{CanBeAsked};
 ghost use Rattle.quizd.specs.ScriptLines.{IsItem, kept, kept_item, with_piece};
 
+use qz_grading::Refusal;
 use qz_terms::Ask;
 use qz_text::{Bytes, NoMemory};
-use qz_wire::{WordFault, ask_on};
+use qz_wire::ask_of_line;
 use std::alloc::Global;
 
 /// A line has at most so many bytes, its line feed not counted.
@@ -18,15 +19,6 @@ const LONGEST: usize = 17_825_792;
 pub enum ScriptLine {
     Kept(Bytes),
     TooLong,
-}
-
-/// Why a line asks nothing.
-#[derive(Clone, Copy, Debug, PartialEq, Eq)]
-pub enum Misread {
-    /// The word with this number, from 1, is at fault, or the line as a whole (0): it is too long (rule 2) or no UTF-8 (rule 0).
-    Malformed { place: u32, rule: u8 },
-    /// Memory was wanting.
-    Memory,
 }
 
 impl ScriptLine {
@@ -49,13 +41,14 @@ impl ScriptLine {
         }
     }
 
-    /// The moment and the request of the line.
-    pub fn item(&self, alloc: Global) -> Result<(u64, Ask), Misread>
+    /// The moment and the request of the line. A line without a reading is `Malformed`: at the place 0 as a whole, where it is too long
+    /// (rule 2) or no UTF-8 (rule 0).
+    pub fn item(&self, alloc: Global) -> Result<(u64, Ask), Refusal>
         ensures item { IsItem result (kept_item self.now) }
         ensures asked { IfOk result (λ x. CanBeAsked x.1 x.0) }
     {
         match self {
-            ScriptLine::TooLong => Err(Misread::Malformed { place: 0, rule: 2 }),
+            ScriptLine::TooLong => Err(Refusal::Malformed { place: 0, rule: 2 }),
             ScriptLine::Kept(line) => text_item(alloc, line.as_slice()),
         }
     }
@@ -71,18 +64,14 @@ fn longer(mut front: Bytes, piece: &[u8]) -> Result<ScriptLine, NoMemory>
     Ok(ScriptLine::Kept(front))
 }
 
-fn text_item(alloc: Global, line: &[u8]) -> Result<(u64, Ask), Misread>
+fn text_item(alloc: Global, line: &[u8]) -> Result<(u64, Ask), Refusal>
     ensures item { IsItem result (kept_item (ScriptLine.Kept line.now)) }
     ensures asked { IfOk result (λ x. CanBeAsked x.1 x.0) }
 {
     if !is_text(line) {
-        return Err(Misread::Malformed { place: 0, rule: 0 });
+        return Err(Refusal::Malformed { place: 0, rule: 0 });
     }
-    match ask_on(alloc, line) {
-        Ok(asked) => Ok(asked),
-        Err(WordFault::Malformed { place }) => Err(Misread::Malformed { place, rule: 0 }),
-        Err(WordFault::Memory) => Err(Misread::Memory),
-    }
+    ask_of_line(alloc, line)
 }
 
 /// Whether bytes are UTF-8.

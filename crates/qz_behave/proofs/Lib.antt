@@ -1,3 +1,2 @@
-pub mod MoreSteps
 pub mod OneMore
 pub mod MachineLemmas

@@ -1,9 +1,8 @@
 -- What a machine knows after one more step.
-use Rattle.std.proofs.Common.{◌≡◌, ℕ, zero, suc, ◌-◌, ◌<◌, ◌≤◌, Bool, true, false, ◌||◌, ◌&&◌, List, [], ◌∷◌, ◌++◌, length, Option, Some, None, IfSome, refl, ap, sym, ◌∙◌, ◌⊎◌, inl, inr, ℤ, arith}
+use Rattle.std.proofs.Common.{◌≡◌, ℕ, ◌≤◌, Bool, true, false, ◌||◌, ◌&&◌, List, [], ◌∷◌, ◌++◌, length, Option, Some, None, IfSome, refl, ap, sym, ◌∙◌, ◌⊎◌, inl, inr, ℤ, arith}
 use Rattle.std.proofs.lemmas.List.{length-append}
 use Rattle.std.proofs.lemmas.Bool.Decides.{nat_tests}
-use Rattle.std.specs.Prelude.{if◌then◌else◌, nat_le, ◌==◌, is_some, is_none, slice_get}
-use Rattle.std.specs.List.{last_or}
+use Rattle.std.specs.Prelude.{if◌then◌else◌, nat_le, ◌==◌, is_some, is_none}
 use Rattle.qz_decimal.specs.Numbers.{IsEarnedFraction}
 use Rattle.qz_grading.specs.declared.outcome.Behaviour.{Behaviour}
 use Rattle.qz_grading.specs.declared.outcome.Behaviour.TheVariants as behaviour
@@ -15,13 +14,12 @@ use Rattle.qz_grading.specs.declared.response.Response.{Response}
 use Rattle.qz_grading.specs.declared.response.Step.{Step}
 use Rattle.qz_grading.specs.declared.response.Step.TheVariants as step
 use Rattle.qz_grading.specs.Grading.{asks_certainty, certainty_fits, answer_fits, fits, gradable}
-use Rattle.qz_grading.specs.Steps.{is_finish, has_finish, last, last_of, response_of, submitted}
+use Rattle.qz_grading.specs.Steps.{is_finish, has_finish, last, response_of, submitted, StepFits}
 use Rattle.qz_grading.specs.Behaviours.{Standing, complete_under, first_handed_in, ends_by_try, has_ended, by_grade, at_finish, outcome}
-use Rattle.qz_grading.proofs.StepLemmas.{last-finished}
-use Rattle.qz_behave.specs.Machines.{Progress, response_at, IsAfter, StepFits}
+use Rattle.qz_grading.proofs.StepLemmas.{or-true, slice_get-push, inside-more, response_at-kept, has_finish-more, last-finished, last-closed, last-answered, last-passed}
+use Rattle.qz_behave.specs.Machines.{Progress, IsAfter}
 use Rattle.qz_behave.specs.Following.{is_deferred, grades_first, going_on, ended_with, IsLastPlace, IsOutcome}
-use Rattle.qz_behave.proofs.MoreSteps.{has_finish-more, last-closed, last-answered, last-passed}
-use Rattle.qz_behave.proofs.OneMore.{or-left, or-right, or-true, outcome-ended, deferred-answered, deferred-passed, deferred-finished, manual-answered, manual-passed, manual-finished, immediate-complete, immediate-incomplete, immediate-passed, immediate-finished}
+use Rattle.qz_behave.proofs.OneMore.{or-left, or-right, outcome-ended, deferred-answered, deferred-passed, deferred-finished, manual-answered, manual-passed, manual-finished, immediate-complete, immediate-incomplete, immediate-passed, immediate-finished}
 
 -- ---- certainty
 
@@ -37,32 +35,6 @@ pub certainty-few : (b : Behaviour) (q : Question) (r : Response) → fits q r b
 certainty-few b q r fit = certainty-within (asks_certainty b) r.certainty (and-right (answer_fits q.kind r.answer) (certainty_fits b r.certainty) fit)
 
 -- ---- places
-
-last_or-slice_get : {A : Type 0} (o : Option A) (y : A) (ys : List A) → last_or o (y ∷ ys) ≡ slice_get (y ∷ ys) (length ys)
-last_or-slice_get o y [] = refl
-last_or-slice_get o y (z ∷ zs) = last_or-slice_get (Some y) z zs
-
-pub last_of-slice_get : {A : Type 0} (xs : List A) → last_of xs ≡ slice_get xs (length xs - 1)
-last_of-slice_get [] = refl
-last_of-slice_get (y ∷ ys) = let n : length (y ∷ ys) - 1 ≡ length ys = omega arith in rw n (last_or-slice_get None y ys)
-
-slice_get-push : {A : Type 0} (xs : List A) (x : A) → slice_get (xs ++ x ∷ []) (length xs) ≡ Some x
-slice_get-push [] x = refl
-slice_get-push (y ∷ ys) x = slice_get-push ys x
-
-slice_get-kept : {A : Type 0} (xs : List A) (x : A) (i : ℕ) → i < length xs → slice_get (xs ++ x ∷ []) i ≡ slice_get xs i
-slice_get-kept [] x i lt = absurd (omega arith)
-slice_get-kept (y ∷ ys) x zero lt = refl
-slice_get-kept (y ∷ ys) x (suc i) lt = slice_get-kept ys x i (omega arith)
-
-inside-more : (place : Option ℕ) (s : List Step) (x : Step) → IfSome place (λ i. i < length s) → IfSome place (λ i. i < length (s ++ x ∷ []))
-inside-more None s x inside = tt
-inside-more (Some i) s x inside = omega (arith, length-append s (x ∷ []))
-
--- what stood at a place stays there
-at-more : (place : Option ℕ) (s : List Step) (x : Step) → IfSome place (λ i. i < length s) → response_at (s ++ x ∷ []) place ≡ response_at s place
-at-more None s x inside = refl
-at-more (Some i) s x inside = rw (slice_get-kept s x i inside) refl
 
 abbrev pub not_answered : Step → Bool
 not_answered x = is_none (response_of x)
@@ -89,7 +61,7 @@ answers-other (step.Mark m max) r is = refl
 
 pub place-kept : (place : Option ℕ) (s : List Step) (x : Step) → IsLastPlace place s → (has_finish s || not_answered x) ≡ true → IsLastPlace place (s ++ x ∷ [])
 place-kept place s x known kept = record {
-  at = at-more place s x known.inside ∙ known.at ∙ sym (last-kept s x kept);
+  at = response_at-kept place s x known.inside ∙ known.at ∙ sym (last-kept s x kept);
   inside = inside-more place s x known.inside;
 }
 

@@ -11,10 +11,9 @@ use Rattle.qz_grading.specs.declared.response.Step.{Step}
 use Rattle.qz_grading.specs.declared.response.Step.TheVariants as step
 use Rattle.qz_grading.specs.Steps.{is_finish, has_finish, last, response_of, submitted}
 use Rattle.qz_grading.specs.Behaviours.{Standing, complete_under, handed_in, first_handed_in, ends_incomplete, by_grade, at_finish, immediate, standing, has_ended, outcome}
-use Rattle.qz_grading.proofs.StepLemmas.{has_finish-push, has_finish-finished, last-finished}
+use Rattle.qz_grading.proofs.StepLemmas.{or-true, has_finish-push, has_finish-finished, has_finish-closed, last-finished, last-closed, last-answered, last-passed, handed_in-closed, handed_in-finished, handed_in-passed, handed_in-complete, handed_in-incomplete, ends_in_submit-push}
 use Rattle.qz_behave.specs.Machines.{is_played}
 use Rattle.qz_behave.specs.Following.{is_deferred, grades_first, going_on, ended_with}
-use Rattle.qz_behave.proofs.MoreSteps.{has_finish-closed, last-closed, last-answered, last-passed, handed_in-closed, handed_in-finished, handed_in-passed, handed_in-complete, handed_in-incomplete, ends_in_submit-push}
 
 pub or-left : (a b : Bool) → (a || b) ≡ false → a ≡ false
 or-left false b none = refl
@@ -23,10 +22,6 @@ or-left true b none = absurd cc
 pub or-right : (a b : Bool) → (a || b) ≡ false → b ≡ false
 or-right false b none = none
 or-right true b none = absurd cc
-
-pub or-true : (a : Bool) → (a || true) ≡ true
-or-true false = refl
-or-true true = refl
 
 -- ---- an ended slot stays as it is
 

@@ -8,9 +8,9 @@ use Rattle.qz_grading.specs.declared.outcome.State.{State}
 use Rattle.qz_grading.specs.declared.question.Question.{Question}
 use Rattle.qz_grading.specs.declared.response.Step.{Step}
 use Rattle.qz_grading.specs.Questions.{IsQuestion}
-use Rattle.qz_grading.specs.Steps.{last}
+use Rattle.qz_grading.specs.Steps.{last, response_at, StepFits}
 use Rattle.qz_grading.specs.Behaviours.{Standing, outcome}
-use Rattle.qz_behave.specs.Machines.{Progress, response_at, IsAfter, StepFits}
+use Rattle.qz_behave.specs.Machines.{Progress, IsAfter}
 
 -- ---- outcomes without numbered tries
 

@@ -1,13 +1,11 @@
 -- What a machine knows of the steps that it followed.
-use Rattle.std.specs.Prelude.{◌≡◌, ℕ, ◌<◌, Bool, true, false, List, [], length, Option, IfSome, unwrap_or, option_and_then, slice_get}
+use Rattle.std.specs.Prelude.{◌≡◌, ℕ, ◌<◌, Bool, true, false, List, [], length, Option, IfSome}
 use Rattle.qz_decimal.specs.Numbers.{IsEarnedFraction}
 use Rattle.qz_grading.specs.declared.outcome.Behaviour.{Behaviour}
 use Rattle.qz_grading.specs.declared.outcome.Behaviour.TheVariants as behaviour
 use Rattle.qz_grading.specs.declared.outcome.Outcome.{Outcome}
 use Rattle.qz_grading.specs.declared.question.Question.{Question}
-use Rattle.qz_grading.specs.declared.response.Response.{Response}
 use Rattle.qz_grading.specs.declared.response.Step.{Step}
-use Rattle.qz_grading.specs.declared.response.Step.TheVariants as step
 use Rattle.qz_grading.specs.Grading as grading
 use Rattle.qz_grading.specs.Steps as steps
 use Rattle.qz_grading.specs.Behaviours as behaviours
@@ -29,17 +27,13 @@ is_played behaviour.Manual = true
 is_played behaviour.Information = true
 is_played b = false
 
--- the response at a place, or the blank one where there is none
-abbrev pub response_at : List Step → Option ℕ → Response
-response_at s place = unwrap_or (option_and_then steps.response_of (option_and_then (slice_get s) place)) grading.blank
-
 -- a machine that has followed these steps of this question knows what comes of them. It keeps the place of the last response and
 -- not the response, which has to fit where it can be graded.
 pub record IsAfter (m : Progress) (q : Question) (s : List Step) : Type 0 where
   pub plays : is_played m.behaviour ≡ true
   pub outcome : m.outcome ≡ behaviours.outcome m.behaviour q s
   pub finished : m.finished ≡ steps.has_finish s
-  pub last : response_at s m.last ≡ steps.last s
+  pub last : steps.response_at s m.last ≡ steps.last s
   pub inside : IfSome m.last (λ place. place < length s)
   pub fits : grading.gradable q (steps.last s) ≡ true → grading.fits q (steps.last s) m.behaviour ≡ true
   pub earned : IfSome m.outcome.fraction IsEarnedFraction
@@ -48,11 +42,3 @@ pub record IsAfter (m : Progress) (q : Question) (s : List Step) : Type 0 where
 pub record Starts (m : Progress) (b : Behaviour) : Type 0 where
   pub behaviour : m.behaviour ≡ b
   pub after : (q : Question) → IsAfter m q []
-
--- the response of a step, if it has one, fits the question
-abbrev pub StepFits : Behaviour → Question → Step → Type 0
-StepFits b q x = IfSome (steps.response_of x) (λ r. grading.fits q r b ≡ true)
-
-abbrev pub is_save : Step → Bool
-is_save (step.Save r) = true
-is_save x = false

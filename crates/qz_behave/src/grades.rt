@@ -2,38 +2,20 @@
 
 ghost use Rattle.std.specs.Prelude.{◌≡◌, ◌+◌, ◌≤◌, true, pos, neg_ℤ, ◌*ℤ◌, IfSome};
 ghost use Rattle.qz_decimal.specs.Numbers.{one, IsWithin, IsEarnedFraction};
-ghost use Rattle.qz_grading.specs.Grading.{fits, asks_certainty};
+ghost use Rattle.qz_grading.specs.Grading.{fits};
 ghost use Rattle.qz_grading.specs.Questions.{IsQuestion};
-ghost use Rattle.qz_grading.specs.Behaviours.{complete_under, graded, lost, times, by_certainty, by_grade};
+ghost use Rattle.qz_grading.specs.Behaviours.{complete_under, lost, times, by_certainty, by_grade};
 ghost use Rattle.qz_behave.specs.Following.{going_on, ended_with};
 
 use qz_decimal::{Fraction, Tone, tone_of};
 use qz_grading::{Behaviour, Outcome, Question, Response, State, Steps, complete, grade};
 use std::sync::ledger::Ledger;
 
-/// Whether students say how certain they are.
-fn asks_certainty(behaviour: Behaviour) -> bool
-    ensures { result ≡ asks_certainty behaviour }
-{
-    matches!(behaviour, Behaviour::DeferredCbm | Behaviour::ImmediateCbm)
-}
-
 /// Whether a response is complete. Where certainty is asked for, it has to be given too.
 pub(crate) fn is_complete(behaviour: Behaviour, question: &Question, response: &Response) -> bool
     ensures { result ≡ complete_under behaviour question.now response.now }
 {
-    complete(question, response) && (!asks_certainty(behaviour) || response.certainty > 0)
-}
-
-/// The state of a graded response.
-fn graded(fraction: Fraction) -> State
-    ensures { result ≡ graded fraction }
-{
-    match tone_of(fraction) {
-        Tone::Wrong => State::GradedWrong,
-        Tone::Partial => State::GradedPartial,
-        Tone::Right => State::GradedRight,
-    }
+    complete(question, response) && (!behaviour.asks_certainty() || response.certainty > 0)
 }
 
 /// What a wrong response earns: nothing at certainty 1, -2 at 2, and -6 at 3.
@@ -68,7 +50,7 @@ fn by_certainty(behaviour: Behaviour, certainty: u8, fraction: Fraction) -> Frac
     ensures value { result ≡ by_certainty behaviour certainty fraction }
     ensures earned { IsEarnedFraction result }
 {
-    if !asks_certainty(behaviour) {
+    if !behaviour.asks_certainty() {
         return fraction;
     }
     match tone_of(fraction) {
@@ -92,7 +74,7 @@ pub(crate) fn graded_outcome<L: Ledger>(
 {
     let fraction = grade(question, response, steps);
     ended(
-        graded(fraction),
+        State::graded(fraction),
         Some(by_certainty(behaviour, response.certainty, fraction)),
     )
 }

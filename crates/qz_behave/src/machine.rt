@@ -2,17 +2,17 @@
 
 ghost use Rattle.std.specs.Prelude.{◌≡◌, ◌+◌, ◌-◌, ◌^◌, ◌<◌, ◌≤◌, List, ◌++◌, ◌∷◌, [], length, true, false, None, unwrap_or, option_map, option_copied, if◌then◌else◌, IfSome, IfOk, IfErr, OnErr};
 ghost use Rattle.qz_decimal.specs.Numbers.{IsEarnedFraction};
-ghost use Rattle.qz_grading.specs.Grading.{blank, same};
+ghost use Rattle.qz_grading.specs.Grading.{blank};
 ghost use Rattle.qz_grading.specs.Questions.{IsQuestion};
-ghost use Rattle.qz_grading.specs.Steps.{is_finish, has_finish, last, last_of, response_of, submitted};
+ghost use Rattle.qz_grading.specs.Steps.{has_finish, last, is_save, response_at, StepFits};
 ghost use Rattle.qz_grading.specs.Behaviours.{complete_under, takes, comes_late, barred, barred_showing, moved, at_finish};
-ghost use Rattle.qz_behave.specs.Machines.{is_played, is_save, response_at, IsAfter, Starts, StepFits};
+ghost use Rattle.qz_behave.specs.Machines.{is_played, IsAfter, Starts};
 ghost use Rattle.qz_behave.specs.Following.{is_deferred, grades_first, IsLastPlace, IsNext, IsOutcome, going_on, ended_with};
 
 use crate::grades::{ended, going_on, graded_outcome, is_complete};
 use qz_grading::{
-    Answer, Behaviour, Moved, Outcome, Question, Refusal, Response, State, Step, Steps, gradable,
-    same,
+    Behaviour, Moved, Outcome, Question, Refusal, Response, State, Step, Steps, gradable, moved,
+    response_at,
 };
 use std::marker::Model;
 use std::sync::ledger::Ledger;
@@ -27,7 +27,7 @@ pub struct Machine {
     behaviour: Behaviour,
     outcome: Outcome,
     /// The place of the last response before a Finish, from 0.
-    last: Option<u32>,
+    last: Option<usize>,
     finished: bool,
 }
 
@@ -49,32 +49,6 @@ fn takes(behaviour: Behaviour, step: &Step) -> bool
         Step::Save(_) | Step::Mark { .. } => behaviour != Behaviour::Information,
         Step::Submit(_) => matches!(behaviour, Behaviour::Immediate | Behaviour::ImmediateCbm),
         Step::Again => false,
-    }
-}
-
-fn is_finish(step: &Step) -> bool
-    ensures { result ≡ is_finish step.now }
-{
-    matches!(step, Step::Finish)
-}
-
-/// The response of a Save or a Submit.
-fn response_of(step: &Step) -> Option<&Response>
-    ensures { option_copied result ≡ response_of step.now }
-{
-    match step {
-        Step::Save(response) | Step::Submit(response) => Some(response),
-        Step::Again | Step::Finish | Step::Mark { .. } => None,
-    }
-}
-
-/// The response of the last step, where this is a Submit.
-fn last_submitted(before: &[Step]) -> Option<&Response>
-    ensures { option_copied result ≡ unwrap_or (option_map submitted (last_of before.now)) None }
-{
-    match before.last()? {
-        Step::Submit(response) => Some(response),
-        _ => None,
     }
 }
 
@@ -127,7 +101,7 @@ impl Machine {
         let last = self.last_after(before, step);
         self.outcome = outcome;
         self.last = last;
-        self.finished |= is_finish(step);
+        self.finished |= step.is_finish();
     }
 
     /// Takes one more step, or refuses it for the first cause and stays as it was: the behaviour doesn't take it, or the slot has
@@ -196,36 +170,18 @@ impl Machine {
         requires { response_at before.now self.now.last ≡ last before.now }
         ensures { result ≡ moved before.now step.now }
     {
-        let is_same = match step {
-            Step::Save(response) => self.is_last(before, response),
-            Step::Submit(response) => {
-                last_submitted(before).is_some_and(|last| same(response, last))
-            }
-            Step::Again | Step::Finish | Step::Mark { .. } => false,
-        };
-        if is_same { Moved::Same } else { Moved::Kept }
-    }
-
-    /// Whether the last response is this one.
-    fn is_last(&self, before: &[Step], response: &Response) -> bool
-        requires { response_at before.now self.now.last ≡ last before.now }
-        ensures { result ≡ same response.now (last before.now) }
-    {
-        match self.last(before) {
-            Some(last) => same(response, last),
-            None => response.certainty == 0 && matches!(response.answer, Answer::Blank),
-        }
+        moved(before, self.last, step)
     }
 
     /// The last response before a Finish. None stands for the blank one.
     fn last<'a>(&self, before: &'a [Step]) -> Option<&'a Response>
         ensures { unwrap_or (option_copied result) blank ≡ response_at before.now self.now.last }
     {
-        response_of(before.get(self.last? as usize)?)
+        response_at(before, self.last)
     }
 
     /// The place of the last response once this step stands at the end.
-    fn last_after(&self, before: &[Step], step: &Step) -> Option<u32>
+    fn last_after(&self, before: &[Step], step: &Step) -> Option<usize>
         requires place { IsLastPlace self.now.last before.now }
         requires finished { self.now.finished ≡ has_finish before.now }
         requires few { length before.now < 2 ^ 32 - 1 }
@@ -234,8 +190,8 @@ impl Machine {
         if self.finished {
             return self.last;
         }
-        match response_of(step) {
-            Some(_) => Some(before.len() as u32),
+        match step.response() {
+            Some(_) => Some(before.len()),
             None => self.last,
         }
     }

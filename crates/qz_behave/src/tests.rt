@@ -1,93 +1,26 @@
-ghost use Rattle.std.specs.Prelude.{◌≡◌, ◌<◌, ◌∷◌, [], true, pos, IfOk, codes};
+ghost use Rattle.std.specs.Prelude.{◌≡◌, ◌<◌, true};
 ghost use Rattle.qz_grading.specs.Questions.{IsQuestion};
-ghost use Rattle.qz_behave.specs.Machines.{is_played, StepFits};
+ghost use Rattle.qz_grading.specs.Steps.{StepFits};
+ghost use Rattle.qz_behave.specs.Machines.{is_played};
 
 use super::*;
-use qz_decimal::{Fraction, Mark};
+use qz_decimal::{Fraction, Mark, ONE};
 use qz_grading::{
-    Answer, Behaviour, Choice, Format, Kind, Moved, Outcome, Question, Refusal, Response, Rich,
-    State, Step, Steps, fits,
+    Answer, Behaviour, Moved, Outcome, Question, Refusal, Response, State, Step, Steps, fits,
 };
-use qz_text::{Listed, NoMemory, Text};
+use qz_samples::{three_choices, truth};
+use qz_text::NoMemory;
 use std::alloc::{AllocError, Global};
 use std::marker::Brand;
 use std::process::Abort;
 use std::sync::ledger::{Blank, Ledger};
 use std::test::Fail;
 
-/// The units in 1.
-const ONE: i64 = 10_000_000;
+/// No penalty is taken under these behaviours.
+const FREE: Fraction = Fraction(0);
 
-fn no_text(alloc: Global) -> Rich
-    ensures { result.text ≡ [] }
-{
-    Rich {
-        format: Format::Moodle,
-        text: Text {
-            items: String::new(alloc),
-        },
-    }
-}
-
-fn question(alloc: Global, kind: Kind) -> Question
-    ensures kind { result.kind ≡ kind }
-    ensures name { result.name ≡ [] }
-    ensures text { result.text.text ≡ [] }
-    ensures general { result.general.text ≡ [] }
-    ensures penalty { result.penalty ≡ pos 0 }
-    ensures hints { result.hints ≡ [] }
-{
-    Question {
-        name: Text {
-            items: String::new(alloc),
-        },
-        text: no_text(alloc),
-        general: no_text(alloc),
-        kind,
-        penalty: Fraction(0),
-        hints: Listed::empty(alloc),
-    }
-}
-
-/// True is right.
-fn sky(alloc: Global) -> Question
-    ensures { IsQuestion result }
-{
-    question(
-        alloc,
-        Kind::TrueFalse {
-            right: true,
-            on_wrong: no_text(alloc),
-            on_right: no_text(alloc),
-        },
-    )
-}
-
-fn choice(alloc: Global, weight: Fraction) -> Result<Choice, NoMemory>
-    ensures weight { IfOk result (λ c. c.weight ≡ weight) }
-    ensures text { IfOk result (λ c. c.text.text ≡ codes "a") }
-    ensures feedback { IfOk result (λ c. c.feedback.text ≡ []) }
-{
-    Ok(Choice {
-        weight,
-        text: Rich {
-            format: Format::Moodle,
-            text: Text::of(alloc, "a")?,
-        },
-        feedback: no_text(alloc),
-    })
-}
-
-/// The first choice is right, the second is half of it, and the third costs a quarter.
-fn weighed(alloc: Global) -> Result<Question, NoMemory>
-    ensures { IfOk result IsQuestion }
-{
-    let right = choice(alloc, Fraction(ONE))?;
-    let half = choice(alloc, Fraction(5_000_000))?;
-    let wrong = choice(alloc, Fraction(-2_500_000))?;
-    let items = vec![in alloc; right, half, wrong]?;
-    Ok(question(alloc, Kind::One(Listed { items })))
-}
+/// The third choice costs a quarter.
+const QUARTER_LOST: Fraction = Fraction(-2_500_000);
 
 /// A response of two digits: the certainty, and the place of the choice, or 0 for a blank answer.
 fn response(certainty: u8, place: u8) -> Response {
@@ -250,10 +183,22 @@ fn deferred_feedback(rt: HostRuntime) -> Result<(), Fail> {
         s02 f u01: wrong gradedwrong 0
         s02 f s01: gradedwrong gradedwrong 0
         s02 f f: gradedwrong gradedwrong 0";
-    hold(&rt, alloc, &sky(alloc), Behaviour::Deferred, lines)?;
+    hold(
+        &rt,
+        alloc,
+        &truth(alloc, true, FREE)?,
+        Behaviour::Deferred,
+        lines,
+    )?;
     let weights = "s02 f: kept gradedpartial 5000000
         s03 f: kept gradedwrong -2500000";
-    hold(&rt, alloc, &weighed(alloc)?, Behaviour::Deferred, weights)?;
+    hold(
+        &rt,
+        alloc,
+        &three_choices(alloc, QUARTER_LOST, FREE)?,
+        Behaviour::Deferred,
+        weights,
+    )?;
     Ok(())
 }
 
@@ -271,7 +216,13 @@ fn immediate_feedback(rt: HostRuntime) -> Result<(), Fail> {
         f: kept gaveup -
         u01 s02: gradedright gradedright 10000000
         u02 u01: gradedwrong gradedwrong 0";
-    hold(&rt, alloc, &sky(alloc), Behaviour::Immediate, lines)?;
+    hold(
+        &rt,
+        alloc,
+        &truth(alloc, true, FREE)?,
+        Behaviour::Immediate,
+        lines,
+    )?;
     Ok(())
 }
 
@@ -287,13 +238,19 @@ fn certainty_after_the_finish(rt: HostRuntime) -> Result<(), Fail> {
         s32 f: kept gradedwrong -60000000
         s01: kept todo -
         s01 f: kept gradedright 10000000";
-    hold(&rt, alloc, &sky(alloc), Behaviour::DeferredCbm, lines)?;
+    hold(
+        &rt,
+        alloc,
+        &truth(alloc, true, FREE)?,
+        Behaviour::DeferredCbm,
+        lines,
+    )?;
     let weights = "s32 f: kept gradedpartial 15000000
         s13 f: kept gradedwrong 0";
     hold(
         &rt,
         alloc,
-        &weighed(alloc)?,
+        &three_choices(alloc, QUARTER_LOST, FREE)?,
         Behaviour::DeferredCbm,
         weights,
     )?;
@@ -307,7 +264,13 @@ fn certainty_at_once(rt: HostRuntime) -> Result<(), Fail> {
         u31: kept gradedright 30000000
         u22: kept gradedwrong -20000000
         u01 f: kept gradedright 10000000";
-    hold(&rt, alloc, &sky(alloc), Behaviour::ImmediateCbm, lines)?;
+    hold(
+        &rt,
+        alloc,
+        &truth(alloc, true, FREE)?,
+        Behaviour::ImmediateCbm,
+        lines,
+    )?;
     Ok(())
 }
 
@@ -319,7 +282,13 @@ fn marked_by_a_teacher(rt: HostRuntime) -> Result<(), Fail> {
         s01 f m: kept needsgrading -
         f: kept gaveup -
         u01: wrong todo -";
-    hold(&rt, alloc, &sky(alloc), Behaviour::Manual, lines)?;
+    hold(
+        &rt,
+        alloc,
+        &truth(alloc, true, FREE)?,
+        Behaviour::Manual,
+        lines,
+    )?;
     Ok(())
 }
 
@@ -330,6 +299,12 @@ fn information(rt: HostRuntime) -> Result<(), Fail> {
         s01: wrong todo -
         f m: wrong finished -
         f f: finished finished -";
-    hold(&rt, alloc, &sky(alloc), Behaviour::Information, lines)?;
+    hold(
+        &rt,
+        alloc,
+        &truth(alloc, true, FREE)?,
+        Behaviour::Information,
+        lines,
+    )?;
     Ok(())
 }

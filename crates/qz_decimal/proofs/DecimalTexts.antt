@@ -14,7 +14,7 @@ use Rattle.qz_decimal.specs.declared.decimal.Digits.{Digits}
 use Rattle.qz_decimal.specs.declared.decimal.Tens.{Tens}
 use Rattle.qz_decimal.specs.Numbers.{signed}
 use Rattle.qz_decimal.specs.Reading.{IsDigits, point_text, first_digits, after_digits, has_minus}
-use Rattle.qz_decimal.specs.Decimals.{Sign, bare, plus, minus, Exponent, sign_bytes, is_minus, exponent_text, digits_of, no_tens, signed_tens, tens_of, is_blank, IsDecimal, after_blanks, after_sign, first_decimals, after_decimals, digits_in, tens_in, exponent_in, exact_size, ◌>>=◌, decimal_in}
+use Rattle.qz_decimal.specs.Decimals.{Sign, bare, plus, minus, Exponent, sign_bytes, is_minus, exponent_text, digits_of, no_tens, signed_tens, tens_of, is_space, IsDecimal, after_blanks, after_sign, first_decimals, after_decimals, digits_in, tens_in, exponent_in, exact_size, ◌>>=◌, decimal_in}
 use Rattle.qz_decimal.proofs.Fronts.{front-passes, prefix_len-of, stops-at, first-fails}
 use Rattle.qz_decimal.proofs.DigitRuns.{first_digits-each, first_digits-few, first_digits-append, first_digits-of, after_digits-of, all_ascii_digits-append, all_ascii_digits-parts}
 use Rattle.qz_decimal.proofs.Exact.{none-exactly}
@@ -23,23 +23,23 @@ use Rattle.qz_decimal.proofs.Scales.{exact_size-found, exact_size-of}
 -- ---- blanks
 
 blanks : List ℕ → List ℕ
-blanks text = take (prefix_len is_blank text) text
+blanks text = take (prefix_len is_space text) text
 
-blanks-each : (text : List ℕ) → list_all is_blank (blanks text) ≡ true
+blanks-each : (text : List ℕ) → list_all is_space (blanks text) ≡ true
 unfolding blanks
-blanks-each text = front-passes is_blank (prefix_len is_blank text) text (omega arith)
+blanks-each text = front-passes is_space (prefix_len is_space text) text (omega arith)
 
 blanks-split : (text : List ℕ) → blanks text ++ after_blanks text ≡ text
 unfolding blanks
-blanks-split text = take-append-drop (prefix_len is_blank text) text
+blanks-split text = take-append-drop (prefix_len is_space text) text
 
-after_blanks-of : (before rest : List ℕ) → list_all is_blank before ≡ true → prefix_len is_blank rest ≡ 0 → after_blanks (before ++ rest) ≡ rest
-after_blanks-of before rest each stops = drop_at before rest (prefix_len is_blank (before ++ rest)) (sym (prefix_len-of is_blank before rest each stops))
+after_blanks-of : (before rest : List ℕ) → list_all is_space before ≡ true → prefix_len is_space rest ≡ 0 → after_blanks (before ++ rest) ≡ rest
+after_blanks-of before rest each stops = drop_at before rest (prefix_len is_space (before ++ rest)) (sym (prefix_len-of is_space before rest each stops))
 
-after_blanks-all : (after : List ℕ) → list_all is_blank after ≡ true → after_blanks after ≡ []
+after_blanks-all : (after : List ℕ) → list_all is_space after ≡ true → after_blanks after ≡ []
 after_blanks-all after each = ap after_blanks (sym (append-nil after)) ∙ after_blanks-of after [] each refl
 
-all-blank : (text : List ℕ) → length (after_blanks text) ≡ 0 → list_all is_blank text ≡ true
+all-blank : (text : List ℕ) → length (after_blanks text) ≡ 0 → list_all is_space text ≡ true
 all-blank text none =
     let whole : blanks text ≡ text = sym (append-nil (blanks text)) ∙ ap (λ (t : List ℕ). blanks text ++ t) (sym (nil_from_length (after_blanks text) none)) ∙ blanks-split text in
     rw whole at (blanks-each text)
@@ -217,31 +217,31 @@ exponent-found (b ∷ text) found rest e = go (b == byte.lower_e) refl (b == byt
     go false other false another e = no_exponent (b ∷ text) found rest e
 
 -- what a blank isn't
-blank_no_digit : (b : ℕ) → is_blank b ≡ true → is_ascii_digit b ≡ false
+blank_no_digit : (b : ℕ) → is_space b ≡ true → is_ascii_digit b ≡ false
 blank_no_digit b blank = grind (arith, nat_tests)
 
-blank_no_dot : (b : ℕ) → is_blank b ≡ true → (b == byte.dot) ≡ false
+blank_no_dot : (b : ℕ) → is_space b ≡ true → (b == byte.dot) ≡ false
 blank_no_dot b blank = grind (arith, nat_tests)
 
-blank_no_letter : (b : ℕ) → is_blank b ≡ true → (b == byte.lower_e || b == byte.upper_e) ≡ false
+blank_no_letter : (b : ℕ) → is_space b ≡ true → (b == byte.lower_e || b == byte.upper_e) ≡ false
 blank_no_letter b blank = grind (arith, nat_tests)
 
 digit_no_sign : (b : ℕ) → is_ascii_digit b ≡ true → is_sign b ≡ false
 digit_no_sign b digit = grind (arith, nat_tests)
 
-digit_no_blank : (b : ℕ) → is_ascii_digit b ≡ true → is_blank b ≡ false
+digit_no_blank : (b : ℕ) → is_ascii_digit b ≡ true → is_space b ≡ false
 digit_no_blank b digit = grind (arith, nat_tests)
 
-stops-blanks : (p : ℕ → Bool) → ((b : ℕ) → is_blank b ≡ true → p b ≡ false) → (after : List ℕ) → list_all is_blank after ≡ true → prefix_len p after ≡ 0
+stops-blanks : (p : ℕ → Bool) → ((b : ℕ) → is_space b ≡ true → p b ≡ false) → (after : List ℕ) → list_all is_space after ≡ true → prefix_len p after ≡ 0
 stops-blanks p fails [] each = refl
-stops-blanks p fails (b ∷ after) each = stops-at p b after (fails b (and_parts (is_blank b) (list_all is_blank after) each).0)
+stops-blanks p fails (b ∷ after) each = stops-at p b after (fails b (and_parts (is_space b) (list_all is_space after) each).0)
 
 stops-digits : (p : ℕ → Bool) → ((b : ℕ) → is_ascii_digit b ≡ true → p b ≡ false) → (digits rest : List ℕ) → all_ascii_digits digits ≡ true → 0 < length digits → prefix_len p (digits ++ rest) ≡ 0
 stops-digits p fails [] rest each some = absurd (omega arith)
 stops-digits p fails (d ∷ ds) rest each some = stops-at p d (ds ++ rest) (fails d (and_parts (is_ascii_digit d) (all_ascii_digits ds) each).0)
 
 -- the same exponent is found again, where blanks follow
-tens-of : (sign : Sign) (digits after : List ℕ) → IsDigits 3 digits → 0 < length digits → list_all is_blank after ≡ true → tens_in (sign_bytes sign ++ (digits ++ after)) ≡ Some (signed_tens (is_minus sign) (digits_value 10 digits), after)
+tens-of : (sign : Sign) (digits after : List ℕ) → IsDigits 3 digits → 0 < length digits → list_all is_space after ≡ true → tens_in (sign_bytes sign ++ (digits ++ after)) ≡ Some (signed_tens (is_minus sign) (digits_value 10 digits), after)
 unfolding tens_in
 tens-of sign digits after h some blank =
     let no_sign = stops-digits is_sign digit_no_sign digits after h.each some in
@@ -249,9 +249,9 @@ tens-of sign digits after h some blank =
     let count : (length digits == 0) ≡ false = ne_eqb _ 0 (λ e. omega arith) in
     rw (after_sign-of sign (digits ++ after) no_sign, has_minus-of sign (digits ++ after) no_sign, first_digits-of 3 digits after h.each h.few stops, after_digits-of 3 digits after h.each h.few stops, count) refl
 
-exponent-of : (exponent : Option Exponent) (after : List ℕ) → IfSome exponent (λ e. IsDigits 3 e.digits) → IfSome exponent (λ e. 0 < length e.digits) → list_all is_blank after ≡ true → exponent_in (exponent_text exponent ++ after) ≡ Some (tens_of exponent, after)
+exponent-of : (exponent : Option Exponent) (after : List ℕ) → IfSome exponent (λ e. IsDigits 3 e.digits) → IfSome exponent (λ e. 0 < length e.digits) → list_all is_space after ≡ true → exponent_in (exponent_text exponent ++ after) ≡ Some (tens_of exponent, after)
 exponent-of None [] formed some blank = refl
-exponent-of None (b ∷ after) formed some blank = rw (blank_no_letter b (and_parts (is_blank b) (list_all is_blank after) blank).0) refl
+exponent-of None (b ∷ after) formed some blank = rw (blank_no_letter b (and_parts (is_space b) (list_all is_space after) blank).0) refl
 exponent-of (Some e) after formed some blank =
     let inner : tens_in ((sign_bytes e.sign ++ e.digits) ++ after) ≡ Some (signed_tens (is_minus e.sign) (digits_value 10 e.digits), after) = rw append_assoc (tens-of e.sign e.digits after formed some blank) in
     go e.capital ∙ inner
@@ -267,10 +267,10 @@ bind_some None f y e = absurd cc
 bind_some (Some x) f y e = (x, refl, e)
 
 -- nothing but blanks is left, and the size is found
-ended : (after : List ℕ) (o : Option ℕ) (size : ℕ) → cond (nat_lt 0 (length (after_blanks after))) None o ≡ Some size → (list_all is_blank after ≡ true) × (o ≡ Some size)
+ended : (after : List ℕ) (o : Option ℕ) (size : ℕ) → cond (nat_lt 0 (length (after_blanks after))) None o ≡ Some size → (list_all is_space after ≡ true) × (o ≡ Some size)
 ended after o size e = go (nat_lt 0 (length (after_blanks after))) refl e
   where
-    go : (more : Bool) → nat_lt 0 (length (after_blanks after)) ≡ more → cond more None o ≡ Some size → (list_all is_blank after ≡ true) × (o ≡ Some size)
+    go : (more : Bool) → nat_lt 0 (length (after_blanks after)) ≡ more → cond more None o ≡ Some size → (list_all is_space after ≡ true) × (o ≡ Some size)
     go true m e = absurd cc
     go false m e = (all-blank after (omega (arith, ltb-false 0 (length (after_blanks after)) m)), e)
 
@@ -320,12 +320,12 @@ number-starts p digit dot [] None rest each some = absurd (omega arith)
 number-starts p digit dot [] (Some ds) rest each some = stops-at p byte.dot (ds ++ rest) dot
 number-starts p digit dot (d ∷ ds) decimals rest each some = stops-at p d (ds ++ (point_text decimals ++ rest)) (digit d (and_parts (is_ascii_digit d) (all_ascii_digits ds) each).0)
 
-sign-starts : (sign : Sign) (text : List ℕ) → prefix_len is_blank text ≡ 0 → prefix_len is_blank (sign_bytes sign ++ text) ≡ 0
+sign-starts : (sign : Sign) (text : List ℕ) → prefix_len is_space text ≡ 0 → prefix_len is_space (sign_bytes sign ++ text) ≡ 0
 sign-starts bare text none = none
 sign-starts plus text none = refl
 sign-starts minus text none = refl
 
-exponent-starts : (p : ℕ → Bool) → ((b : ℕ) → is_blank b ≡ true → p b ≡ false) → p byte.lower_e ≡ false → p byte.upper_e ≡ false → (exponent : Option Exponent) (after : List ℕ) → list_all is_blank after ≡ true → prefix_len p (exponent_text exponent ++ after) ≡ 0
+exponent-starts : (p : ℕ → Bool) → ((b : ℕ) → is_space b ≡ true → p b ≡ false) → p byte.lower_e ≡ false → p byte.upper_e ≡ false → (exponent : Option Exponent) (after : List ℕ) → list_all is_space after ≡ true → prefix_len p (exponent_text exponent ++ after) ≡ 0
 exponent-starts p blank lower upper None after each = stops-blanks p blank after each
 exponent-starts p blank lower upper (Some e) after each = go e.capital
   where
@@ -344,7 +344,7 @@ decimal-read text units h =
     let number = whole ++ (point_text decimals ++ tail) in
     let each = (all_ascii_digits-parts whole (unwrap_or decimals []) h.formed.digits.each).0 in
     let text_is : text ≡ h.before ++ (sign_bytes sign ++ number) = h.text_is ∙ ap (λ (x : List ℕ). h.before ++ x) (regroup (sign_bytes sign) whole (point_text decimals) (exponent_text exponent) h.after) in
-    let no_blank = sign-starts sign number (number-starts is_blank digit_no_blank refl whole decimals tail each h.formed.some_digits) in
+    let no_blank = sign-starts sign number (number-starts is_space digit_no_blank refl whole decimals tail each h.formed.some_digits) in
     let no_sign = number-starts is_sign digit_no_sign refl whole decimals tail each h.formed.some_digits in
     let no_digit = exponent-starts is_ascii_digit blank_no_digit refl refl exponent h.after h.blank_after in
     let no_dot = exponent-starts (λ b. b == byte.dot) blank_no_dot refl refl exponent h.after h.blank_after in

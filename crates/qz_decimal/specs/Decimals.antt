@@ -68,9 +68,9 @@ pub record IsDecimalFormed (parts : DecimalParts) : Type 0 where
   pub exponent : IfSome parts.exponent (λ e. IsDigits 3 e.digits)
   pub some_exponent : IfSome parts.exponent (λ e. 0 < length e.digits)
 
--- Space, tab and line feed are blank.
-abbrev pub is_blank : ℕ → Bool
-is_blank b = b == 32 || b == 9 || b == 10
+-- white space of a text: space, tab and line feed
+abbrev pub is_space : ℕ → Bool
+is_space b = b == 32 || b == 9 || b == 10
 
 -- Between blanks the text spells this number of units. Its size is exactly what the digits, the
 -- point and the exponent tell, and has at most 15 whole digits.
@@ -79,8 +79,8 @@ pub record IsDecimal (text : List ℕ) (units : ℤ) : Type 0 where
   pub parts : DecimalParts
   pub after : List ℕ
   pub text_is : text ≡ before ++ (decimal_text parts ++ after)
-  pub blank_before : IsTrue (list_all is_blank before)
-  pub blank_after : IsTrue (list_all is_blank after)
+  pub blank_before : IsTrue (list_all is_space before)
+  pub blank_after : IsTrue (list_all is_space after)
   pub formed : IsDecimalFormed parts
   pub size : ℕ
   pub exact :
@@ -93,7 +93,7 @@ pub record IsDecimal (text : List ℕ) (units : ℤ) : Type 0 where
 
 -- what follows blanks
 abbrev pub after_blanks : List ℕ → List ℕ
-after_blanks text = drop (prefix_len is_blank text) text
+after_blanks text = drop (prefix_len is_space text) text
 
 -- what follows a sign
 abbrev pub after_sign : List ℕ → List ℕ

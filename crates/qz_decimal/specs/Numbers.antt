@@ -87,6 +87,11 @@ grade_of total count grade sum =
     if int_eq sum (pos 0) then pos 0 else nearest (total *ℤ grade) (count * unsigned_abs sum)
 
 -- a fraction below 0.000001 is wrong, one above 0.999999 is right, and one between is partial
+abbrev pub is_wrong : ℤ → Bool
+is_wrong fraction = int_lt fraction (pos 10)
+
+abbrev pub is_right : ℤ → Bool
+is_right fraction = int_lt (pos 9999990) fraction
+
 abbrev pub tone_of : ℤ → Tone
-tone_of fraction =
-    if int_lt fraction (pos 10) then Wrong else (if int_lt (pos 9999990) fraction then Right else Partial)
+tone_of fraction = if is_wrong fraction then Wrong else (if is_right fraction then Right else Partial)

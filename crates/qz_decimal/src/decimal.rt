@@ -4,7 +4,7 @@ ghost use Rattle.std.specs.Option.{option_map};
 ghost use Rattle.std.specs.Str.{all_ascii_digits};
 ghost use Rattle.std.specs.Str.Parse.{digits_value};
 ghost use Rattle.qz_decimal.specs.Reading.{has_minus};
-ghost use Rattle.qz_decimal.specs.Decimals.{is_blank, after_blanks, after_sign, first_decimals, after_decimals, digits_in, exponent_in, tens_in, signed_tens, short_size, short_quotient, exact_size, decimal_in, IsDecimal};
+ghost use Rattle.qz_decimal.specs.Decimals.{is_space, after_blanks, after_sign, first_decimals, after_decimals, digits_in, exponent_in, tens_in, signed_tens, short_size, short_quotient, exact_size, decimal_in, IsDecimal};
 
 use crate::digits::{number_of, split_digits, with_zeros};
 use crate::quotient::with_sign;
@@ -64,8 +64,9 @@ fn read_decimal(text: &[u8]) -> Option<Decimal>
     Some(Decimal(with_sign(negative, size)))
 }
 
-fn is_blank(byte: u8) -> bool
-    ensures { result ≡ is_blank byte }
+/// Whether a byte is white space of a text: a space, a tab or a line feed.
+pub fn is_space(byte: u8) -> bool
+    ensures { result ≡ is_space byte }
 {
     matches!(byte, b' ' | b'\t' | b'\n')
 }
@@ -74,7 +75,7 @@ fn is_blank(byte: u8) -> bool
 fn skip_blanks(text: &[u8]) -> &[u8]
     ensures { result.now ≡ after_blanks text.now }
 {
-    let count = text.iter().take_while(|byte| is_blank(**byte)).count();
+    let count = text.iter().take_while(|byte| is_space(**byte)).count();
     text.split_at(count).1
 }
 

@@ -10,10 +10,11 @@ mod reading;
 mod tone;
 mod units;
 
+pub use decimal::is_space;
 pub use marks::{fraction_of, grade_of, mark_of, rescale, share};
 pub use reading::BadNumber;
 pub use tone::{Tone, tone_of};
-pub use units::{Decimal, Fraction, Grade, Mark};
+pub use units::{Decimal, Fraction, Grade, Mark, ONE};
 
 #[cfg(test)]
 mod tests;

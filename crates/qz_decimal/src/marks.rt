@@ -3,10 +3,7 @@ ghost use Rattle.std.specs.Prelude.{◌≡◌, ◌≢◌, ◌*◌, ◌<◌, ◌�
 ghost use Rattle.qz_decimal.specs.Numbers.{one, mark_of, share, fraction_of, rescale, grade_of, IsNearest, IsWithin, IsEarnedFraction, IsMaxMark, IsSlotMark, IsMaxSum, IsQuizGrade};
 
 use crate::quotient::{nearest_product, nearest_quotient};
-use crate::units::{Fraction, Grade, Mark};
-
-/// The units in 1.
-const ONE: i64 = 10_000_000;
+use crate::units::{Fraction, Grade, Mark, ONE};
 
 /// The mark that a fraction earns of a max mark, to a unit of 10^-7.
 ///

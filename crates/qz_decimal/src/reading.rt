@@ -5,7 +5,7 @@ ghost use Rattle.qz_decimal.specs.Reading.{mark_form, grade_form, mark_in, fract
 
 use crate::digits::{split_digits, with_zeros};
 use crate::quotient::with_sign;
-use crate::units::{Fraction, Grade, Mark};
+use crate::units::{Fraction, Grade, Mark, ONE};
 
 /// Why a text is no number.
 #[derive(Clone, Copy, PartialEq, Eq, Debug)]
@@ -66,7 +66,7 @@ impl Grade {
 const GREATEST_MARK: i128 = 1_000_000_000_000;
 
 /// The units in a fraction of 1.
-pub(crate) const WHOLE_FRACTION: i128 = 10_000_000;
+pub(crate) const WHOLE_FRACTION: i128 = ONE as i128;
 
 /// The units in a grade of 10,000.
 const GREATEST_GRADE: i128 = 1_000_000_000;

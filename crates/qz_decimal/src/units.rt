@@ -3,6 +3,9 @@ ghost use Rattle.std.specs.Prelude.{ℤ};
 
 use std::marker::Model;
 
+/// The units in a mark or a fraction of 1.
+pub const ONE: i64 = 10_000_000;
+
 /// A mark or a max mark, in units of 10^-7.
 #[derive(Clone, Copy, PartialEq, Eq, PartialOrd, Ord)]
 pub struct Mark(pub i64);

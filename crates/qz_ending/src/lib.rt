@@ -5,3 +5,6 @@
 mod stop;
 
 pub use stop::Stop;
+
+#[cfg(test)]
+mod tests;

@@ -2,3 +2,4 @@ pub mod AnswersLemmas
 pub mod DigitLemmas
 pub mod StepLemmas
 pub mod WeightLemmas
+pub mod WrittenNumbers

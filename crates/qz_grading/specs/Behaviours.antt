@@ -1,7 +1,8 @@
 -- What comes of a list of steps under each behaviour, as closed forms over the list.
-use Rattle.std.specs.Prelude.{ℕ, ◌+◌, ◌-◌, Bool, true, false, not, ◌&&◌, ◌||◌, ◌==◌, nat_lt, if◌then◌else◌, List, [], ◌∷◌, ◌++◌, length, map, filter, fold, find, filter_map, Option, Some, None, is_some, unwrap_or, option_map, ℤ, pos, neg_ℤ, ◌-ℤ◌, ◌*ℤ◌, int_lt}
+use Rattle.std.specs.Prelude.{ℕ, ◌+◌, ◌-◌, Bool, true, false, not, ◌&&◌, ◌||◌, ◌==◌, nat_lt, if◌then◌else◌, List, [], ◌∷◌, ◌++◌, length, map, filter, fold, find, filter_map, Option, Some, None, is_some, unwrap_or, option_map, ℤ, pos, neg_ℤ, ◌-ℤ◌, ◌*ℤ◌}
 use Rattle.std.specs.List.{enumerate_from}
 use Rattle.std.specs.Int.{int_max}
+pub use Rattle.qz_decimal.specs.Numbers.{is_wrong, is_right}
 use Rattle.qz_grading.specs.declared.outcome.Behaviour.{Behaviour}
 use Rattle.qz_grading.specs.declared.outcome.Behaviour.TheVariants as behaviour
 use Rattle.qz_grading.specs.declared.outcome.Moved.{Moved}
@@ -27,13 +28,6 @@ behaviour_for kind.Essay b = behaviour.Manual
 behaviour_for k b = b
 
 -- ---- fractions and their states
-
--- below 0.000001 is wrong, above 0.999999 is right, and between is partial
-abbrev pub is_wrong : ℤ → Bool
-is_wrong f = int_lt f (pos 10)
-
-abbrev pub is_right : ℤ → Bool
-is_right f = int_lt (pos 9999990) f
 
 abbrev pub graded : ℤ → State
 graded f = if is_wrong f then state.GradedWrong else (if is_right f then state.GradedRight else state.GradedPartial)

@@ -1,7 +1,7 @@
 -- The canonical text of questions in GIFT, in bytes.
 use Rattle.std.specs.List.{list_all}
 use Rattle.std.specs.Ordering.{int_eq}
-use Rattle.std.specs.Prelude.{ℕ, suc, ◌+◌, ◌/◌, ◌%◌, ◌^◌, Bool, false, not, ◌&&◌, ◌||◌, List, [], ◌∷◌, ◌++◌, length, ℤ, pos, negsuc, if◌then◌else◌, ◌==◌, codes, bytes_eq, decimal, fold, zip, flat_map}
+use Rattle.std.specs.Prelude.{ℕ, ◌+◌, Bool, false, not, ◌&&◌, ◌||◌, List, [], ◌∷◌, ◌++◌, length, ℤ, pos, if◌then◌else◌, ◌==◌, codes, bytes_eq, fold, zip, flat_map}
 use Rattle.qz_decimal.specs.Numbers.{one}
 use Rattle.qz_grading.specs.declared.question.Bank.{Bank}
 use Rattle.qz_grading.specs.declared.question.Choice.{Choice}
@@ -17,7 +17,7 @@ use Rattle.qz_grading.specs.declared.question.Pair.{Pair}
 use Rattle.qz_grading.specs.declared.question.Question.{Question}
 use Rattle.qz_grading.specs.declared.question.Rich.{Rich}
 use Rattle.qz_grading.specs.declared.question.Short.{Short}
-use Rattle.qz_grading.specs.Words.{in_digits}
+pub use Rattle.qz_grading.specs.Words.{is_nothing, without_zeros, behind_point, short_natural, short_number, decimal_text}
 
 -- ---- texts
 
@@ -35,9 +35,6 @@ escaped text = flat_map escaped_byte text
 abbrev pub begins_with : ℕ → List ℕ → Bool
 begins_with c [] = false
 begins_with c (d ∷ ds) = d == c
-
-abbrev pub is_nothing : List ℕ → Bool
-is_nothing text = length text == 0
 
 abbrev pub format_mark : Format → List ℕ
 format_mark format.Moodle = codes "[moodle]"
@@ -58,29 +55,9 @@ rich_behind sign default r = if is_nothing r.text then [] else sign ++ rich_text
 
 -- ---- numbers
 
--- digits without zeros at their end
-abbrev pub without_zeros : List ℕ → List ℕ
-without_zeros [] = []
-without_zeros (d ∷ ds) = if (d == 48) && is_nothing (without_zeros ds) then [] else d ∷ without_zeros ds
-
-abbrev pub behind_point : List ℕ → List ℕ
-behind_point [] = []
-behind_point (d ∷ ds) = codes "." ++ (d ∷ ds)
-
--- so many units of 10^-places: the whole part, and a point and the decimals where there are any but zeros
-abbrev pub short_natural : ℕ → ℕ → List ℕ
-short_natural places units = decimal (units / 10 ^ places) ++ behind_point (without_zeros (in_digits places (units % 10 ^ places)))
-
-abbrev pub short_number : ℕ → ℤ → List ℕ
-short_number places (pos n) = short_natural places n
-short_number places (negsuc n) = codes "-" ++ short_natural places (suc n)
-
 -- a weight of 1 is 100 percent
 abbrev pub weight_text : ℤ → List ℕ
 weight_text weight = codes "%" ++ short_number 5 weight ++ codes "%"
-
-abbrev pub decimal_text : ℤ → List ℕ
-decimal_text value = short_number 10 value
 
 -- every number, a number, a number with a tolerance, or two numbers
 abbrev pub extent_text : Extent → List ℕ
@@ -169,12 +146,12 @@ category_path [] = []
 category_path (name ∷ []) = category_name name
 category_path (name ∷ next ∷ names) = category_name name ++ (47 ∷ category_path (next ∷ names))
 
-abbrev pub same_path : List (List ℕ) → List (List ℕ) → Bool
-same_path one other = (length one == length other) && list_all (λ (p : List ℕ × List ℕ). bytes_eq p.0 p.1) (zip one other)
+abbrev pub same_texts : List (List ℕ) → List (List ℕ) → Bool
+same_texts one other = (length one == length other) && list_all (λ (p : List ℕ × List ℕ). bytes_eq p.0 p.1) (zip one other)
 
 -- written before a question whose category isn't that of the question before
 abbrev pub category_line : List (List ℕ) → List (List ℕ) → List ℕ
-category_line before path = if same_path before path then [] else codes "$CATEGORY: " ++ category_path path ++ (10 ∷ 10 ∷ [])
+category_line before path = if same_texts before path then [] else codes "$CATEGORY: " ++ category_path path ++ (10 ∷ 10 ∷ [])
 
 abbrev pub canonical_items : List (List ℕ) → List Item → List ℕ
 canonical_items before [] = []

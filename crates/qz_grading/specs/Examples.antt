@@ -18,7 +18,7 @@ use Rattle.qz_grading.specs.declared.question.Short.{Short}
 use Rattle.qz_grading.specs.declared.response.Answer.TheVariants as answer
 use Rattle.qz_grading.specs.Grading.{answer_fits, certainty_fits, complete_answer, gradable_answer, grade_answer, shape}
 use Rattle.qz_grading.specs.Shapes.{same_shape}
-use Rattle.qz_grading.specs.Words.{mark_text, grade_text, number_text}
+use Rattle.qz_grading.specs.Words.{mark_text, grade_text, decimal_text}
 
 abbrev no_text : Rich
 no_text = record { format = Moodle; text = [] }
@@ -84,6 +84,12 @@ two_matched = refl
 
 pub one_matched : grade_answer things (answer.Match (0 ∷ 0 ∷ 3 ∷ [])) ≡ pos 3333333
 one_matched = refl
+
+pub a_stem_left_out : complete_answer things (answer.Match (1 ∷ 1 ∷ [])) ≡ false
+a_stem_left_out = refl
+
+pub an_answer_too_many : complete_answer things (answer.Match (1 ∷ 1 ∷ 3 ∷ 2 ∷ [])) ≡ false
+an_answer_too_many = refl
 
 pub partly_answered : complete_answer things (answer.Match (0 ∷ 0 ∷ 3 ∷ [])) ≡ false
 partly_answered = refl
@@ -206,14 +212,14 @@ pub quarter_grade : grade_text (pos 725000) ≡ codes "7.25000"
 unfolding digits
 quarter_grade = refl
 
-pub whole_number : number_text (pos 18220000000000) ≡ codes "1822"
+pub whole_number : decimal_text (pos 18220000000000) ≡ codes "1822"
 unfolding digits
 whole_number = refl
 
-pub number_below_0 : number_text (negsuc 499999999) ≡ codes "-0.05"
+pub number_below_0 : decimal_text (negsuc 499999999) ≡ codes "-0.05"
 unfolding digits
 number_below_0 = refl
 
-pub least_number : number_text (pos 1) ≡ codes "0.0000000001"
+pub least_number : decimal_text (pos 1) ≡ codes "0.0000000001"
 unfolding digits
 least_number = refl

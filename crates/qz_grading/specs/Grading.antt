@@ -1,6 +1,7 @@
 -- Which answers fit a question, which are complete, and what each is worth, by cases on the kind.
-use Rattle.std.specs.Prelude.{ℕ, ◌-◌, Bool, true, false, not, ◌&&◌, ◌||◌, ◌==◌, nat_lt, nat_le, if◌then◌else◌, List, [], ◌∷◌, length, map, filter, find, zip, fold, count_by, Option, None, is_some, unwrap_or, option_map, slice_get, ℤ, pos, ◌+ℤ◌, ◌-ℤ◌, int_lt, int_le, bytes_eq}
+use Rattle.std.specs.Prelude.{ℕ, ◌-◌, Bool, true, false, not, ◌&&◌, ◌==◌, nat_lt, nat_le, if◌then◌else◌, List, [], ◌∷◌, length, map, filter, find, zip, fold, count_by, Option, None, is_some, unwrap_or, option_map, slice_get, ℤ, pos, ◌+ℤ◌, ◌-ℤ◌, int_lt, int_le, bytes_eq}
 use Rattle.std.specs.List.{list_any, list_all}
+pub use Rattle.qz_decimal.specs.Decimals.{is_space}
 use Rattle.qz_decimal.specs.Decimals.{decimal_in}
 use Rattle.qz_decimal.specs.Numbers.{one, share}
 use Rattle.qz_text.specs.Patterns as patterns
@@ -40,10 +41,7 @@ blank = record { answer = answer.Blank; certainty = 0 }
 
 -- ---- matching
 
--- white space around a text of a question: space, tab and line feed
-abbrev pub is_space : ℕ → Bool
-is_space c = (c == 32) || (c == 9) || (c == 10)
-
+-- nothing beside white space
 abbrev pub is_blank : List ℕ → Bool
 is_blank text = list_all is_space text
 
@@ -117,12 +115,13 @@ is_typed t = not (patterns.is_blank t)
 abbrev pub is_number : List ℕ → Bool
 is_number t = is_some (decimal_in t)
 
+-- a matching question has one number for each stem, and each is that of an answer
 abbrev pub complete_answer : Kind → Answer → Bool
 complete_answer kind.Essay (answer.Words t) = is_typed t
 complete_answer (kind.TrueFalse right on_wrong on_right) (answer.Pick n) = true
 complete_answer (kind.One choices) (answer.Pick n) = true
 complete_answer (kind.Several choices) (answer.Picks ns) = true
-complete_answer (kind.Matching pairs) (answer.Match ns) = list_all is_chosen ns
+complete_answer (kind.Matching pairs) (answer.Match ns) = (length ns == length (stems pairs)) && list_all is_chosen ns
 complete_answer (kind.ShortAnswer answers) (answer.Words t) = is_typed t
 complete_answer (kind.Numerical answers) (answer.Words t) = is_number t
 complete_answer k a = false

@@ -10,3 +10,5 @@ pub mod ExamplesQuestions
 pub mod Shapes
 pub mod Canonical
 pub mod ExamplesCanonical
+pub mod Room
+pub mod Sameness

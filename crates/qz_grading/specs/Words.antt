@@ -1,6 +1,5 @@
 -- How marks, grades and numbers are spelled, and the words of states, behaviours and kinds.
-use Rattle.std.specs.Prelude.{ℕ, suc, ◌-◌, ◌/◌, ◌%◌, ◌^◌, Bool, ◌==◌, if◌then◌else◌, List, [], ◌++◌, length, take, replicate, Option, Some, None, ℤ, pos, negsuc, decimal, codes}
-use Rattle.std.specs.List.{suffix_len}
+use Rattle.std.specs.Prelude.{ℕ, suc, ◌-◌, ◌/◌, ◌%◌, ◌^◌, Bool, ◌&&◌, ◌==◌, if◌then◌else◌, List, [], ◌∷◌, ◌++◌, length, replicate, Option, Some, None, ℤ, pos, negsuc, decimal, codes}
 use Rattle.qz_decimal.specs.Numbers.{one, grade_one}
 use Rattle.qz_grading.specs.declared.outcome.Behaviour.{Behaviour}
 use Rattle.qz_grading.specs.declared.outcome.Behaviour.TheVariants as behaviour
@@ -27,28 +26,30 @@ abbrev pub grade_text : ℤ → List ℕ
 grade_text (pos n) = grade_units_text n
 grade_text (negsuc n) = codes "-" ++ grade_units_text (suc n)
 
+abbrev pub is_nothing : List ℕ → Bool
+is_nothing text = length text == 0
+
 -- digits without the zeros at their end
-abbrev pub is_zero : ℕ → Bool
-is_zero digit = digit == 48
-
 abbrev pub without_zeros : List ℕ → List ℕ
-without_zeros digits = take (length digits - suffix_len is_zero digits) digits
+without_zeros [] = []
+without_zeros (d ∷ ds) = if (d == 48) && is_nothing (without_zeros ds) then [] else d ∷ without_zeros ds
 
--- the units in a number of 1
-abbrev pub number_one : ℕ
-number_one = 10 ^ 10
+-- a point and decimals, or nothing where there are none
+abbrev pub behind_point : List ℕ → List ℕ
+behind_point [] = []
+behind_point (d ∷ ds) = codes "." ++ (d ∷ ds)
 
--- a point and ten decimals without the zeros at their end, or nothing
-abbrev pub decimals_text : ℕ → List ℕ
-decimals_text part = if part == 0 then [] else codes "." ++ without_zeros (in_digits 10 part)
+-- so many units of 10^-places: the whole part, and a point and the decimals where there are any but zeros
+abbrev pub short_natural : ℕ → ℕ → List ℕ
+short_natural places units = decimal (units / 10 ^ places) ++ behind_point (without_zeros (in_digits places (units % 10 ^ places)))
 
-abbrev pub size_text : ℕ → List ℕ
-size_text n = decimal (n / number_one) ++ decimals_text (n % number_one)
+abbrev pub short_number : ℕ → ℤ → List ℕ
+short_number places (pos n) = short_natural places n
+short_number places (negsuc n) = codes "-" ++ short_natural places (suc n)
 
--- a number of a numerical question
-abbrev pub number_text : ℤ → List ℕ
-number_text (pos n) = size_text n
-number_text (negsuc n) = codes "-" ++ size_text (suc n)
+-- a number of a numerical question, whose unit is 10^-10
+abbrev pub decimal_text : ℤ → List ℕ
+decimal_text value = short_number 10 value
 
 -- a dash where there is no mark
 abbrev pub mark_or_dash : Option ℤ → List ℕ

@@ -4,7 +4,7 @@ ghost use Rattle.std.specs.Prelude.{◌≡◌, nat_le};
 ghost use Rattle.std.specs.List.{list_all, list_any};
 ghost use Rattle.qz_grading.specs.declared.question.Kind.TheVariants as kind;
 ghost use Rattle.qz_grading.specs.declared.response.Answer.TheVariants as answer;
-ghost use Rattle.qz_grading.specs.Grading.{fits, answer_fits, certainty_fits, asks_certainty, is_place, ascend_from, are_places, is_chosen, complete, gradable, is_number};
+ghost use Rattle.qz_grading.specs.Grading.{fits, answer_fits, certainty_fits, is_place, ascend_from, are_places, is_chosen, complete_answer, complete, gradable, is_number};
 
 use crate::matching::{answer_count, stem_count};
 use crate::{Answer, Behaviour, Kind, Pair, Question, Response};
@@ -90,29 +90,24 @@ fn are_at_most(count: usize, chosen: &[u8]) -> bool
 fn certainty_fits(behaviour: Behaviour, certainty: u8) -> bool
     ensures { result ≡ certainty_fits behaviour certainty }
 {
-    if asks_certainty(behaviour) {
+    if behaviour.asks_certainty() {
         certainty <= 3
     } else {
         certainty == 0
     }
 }
 
-/// Whether a student says how certain an answer is.
-fn asks_certainty(behaviour: Behaviour) -> bool
-    ensures { result ≡ asks_certainty behaviour }
-{
-    matches!(behaviour, Behaviour::DeferredCbm | Behaviour::ImmediateCbm)
-}
-
-/// Whether an answer is complete: picked, each stem chosen, or something typed beside white space, and for a numerical
-/// question a number. A blank answer never is, nor any answer to a description.
+/// Whether an answer is complete: picked, an answer chosen for each stem and no number beside, or something typed beside white
+/// space, and for a numerical question a number. A blank answer never is, nor any answer to a description.
 pub fn complete(question: &Question, response: &Response) -> bool
     ensures { result ≡ complete question.now response.now }
 {
     match (&question.kind, &response.answer) {
         (Kind::TrueFalse { .. } | Kind::One(_), Answer::Pick(_)) => true,
         (Kind::Several(_), Answer::Picks(_)) => true,
-        (Kind::Matching(_), Answer::Match(chosen)) => all_chosen(chosen.as_slice()),
+        (Kind::Matching(pairs), Answer::Match(chosen)) => {
+            all_chosen(pairs.as_slice(), chosen.as_slice())
+        }
         (Kind::Essay | Kind::ShortAnswer(_), Answer::Words(typed)) => !typed.is_blank(),
         (Kind::Numerical(_), Answer::Words(typed)) => is_number(typed),
         _ => false,
@@ -130,7 +125,14 @@ pub fn gradable(question: &Question, response: &Response) -> bool
     }
 }
 
-fn all_chosen(chosen: &[u8]) -> bool
+/// Whether there is one number for each stem, and for each an answer is chosen.
+fn all_chosen(pairs: &[Pair], chosen: &[u8]) -> bool
+    ensures { result ≡ complete_answer (kind.Matching pairs.now) (answer.Match chosen.now) }
+{
+    chosen.len() == stem_count(pairs) && are_chosen(chosen)
+}
+
+fn are_chosen(chosen: &[u8]) -> bool
     ensures { result ≡ list_all is_chosen chosen.now }
 {
     chosen.iter().all(|place| *place > 0)

@@ -77,7 +77,8 @@ pub fn same(one: &Response, other: &Response) -> bool
     one.certainty == other.certainty && same_answer(&one.answer, &other.answer)
 }
 
-fn same_answer(one: &Answer, other: &Answer) -> bool
+/// Whether two answers are equal as values; a comparison takes no memory.
+pub fn same_answer(one: &Answer, other: &Answer) -> bool
     ensures { result ≡ same_answer one.now other.now }
 {
     match (one, other) {

@@ -10,15 +10,14 @@ ghost use Rattle.qz_grading.specs.declared.question.Pair.{Pair};
 ghost use Rattle.qz_grading.specs.Grading.{is_blank, is_chosen, stems, answers, at_place, is_right_stem, right_stems};
 
 use crate::Pair;
+use qz_decimal::is_space;
 use qz_text::Text;
 
 /// Whether a text of a question is blank. Its white space is space, tab and line feed.
 pub(crate) fn is_blank(text: &Text) -> bool
     ensures { result ≡ is_blank text.now }
 {
-    text.as_bytes()
-        .iter()
-        .all(|byte| *byte == b' ' || *byte == b'\t' || *byte == b'\n')
+    text.as_bytes().iter().all(|byte| is_space(*byte))
 }
 
 /// How many stems there are.

@@ -1,6 +1,10 @@
 //! How a slot behaves, and what comes of its steps.
 
-use qz_decimal::Fraction;
+ghost use Rattle.std.specs.Prelude.{◌≡◌};
+ghost use Rattle.qz_grading.specs.Grading.{asks_certainty};
+ghost use Rattle.qz_grading.specs.Behaviours.{graded};
+
+use qz_decimal::{Fraction, Tone, tone_of};
 
 /// How a slot reacts to its steps. Moodle's developer page "Question behaviours" describes each.
 #[derive(Clone, Copy, Debug, PartialEq, Eq)]
@@ -20,6 +24,15 @@ pub enum Behaviour {
     Information,
 }
 
+impl Behaviour {
+    /// Whether a student says how certain an answer is.
+    pub fn asks_certainty(self) -> bool
+        ensures { result ≡ asks_certainty self }
+    {
+        matches!(self, Behaviour::DeferredCbm | Behaviour::ImmediateCbm)
+    }
+}
+
 /// What is shown of a slot. Moodle's developer page "Question engine" lists the states.
 #[derive(Clone, Copy, Debug, PartialEq, Eq)]
 pub enum State {
@@ -35,6 +48,19 @@ pub enum State {
     MangrWrong,
     MangrPartial,
     MangrRight,
+}
+
+impl State {
+    /// The state of a response that was graded, by its fraction (in 10^-7): wrong below 0.000001, right above 0.999999.
+    pub fn graded(fraction: Fraction) -> State
+        ensures { result ≡ graded fraction }
+    {
+        match tone_of(fraction) {
+            Tone::Wrong => State::GradedWrong,
+            Tone::Partial => State::GradedPartial,
+            Tone::Right => State::GradedRight,
+        }
+    }
 }
 
 /// Whether a step was kept, or was the same as the one before and added nothing.

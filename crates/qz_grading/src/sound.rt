@@ -5,13 +5,10 @@ ghost use Rattle.qz_grading.specs.Questions.{is_weight, is_short_number, is_exte
 
 use crate::matching::{is_blank, stem_count};
 use crate::{Choice, Extent, Kind, Num, Pair, Short};
-use qz_decimal::{Decimal, Fraction};
+use qz_decimal::{Decimal, Fraction, ONE};
 
 /// The most choices, pairs or answers.
 const MOST_PARTS: usize = 64;
-
-/// The units in 1.
-const ONE: i64 = 10_000_000;
 
 /// A number in units of 10^-10 that is no longer short: it has 16 whole digits.
 const LONG: u128 = 10_000_000_000_000_000_000_000_000;

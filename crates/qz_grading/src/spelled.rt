@@ -1,32 +1,40 @@
 //! How marks, grades and numbers are spelled.
 
-ghost use Rattle.std.specs.Prelude.{◌≡◌, ◌^◌, ◌<◌, ◌++◌, List, ℕ, OnOk, IfOk, string_bytes, codes};
+ghost use Rattle.std.specs.Prelude.{◌≡◌, ◌^◌, ◌<◌, ◌++◌, List, ℕ, OnOk, OnErr, IfOk, string_bytes};
 ghost use Rattle.qz_decimal.specs.Reading.{sign_text};
-ghost use Rattle.qz_grading.specs.Words.{mark_text, units_text, grade_text, grade_units_text, number_text, size_text, without_zeros, in_digits};
+ghost use Rattle.qz_grading.specs.Words.{mark_text, units_text, grade_text, grade_units_text, decimal_text, short_natural, behind_point, without_zeros, in_digits};
 
-use qz_decimal::{Decimal, Grade, Mark};
+use qz_decimal::{Decimal, Grade, Mark, ONE};
 use qz_text::{NoMemory, Text};
 use std::alloc::Global;
 
 /// A value with one spelling.
-pub trait Spelled {
+pub trait Spelled: Sized {
     /// The bytes of the spelling.
     ghost spelling: { Self → List ℕ };
-
-    /// Adds the spelling at the end of a text.
-    fn spell_onto(self, out: &mut String) -> Result<(), NoMemory>
-        ensures { OnOk result (string_bytes out.new ≡ string_bytes out.old ++ spelling self) };
 
     /// The spelling.
     fn text(self, alloc: Global) -> Result<Text, NoMemory>
         ensures { IfOk result (λ text. text ≡ spelling self) };
+
+    /// Adds the spelling at the end of a text. Where memory is wanting the text is as it was.
+    fn spell_onto(self, out: &mut String) -> Result<(), NoMemory>
+        ensures added { OnOk result (string_bytes out.new ≡ string_bytes out.old ++ spelling self) }
+        ensures unchanged { OnErr result (string_bytes out.new ≡ string_bytes out.old) }
+    {
+        let spelled = self.text(*out.allocator())?;
+        out.push_str(spelled.as_str())?;
+        Ok(())
+    }
 }
 
-/// The units in a mark, a grade and a number of 1.
-const UNITS: u64 = 10_000_000;
+/// The units in a mark of 1.
+const UNITS: u64 = ONE as u64;
 
+/// The units in a grade of 1.
 const GRADE_UNITS: u128 = 100_000;
 
+/// The units in a number of 1.
 const NUMBER_UNITS: u128 = 10_000_000_000;
 
 /// A minus before a number below 0.
@@ -53,14 +61,10 @@ fn units_onto(out: &mut String, units: u64) -> Result<(), NoMemory>
 impl Spelled for Mark {
     ghost spelling = { mark_text };
 
-    fn spell_onto(self, out: &mut String) -> Result<(), NoMemory> {
-        sign_onto(out, self.0 < 0)?;
-        units_onto(out, self.0.unsigned_abs())
-    }
-
     fn text(self, alloc: Global) -> Result<Text, NoMemory> {
         let mut items = String::new(alloc);
-        self.spell_onto(&mut items)?;
+        sign_onto(&mut items, self.0 < 0)?;
+        units_onto(&mut items, self.0.unsigned_abs())?;
         Ok(Text { items })
     }
 }
@@ -79,14 +83,10 @@ fn grade_units_onto(out: &mut String, units: u128) -> Result<(), NoMemory>
 impl Spelled for Grade {
     ghost spelling = { grade_text };
 
-    fn spell_onto(self, out: &mut String) -> Result<(), NoMemory> {
-        sign_onto(out, self.0 < 0)?;
-        grade_units_onto(out, self.0.unsigned_abs())
-    }
-
     fn text(self, alloc: Global) -> Result<Text, NoMemory> {
         let mut items = String::new(alloc);
-        self.spell_onto(&mut items)?;
+        sign_onto(&mut items, self.0 < 0)?;
+        grade_units_onto(&mut items, self.0.unsigned_abs())?;
         Ok(Text { items })
     }
 }
@@ -95,8 +95,7 @@ impl Spelled for Grade {
 fn decimals_onto(out: &mut String, part: u64) -> Result<(), NoMemory>
     requires some { 0 < part }
     requires ten { part < 10 ^ 10 }
-    ensures { OnOk result (string_bytes out.new
-        ≡ string_bytes out.old ++ (codes "." ++ without_zeros (in_digits 10 part))) }
+    ensures { OnOk result (string_bytes out.new ≡ string_bytes out.old ++ behind_point (without_zeros (in_digits 10 part))) }
 {
     let mut digits = part;
     let mut places: usize = 10;
@@ -110,7 +109,7 @@ fn decimals_onto(out: &mut String, part: u64) -> Result<(), NoMemory>
 
 /// The whole part, and the decimals where there are any.
 fn size_onto(out: &mut String, units: u128) -> Result<(), NoMemory>
-    ensures { OnOk result (string_bytes out.new ≡ string_bytes out.old ++ size_text units) }
+    ensures { OnOk result (string_bytes out.new ≡ string_bytes out.old ++ short_natural 10 units) }
 {
     let whole = units / NUMBER_UNITS;
     let part = (units % NUMBER_UNITS) as u64;
@@ -124,16 +123,12 @@ fn size_onto(out: &mut String, units: u128) -> Result<(), NoMemory>
 /// An optional `-`, the whole part, and where the rest isn't zero a point and the decimals without zeros at their end, as
 /// `-0.05`.
 impl Spelled for Decimal {
-    ghost spelling = { number_text };
-
-    fn spell_onto(self, out: &mut String) -> Result<(), NoMemory> {
-        sign_onto(out, self.0 < 0)?;
-        size_onto(out, self.0.unsigned_abs())
-    }
+    ghost spelling = { decimal_text };
 
     fn text(self, alloc: Global) -> Result<Text, NoMemory> {
         let mut items = String::new(alloc);
-        self.spell_onto(&mut items)?;
+        sign_onto(&mut items, self.0 < 0)?;
+        size_onto(&mut items, self.0.unsigned_abs())?;
         Ok(Text { items })
     }
 }

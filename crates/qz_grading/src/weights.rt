@@ -1,16 +1,15 @@
 //! What answers are worth.
 
-ghost use Rattle.std.specs.Prelude.{◌≡◌, ◌≤◌, ◌&&◌, length, fold, map, pos, neg_ℤ, ◌+ℤ◌, ◌-ℤ◌, int_le, IsTrue, if◌then◌else◌};
+ghost use Rattle.std.specs.Prelude.{◌≡◌, ◌≤◌, ◌&&◌, find, length, fold, map, pos, neg_ℤ, ◌+ℤ◌, ◌-ℤ◌, int_le, IfSome, IsTrue, if◌then◌else◌};
+ghost use Rattle.std.specs.Option.{option_copied};
+ghost use Rattle.qz_grading.specs.declared.question.Num.{Num};
 ghost use Rattle.qz_decimal.specs.Numbers.{one, IsWithin};
 ghost use Rattle.qz_grading.specs.Grading.{weight_at, clamped, short_weight, takes_number, number_weight, numerical_weight};
 ghost use Rattle.qz_grading.specs.Questions.{are_weighed, are_weighed_shorts, are_weighed_extents, is_short_number, is_extent};
 
 use crate::{Choice, Extent, Num, Short};
-use qz_decimal::{Decimal, Fraction};
+use qz_decimal::{Decimal, Fraction, ONE};
 use qz_text::Typed;
-
-/// The units in 1.
-const ONE: i64 = 10_000_000;
 
 /// All or nothing.
 pub(crate) fn whole_if(right: bool) -> Fraction
@@ -95,18 +94,30 @@ fn is_within(low: i128, high: i128, number: i128) -> bool
     low <= number && number <= high
 }
 
+/// The first answer whose extent takes the number.
+pub fn first_taking(answers: &[Num], number: Decimal) -> Option<&Num>
+    requires { IsTrue (are_weighed_extents answers.now) }
+    ensures first { option_copied result ≡ find (λ (a : Num). takes_number a.extent number) answers.now }
+    ensures within { IfSome result (λ a. IsWithin (neg_ℤ (pos one)) (pos one) a.now.weight) }
+{
+    for answer in answers {
+        if takes_number(answer.extent, number) {
+            return Some(answer);
+        }
+    }
+    None
+}
+
 /// The weight of the first answer whose extent takes the number, or 0.
 fn number_weight(answers: &[Num], number: Decimal) -> Fraction
     requires { IsTrue (are_weighed_extents answers.now) }
     ensures value { result ≡ number_weight answers.now number }
     ensures within { IsWithin (neg_ℤ (pos one)) (pos one) result }
 {
-    for answer in answers {
-        if takes_number(answer.extent, number) {
-            return answer.weight;
-        }
+    match first_taking(answers, number) {
+        Some(answer) => answer.weight,
+        None => Fraction(0),
     }
-    Fraction(0)
 }
 
 /// The weight of the first answer whose extent takes the number typed, or 0.

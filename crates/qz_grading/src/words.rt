@@ -1,9 +1,10 @@
 //! The words that states, behaviours and kinds are told by.
 
 ghost use Rattle.std.specs.Prelude.{◌≡◌};
+ghost use Rattle.qz_grading.specs.Canonical.{format_mark};
 ghost use Rattle.qz_grading.specs.Words.{state_word, behaviour_word, kind_word};
 
-use crate::{Behaviour, Shape, State};
+use crate::{Behaviour, Format, Shape, State};
 
 impl State {
     /// The state's name in lower case without a break.
@@ -60,6 +61,20 @@ impl Shape {
             5 => "match",
             6 => "shortanswer",
             _ => "numerical",
+        }
+    }
+}
+
+impl Format {
+    /// The sign that stands before a text of this format in GIFT, as Moodle's manual page "GIFT format" gives it.
+    pub fn sign(self) -> &'static str
+        ensures { result.now ≡ format_mark self }
+    {
+        match self {
+            Format::Moodle => "[moodle]",
+            Format::Html => "[html]",
+            Format::Plain => "[plain]",
+            Format::Markdown => "[markdown]",
         }
     }
 }

@@ -1,15 +1,16 @@
 //! Std's writers as sinks.
 
-ghost use Rattle.std.specs.Prelude.{◌≡◌, ◌<◌, ◌≤◌, length, None, IfOk};
+ghost use Rattle.std.specs.Prelude.{◌≡◌, ◌<◌, ◌≤◌, length, None, IfOk, OnOk, OnErr};
 ghost use Rattle.std.specs.Io.KnownBytes.{WriteAppends};
-ghost use Rattle.qz_outside.specs.Causes.{HasCause, HasRisen};
+ghost use Rattle.qz_outside.specs.Causes.{HasCause, HasRisen, counted};
 
 use crate::{Failed, Sink};
 use std::io::{ErrorKind, Write};
 use std::marker::Model;
 
-/// A writer of std as a sink, which tells nothing of its bytes. An interrupted call is made again. What the writer
-/// keeps back in a buffer of its own is not flushed.
+/// A writer of std as a sink, which tells nothing of its bytes. A call that was interrupted is made again, and any
+/// other error is a failure; so is a writer that takes none of a piece. What the writer keeps back in a buffer of its
+/// own is not flushed.
 #[derive(Drop)]
 pub struct StdSink<W> {
     writer: W,
@@ -55,6 +56,10 @@ impl<W: Write> Sink for StdSink<W> {
         // The bytes went to the writer.
         ensures passed { WriteAppends (W.contents self.old.inner) (W.contents self.new.inner)
             result piece.now }
+
+        // The count rises in a call that fails, and in no other.
+        ensures steady { OnOk result (self.new.faults ≡ self.old.faults) }
+        ensures counts { OnErr result (self.new.faults ≡ counted self.old.faults) }
     {
         // A loop has to end, so it gives up after so many interrupted calls.
         for _ in 0..u64::MAX {

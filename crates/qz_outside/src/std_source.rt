@@ -1,14 +1,15 @@
 //! Std's readers as sources.
 
-ghost use Rattle.std.specs.Prelude.{◌≡◌, ◌≤◌, length, None, IfOk};
+ghost use Rattle.std.specs.Prelude.{◌≡◌, ◌≤◌, length, None, IfOk, OnOk, OnErr};
 ghost use Rattle.std.specs.Io.KnownBytes.{ReadConsumes};
-ghost use Rattle.qz_outside.specs.Causes.{HasCause};
+ghost use Rattle.qz_outside.specs.Causes.{HasCause, counted};
 
 use crate::{Failed, Source};
 use std::io::{ErrorKind, Read};
 use std::marker::Model;
 
-/// A reader of std as a source, which tells nothing of its bytes. An interrupted call is made again.
+/// A reader of std as a source, which tells nothing of its bytes. A call that was interrupted is made again, and any
+/// other error is a failure.
 #[derive(Drop)]
 pub struct StdSource<R> {
     reader: R,
@@ -52,6 +53,10 @@ impl<R: Read> Source for StdSource<R> {
         // The bytes are the reader's.
         ensures passed { ReadConsumes (R.remaining self.old.inner) (R.remaining self.new.inner)
             result room.new }
+
+        // The count rises in a call that fails, and in no other.
+        ensures steady { OnOk result (self.new.faults ≡ self.old.faults) }
+        ensures counts { OnErr result (self.new.faults ≡ counted self.old.faults) }
     {
         // A loop has to end, so it gives up after so many interrupted calls.
         for _ in 0..u64::MAX {

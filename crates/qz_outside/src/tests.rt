@@ -120,21 +120,34 @@ fn a_full_sink_takes_nothing(rt: HostRuntime) -> Result<(), Fail> {
     Ok(())
 }
 
-// Each other call is interrupted; the second moves one byte, and the fourth fails.
+// So many calls are interrupted; the next fails with an error of this kind, where there is one, and each call after
+// that moves one byte.
 #[derive(Drop)]
 struct Unsteady {
-    calls: u64,
+    interrupted: u32,
+    error: Option<ErrorKind>,
+    calls: u32,
 }
 
 impl Unsteady {
+    fn new(interrupted: u32, error: Option<ErrorKind>) -> Unsteady {
+        Unsteady {
+            interrupted,
+            error,
+            calls: 0,
+        }
+    }
+
     fn turn(&mut self, len: usize) -> io::Result<usize>
         ensures { IfOk result (λ n. n ≤ len) }
     {
         self.calls = self.calls.wrapping_add(1);
-        match self.calls {
-            2 => Ok(len.min(1)),
-            4 => Err(io::Error::from(ErrorKind::BrokenPipe)),
-            _ => Err(io::Error::from(ErrorKind::Interrupted)),
+        if self.calls <= self.interrupted {
+            return Err(io::Error::from(ErrorKind::Interrupted));
+        }
+        match self.error.take() {
+            Some(kind) => Err(io::Error::from(kind)),
+            None => Ok(len.min(1)),
         }
     }
 }
@@ -155,6 +168,17 @@ impl Write for Unsteady {
     }
 }
 
+const KINDS: [ErrorKind; 8] = [
+    ErrorKind::WouldBlock,
+    ErrorKind::BrokenPipe,
+    ErrorKind::TimedOut,
+    ErrorKind::WriteZero,
+    ErrorKind::UnexpectedEof,
+    ErrorKind::StorageFull,
+    ErrorKind::OutOfMemory,
+    ErrorKind::Other,
+];
+
 #[test]
 fn a_reader_is_a_source(rt: HostRuntime) -> Result<(), Fail> {
     let alloc = rt.alloc();
@@ -162,12 +186,19 @@ fn a_reader_is_a_source(rt: HostRuntime) -> Result<(), Fail> {
     let read = read_all(alloc, &mut source, 3)?;
     assert_eq!(rt; read.as_slice(), b"abc".as_slice());
     assert_eq!(rt; source.faults(), 0);
-    let mut source = StdSource::new(Unsteady { calls: 0 });
-    let mut room = [0; 4];
-    assert_eq!(rt; source.read(&mut room), Ok(1));
-    assert_eq!(rt; source.faults(), 0);
-    assert_eq!(rt; source.read(&mut room), Err(Failed));
-    assert_eq!(rt; source.faults(), 1);
+    for interrupted in [0, 1, 3] {
+        let mut source = StdSource::new(Unsteady::new(interrupted, None));
+        assert_eq!(rt; source.read(&mut [0; 4]), Ok(1));
+        assert_eq!(rt; source.faults(), 0);
+        for kind in KINDS {
+            // The error is told by the call that meets it, and the next call reads on.
+            let mut source = StdSource::new(Unsteady::new(interrupted, Some(kind)));
+            assert_eq!(rt; source.read(&mut [0; 4]), Err(Failed), "{kind:?}");
+            assert_eq!(rt; source.faults(), 1, "{kind:?}");
+            assert_eq!(rt; source.read(&mut [0; 4]), Ok(1), "{kind:?}");
+            assert_eq!(rt; source.faults(), 1, "{kind:?}");
+        }
+    }
     Ok(())
 }
 
@@ -181,8 +212,17 @@ fn a_writer_is_a_sink(rt: HostRuntime) -> Result<(), Fail> {
     assert_eq!(rt; write_all(&mut sink, b"de"), Err(Failed));
     assert_eq!(rt; sink.faults(), 1);
     assert_eq!(rt; place.as_slice(), b"abcd".as_slice());
-    let mut sink = StdSink::new(Unsteady { calls: 0 });
-    assert_eq!(rt; write_all(&mut sink, b"ab"), Err(Failed));
-    assert_eq!(rt; sink.faults(), 1);
+    for interrupted in [0, 1, 3] {
+        let mut sink = StdSink::new(Unsteady::new(interrupted, None));
+        assert_eq!(rt; sink.write(b"ab"), Ok(1));
+        assert_eq!(rt; sink.faults(), 0);
+        for kind in KINDS {
+            let mut sink = StdSink::new(Unsteady::new(interrupted, Some(kind)));
+            assert_eq!(rt; sink.write(b"ab"), Err(Failed), "{kind:?}");
+            assert_eq!(rt; sink.faults(), 1, "{kind:?}");
+            assert_eq!(rt; write_all(&mut sink, b"ab"), Ok(()), "{kind:?}");
+            assert_eq!(rt; sink.faults(), 1, "{kind:?}");
+        }
+    }
     Ok(())
 }

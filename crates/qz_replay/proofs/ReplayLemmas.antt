@@ -8,10 +8,10 @@ use Rattle.qz_ending.specs.declared.stop.Stop.{Stop}
 use Rattle.qz_ending.specs.declared.stop.Stop.TheVariants as stop
 use Rattle.qz_replay.specs.Readings.{Fails}
 use Rattle.qz_replay.specs.Plays.{Play, next, told}
-use Rattle.qz_wire.specs.Asking.{end_at}
+use Rattle.qz_wire.specs.BankWords.{penalty_of}
 use Rattle.qz_wire.specs.Lines.{after}
-use Rattle.qz_wire.specs.Numbered.{◌>>=◌, line_at as word_at, or_line}
-use Rattle.qz_replay.specs.Replay.{as_version, hints_of, max_of, penalty_of, question_line, question_of}
+use Rattle.qz_wire.specs.Numbered.{end_at, ◌>>=◌, line_at as word_at, or_line}
+use Rattle.qz_replay.specs.Replay.{as_version, hints_of, max_of, question_line, question_of}
 use Rattle.qz_replay.specs.Replayed.{asked_of, line_of, with_front, steps_told, version_of}
 use Rattle.qz_wire.specs.Words.{IsCutAt, words_of}
 use Rattle.qz_wire.proofs.PartLemmas.{some_part}

@@ -1,14 +1,13 @@
--- The one question of a bank, and what a version of it keeps.
-use Rattle.std.proofs.Common.{◌≡◌, ℕ, zero, suc, ◌≤◌, List, [], ◌∷◌, ◌++◌, ◌+◌, ℤ, length, map, replicate, refl, arith}
-use Rattle.std.specs.Prelude.{All, IfSome, IsTrue, sum_by}
+-- What a version of a question keeps.
+use Rattle.std.proofs.Common.{◌≡◌, ℕ, zero, suc, ◌≤◌, List, [], ◌++◌, ◌+◌, ℤ, length, replicate, refl, arith}
+use Rattle.std.specs.Prelude.{IsTrue, sum_by}
 use Rattle.std.proofs.lemmas.List.{length-replicate}
 use Rattle.std.proofs.lemmas.List.Folds.{sum_by-replicate}
 use Rattle.std.proofs.lemmas.List.Sums.{sum_by-append}
 use Rattle.qz_decimal.specs.Reading.{IsWrittenFraction}
-use Rattle.qz_grading.specs.declared.question.Item.{Item}
 use Rattle.qz_grading.specs.declared.question.Question.{Question}
 use Rattle.qz_grading.specs.Questions.{IsQuestion, are_no_longer, texts}
-use Rattle.qz_replay.specs.Replay.{as_version, only_question}
+use Rattle.qz_replay.specs.Replay.{as_version}
 
 empty-hints : (n : ℕ) → IsTrue (are_no_longer 4096 (replicate n []))
 empty-hints zero = refl
@@ -30,9 +29,3 @@ version-is-question q penalty hints is written few = record {
   hints = empty-hints hints;
   together = no-longer q hints is;
 }
-
--- the one question of a bank keeps what each of its questions keeps
-pub only-is-question : (items : List Item) → All IsQuestion (map (λ (i : Item). i.question) items) → IfSome (only_question items) IsQuestion
-only-is-question [] all = tt
-only-is-question (item ∷ []) all = all 0 item.question (omega arith)
-only-is-question (item ∷ next ∷ items) all = tt

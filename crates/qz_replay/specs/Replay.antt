@@ -1,44 +1,26 @@
 -- The head of a replay text, and words of its lines.
-use Rattle.std.specs.Prelude.{ℕ, if◌then◌else◌, List, [], ◌∷◌, replicate, Option, Some, None, option_and_then, Result, Ok, Err, ℤ, pos, int_le, bytes_eq, codes}
-use Rattle.std.specs.Result.{result_ok}
-use Rattle.qz_decimal.specs.Reading.{mark_in, fraction_in}
+use Rattle.std.specs.Prelude.{ℕ, if◌then◌else◌, List, [], replicate, Option, Some, None, option_and_then, Result, Ok, Err, ℤ, pos, int_le, codes}
 use Rattle.qz_grading.specs.declared.outcome.Behaviour.{Behaviour}
-use Rattle.qz_grading.specs.declared.outcome.Behaviour.TheVariants as behaviour
 use Rattle.qz_grading.specs.declared.question.Bank.{Bank}
-use Rattle.qz_grading.specs.declared.question.Item.{Item}
 use Rattle.qz_grading.specs.declared.question.Question.{Question}
 use Rattle.gift_read.specs.Gift.{Fault, reading}
 use Rattle.qz_replay.specs.declared.slot.Slot.{Slot}
+use Rattle.qz_wire.specs.BankWords.{behaviour_of, mark_of, penalty_of, only_question}
 use Rattle.qz_wire.specs.Lines.{after, number_within}
 use Rattle.qz_wire.specs.Words.{only_word, text_of, words_of}
 use Rattle.qz_wire.specs.Numbered.{◌>>=◌, line_at}
 
 -- ---- the lines of the head
 
--- a description alone is information
-abbrev pub behaviour_named : List ℕ → Option Behaviour
-behaviour_named word =
-    if bytes_eq word (codes "deferredfeedback") then Some behaviour.Deferred
-    else (if bytes_eq word (codes "immediatefeedback") then Some behaviour.Immediate
-    else (if bytes_eq word (codes "interactive") then Some behaviour.Interactive
-    else (if bytes_eq word (codes "adaptive") then Some behaviour.Adaptive
-    else (if bytes_eq word (codes "adaptivenopenalty") then Some behaviour.AdaptiveNoPenalty
-    else (if bytes_eq word (codes "deferredcbm") then Some behaviour.DeferredCbm
-    else (if bytes_eq word (codes "immediatecbm") then Some behaviour.ImmediateCbm
-    else (if bytes_eq word (codes "manualgraded") then Some behaviour.Manual else None)))))))
-
 abbrev pub behaviour_line : List ℕ → Option Behaviour
-behaviour_line line = option_and_then behaviour_named (after (codes "behaviour ") line)
+behaviour_line line = option_and_then behaviour_of (after (codes "behaviour ") line)
 
 -- a max mark is from 0 to 10,000
 abbrev pub max_of : List ℕ → Option ℤ
-max_of word = option_and_then (λ m. if int_le (pos 0) m then (if int_le m (pos 100000000000) then Some m else None) else None) (result_ok (mark_in word))
+max_of word = option_and_then (λ m. if int_le (pos 0) m then (if int_le m (pos 100000000000) then Some m else None) else None) (mark_of word)
 
 abbrev pub max_line : List ℕ → Option ℤ
 max_line line = option_and_then max_of (after (codes "max ") line)
-
-abbrev pub penalty_of : List ℕ → Option ℤ
-penalty_of word = result_ok (fraction_in word)
 
 abbrev pub penalty_line : List ℕ → Option ℤ
 penalty_line line = option_and_then penalty_of (after (codes "penalty ") line)
@@ -48,11 +30,6 @@ hints_of word = number_within 0 20 word
 
 abbrev pub hints_line : List ℕ → Option ℕ
 hints_line line = option_and_then hints_of (after (codes "hints ") line)
-
--- the one question of a bank; its category doesn't matter
-abbrev pub only_question : List Item → Option Question
-only_question (item ∷ []) = Some item.question
-only_question items = None
 
 abbrev pub one_question : Result Bank Fault → Option Question
 one_question (Ok bank) = only_question bank.items

@@ -1,7 +1,6 @@
 -- What a replay text asks for, line by line, and its output.
 use Rattle.std.specs.Prelude.{ℕ, ◌+◌, if◌then◌else◌, List, [], ◌∷◌, ◌++◌, Option, Some, None, Result, Ok, Err, ℤ, bytes_eq, codes, decimal}
 use Rattle.std.specs.Result.{result_ok}
-use Rattle.qz_decimal.specs.Reading.{mark_in}
 use Rattle.qz_grading.specs.declared.response.Response.{Response}
 use Rattle.qz_grading.specs.declared.response.Step.TheVariants as step
 use Rattle.qz_replay.specs.declared.asked.Asked.{Asked}
@@ -10,11 +9,11 @@ use Rattle.qz_replay.specs.declared.asked.Deed.{Deed}
 use Rattle.qz_replay.specs.declared.asked.Deed.TheVariants as deed
 use Rattle.qz_replay.specs.declared.slot.Version.{Version}
 use Rattle.qz_wire.specs.Answers.{answer_of}
-use Rattle.qz_wire.specs.Asking.{end_at}
+use Rattle.qz_wire.specs.BankWords.{mark_of, penalty_of}
 use Rattle.qz_wire.specs.Lines.{lines_of, newline}
 use Rattle.qz_replay.specs.Plays.{Play, next, standing, told}
-use Rattle.qz_wire.specs.Numbered.{◌>>=◌, line_at as word_at, or_line}
-use Rattle.qz_replay.specs.Replay.{as_version, max_of, penalty_of, hints_of, question_of, head_of}
+use Rattle.qz_wire.specs.Numbered.{◌>>=◌, end_at, line_at as word_at, or_line}
+use Rattle.qz_replay.specs.Replay.{as_version, max_of, hints_of, question_of, head_of}
 use Rattle.qz_wire.specs.Words.{words_of, certainty_of}
 
 -- ---- the line of a step or of a newer version
@@ -34,12 +33,9 @@ response_of words = do
   answer ← word_at answer_of 3 certainty.1
   end_at 4 (record { answer = answer.0; certainty = certainty.0 }) answer.1
 
-abbrev pub mark_of_word : List ℕ → Option ℤ
-mark_of_word word = result_ok (mark_in word)
-
 unfoldable pub given_of : List (List ℕ) → Result ℤ ℕ
 given_of words = do
-  mark ← word_at mark_of_word 2 words
+  mark ← word_at mark_of 2 words
   end_at 3 mark.0 mark.1
 
 unfoldable pub version_of : List (List ℕ) → Result Version ℕ

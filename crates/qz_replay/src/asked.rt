@@ -2,21 +2,21 @@
 
 ghost use Rattle.std.specs.Prelude.{◌≡◌, ◌≤◌, IfOk, IfSome, ℤ};
 ghost use Rattle.qz_decimal.specs.Numbers.{IsMaxMark};
-ghost use Rattle.qz_decimal.specs.Reading.{IsWrittenFraction};
 ghost use Rattle.qz_grading.specs.Questions.{IsQuestion};
-ghost use Rattle.qz_wire.specs.Asking.{end_at};
 ghost use Rattle.qz_replay.specs.Plays.{IsAskable};
 ghost use Rattle.qz_wire.specs.Numbered.{line_at as word_at};
-ghost use Rattle.qz_replay.specs.Replay.{max_of, penalty_of, hints_of, question_of};
-ghost use Rattle.qz_replay.specs.Replayed.{deed_of, response_of, mark_of_word, given_of, version_of, asked_by, asked_of};
+ghost use Rattle.qz_replay.specs.Replay.{max_of, hints_of, question_of};
+ghost use Rattle.qz_replay.specs.Replayed.{deed_of, response_of, given_of, version_of, asked_by, asked_of};
 ghost use Rattle.qz_wire.specs.Words.{words_of, words_after, certainty_of, Reads};
 
 use crate::questions::{as_version, question_in};
-use crate::reading::{hints_in, max_in, penalty_in};
+use crate::reading::{hints_in, max_in};
 use crate::slot::Version;
-use qz_decimal::{Fraction, Mark};
+use qz_decimal::Mark;
 use qz_grading::{Question, Response, Step};
-use qz_wire::{WordFault, answer_at, certainty_at, end, first_word, next_word};
+use qz_wire::{
+    WordFault, answer_at, certainty_at, end, first_word, mark_at, next_word, penalty_at,
+};
 use std::alloc::Global;
 
 /// What a line asks for.
@@ -59,30 +59,11 @@ fn deed_in(word: &[u8]) -> Option<Deed>
     }
 }
 
-fn mark_in(word: &[u8]) -> Option<Mark>
-    ensures { result ≡ mark_of_word word.now }
-{
-    Mark::read(word).ok()
-}
-
-fn mark_at(rest: &mut &[u8], place: u32) -> Result<Mark, WordFault>
-    ensures { Reads (λ x. (x, words_after rest.new.now)) result (word_at mark_of_word place (words_after rest.old.now)) }
-{
-    mark_in(next_word(rest, place)?).ok_or(WordFault::Malformed { place })
-}
-
 fn max_at(rest: &mut &[u8], place: u32) -> Result<Mark, WordFault>
     ensures value { Reads (λ x. (x, words_after rest.new.now)) result (word_at max_of place (words_after rest.old.now)) }
     ensures range { IfOk result IsMaxMark }
 {
     max_in(next_word(rest, place)?).ok_or(WordFault::Malformed { place })
-}
-
-fn penalty_at(rest: &mut &[u8], place: u32) -> Result<Fraction, WordFault>
-    ensures value { Reads (λ x. (x, words_after rest.new.now)) result (word_at penalty_of place (words_after rest.old.now)) }
-    ensures range { IfOk result IsWrittenFraction }
-{
-    penalty_in(next_word(rest, place)?).ok_or(WordFault::Malformed { place })
 }
 
 fn hints_at(rest: &mut &[u8], place: u32) -> Result<u32, WordFault>

@@ -3,25 +3,14 @@
 ghost use Rattle.std.specs.Prelude.{◌≡◌, ◌≤◌, [], replicate, IfOk, IfSome};
 ghost use Rattle.qz_decimal.specs.Reading.{IsWrittenFraction};
 ghost use Rattle.qz_grading.specs.Questions.{IsQuestion};
-ghost use Rattle.qz_replay.specs.Replay.{only_question, question_of, as_version};
+ghost use Rattle.qz_replay.specs.Replay.{question_of, as_version};
 
 use gift_read::{GiftFault, read};
 use qz_decimal::Fraction;
-use qz_grading::{Item, Question};
+use qz_grading::Question;
 use qz_text::{Listed, NoMemory, Text};
-use qz_wire::text_in;
+use qz_wire::{only_question, text_in};
 use std::alloc::Global;
-
-/// The question of a bank that has exactly one.
-fn only_question(mut items: Listed<Item>) -> Option<Question>
-    ensures { result ≡ only_question items }
-{
-    if items.items.len() != 1 {
-        return None;
-    }
-    let item = items.items.pop()?;
-    Some(item.question)
-}
 
 /// The question of a word that spells a GIFT text of exactly one.
 pub fn question_in(alloc: Global, word: &[u8]) -> Result<Option<Question>, NoMemory>

@@ -7,7 +7,7 @@ ghost use Rattle.qz_grading.specs.Questions.{IsQuestion};
 ghost use Rattle.qz_wire.specs.Lines.{lines_of, after};
 ghost use Rattle.qz_replay.specs.Plays.{IsPlayable};
 ghost use Rattle.qz_replay.specs.Readings.{Gives};
-ghost use Rattle.qz_replay.specs.Replay.{behaviour_named, behaviour_line, max_of, max_line, penalty_of, penalty_line, hints_of, hints_line, question_line, head_of};
+ghost use Rattle.qz_replay.specs.Replay.{behaviour_line, max_of, max_line, penalty_line, hints_of, hints_line, question_line, head_of};
 ghost use Rattle.qz_wire.specs.Numbered.{line_at};
 
 use crate::questions::{as_version, question_in};
@@ -16,35 +16,11 @@ use qz_decimal::{Fraction, Mark};
 use qz_ending::Stop;
 use qz_grading::{Behaviour, Question};
 use qz_text::NoMemory;
-use qz_wire::{after, cut, number, split_line};
+use qz_wire::{after, behaviour_in, cut, number, penalty_in, split_line};
 use std::alloc::Global;
 
 /// The greatest max mark, 10,000 in units of 10^-7.
 const MOST: i64 = 100_000_000_000;
-
-fn behaviour_in(word: &[u8]) -> Option<Behaviour>
-    ensures { result ≡ behaviour_named word.now }
-{
-    if word == b"deferredfeedback".as_slice() {
-        Some(Behaviour::Deferred)
-    } else if word == b"immediatefeedback".as_slice() {
-        Some(Behaviour::Immediate)
-    } else if word == b"interactive".as_slice() {
-        Some(Behaviour::Interactive)
-    } else if word == b"adaptive".as_slice() {
-        Some(Behaviour::Adaptive)
-    } else if word == b"adaptivenopenalty".as_slice() {
-        Some(Behaviour::AdaptiveNoPenalty)
-    } else if word == b"deferredcbm".as_slice() {
-        Some(Behaviour::DeferredCbm)
-    } else if word == b"immediatecbm".as_slice() {
-        Some(Behaviour::ImmediateCbm)
-    } else if word == b"manualgraded".as_slice() {
-        Some(Behaviour::Manual)
-    } else {
-        None
-    }
-}
 
 fn behaviour_on(line: &[u8]) -> Option<Behaviour>
     ensures { result ≡ behaviour_line line.now }
@@ -69,13 +45,6 @@ fn max_on(line: &[u8]) -> Option<Mark>
     ensures range { IfSome result IsMaxMark }
 {
     max_in(after(line, b"max ")?)
-}
-
-pub fn penalty_in(word: &[u8]) -> Option<Fraction>
-    ensures value { result ≡ penalty_of word.now }
-    ensures range { IfSome result IsWrittenFraction }
-{
-    Fraction::read(word).ok()
 }
 
 fn penalty_on(line: &[u8]) -> Option<Fraction>

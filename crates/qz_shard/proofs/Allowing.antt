@@ -31,8 +31,8 @@ use Rattle.qz_terms.specs.History.{attempts, floor, start, time}
 use Rattle.qz_shard.specs.Holdings.{older}
 use Rattle.qz_shard.proofs.Keeping.{start-here}
 use Rattle.qz_shard.proofs.Learning.{learns-new}
-use Rattle.qz_terms.proofs.Standing.{never-granted, none-passes, unmapped}
-use Rattle.qz_shard.proofs.Legality.{IsFree, free-by}
+use Rattle.qz_terms.proofs.Standing.{free-by, never-granted, none-passes, unmapped}
+use Rattle.qz_shard.proofs.Legality.{IsFree}
 
 -- ---- the moment and the key
 

@@ -35,7 +35,7 @@ pub and-right : (b c : Bool) → b && c ≡ true → c ≡ true
 and-right true c is = is
 and-right false c is = absurd cc
 
-all-at : {A : Type 0} (p : A → Bool) (xs : List A) (n : ℕ) (x : A) → list_all p xs ≡ true → slice_get xs n ≡ Some x → p x ≡ true
+pub all-at : {A : Type 0} (p : A → Bool) (xs : List A) (n : ℕ) (x : A) → list_all p xs ≡ true → slice_get xs n ≡ Some x → p x ≡ true
 all-at p [] n x all is = absurd cc
 all-at p (y ∷ ys) zero x all is = let same : y ≡ x = cc in ap p (sym same) ∙ and-left (p y) (list_all p ys) all
 all-at p (y ∷ ys) (suc n) x all is = all-at p ys n x (and-right (p y) (list_all p ys) all) is

@@ -23,7 +23,8 @@ use Rattle.qz_terms.specs.Access.{settled_by}
 use Rattle.qz_terms.specs.Cause.{Verdict, Granted, by_key, cause_here, denied, forbidden, missing_here, spells}
 use Rattle.qz_terms.specs.Legal.{IsAllowed, IsLegal, IsPut}
 use Rattle.qz_terms.specs.History.{next_attempt}
-use Rattle.qz_terms.proofs.Standing.{never-granted}
+use Rattle.qz_terms.proofs.Standing.{free-by, never-granted}
+use Rattle.qz_terms.proofs.Walks.{split-push}
 
 -- ---- the lists before
 
@@ -39,20 +40,6 @@ pub legal-before : (index count : ℕ) (l rest : List Record) → IsLegal index 
 legal-before index count l rest legal = record {
   each = λ k r more e. legal.each k r (more ++ rest) (ap (λ (t : List Record). t ++ rest) e ∙ append_assoc k (r ∷ more) rest);
 }
-
--- one item at the end is the one that stands after a part, or stands behind it
-split-push : {A : Type 0} (l k : List A) (x y : A) (rest : List A) → l ++ x ∷ [] ≡ k ++ y ∷ rest → ((l ≡ k) × (x ≡ y)) ⊎ ((more : List A) × (l ≡ k ++ y ∷ more))
-split-push [] [] x y rest e = inl (refl, cc)
-split-push [] (z ∷ []) x y rest e = absurd cc
-split-push [] (z ∷ w ∷ k) x y rest e = absurd cc
-split-push (z ∷ l) [] x y rest e = inr (l, let same : z ≡ y = cc in ap (λ t. t ∷ l) same)
-split-push (z ∷ l) (w ∷ k) x y rest e =
-    let head : z ≡ w = cc in
-    let tail : l ++ x ∷ [] ≡ k ++ y ∷ rest = cc in
-    elim (split-push l k x y rest tail) [
-      | inl same ↦ inl (let lists : l ≡ k = same.0 in cc, same.1)
-      | inr behind ↦ inr (behind.0, let lists : l ≡ k ++ y ∷ behind.0 = behind.1 in cc)
-    ]
 
 -- one more record that is allowed
 pub legal-push : (index count : ℕ) (l : List Record) (r : Record) → IsLegal index count l → IsAllowed index count l r → IsLegal index count (l ++ r ∷ [])
@@ -82,13 +69,6 @@ pub record IsFree (h : List Record) (moment : ℕ) (user : User) (plan : Plan) (
   pub there : missing_here h user x ≡ None
   pub fresh : by_key (spells x) user.number key h ≡ None
   pub causeless : cause_here h moment user plan x ≡ None
-
-pub free-by : (f m : Option Refusal) (k : Option Verdict) (c : Option Refusal) → (k ≡ Some Granted → ⊥) → unwrap_or (first_some (denied f ∷ denied m ∷ k ∷ denied c ∷ [])) Granted ≡ Granted → (f ≡ None) × (m ≡ None) × (k ≡ None) × (c ≡ None)
-free-by (Some f) m k c never e = absurd cc
-free-by None (Some m) k c never e = absurd cc
-free-by None None (Some k) c never e = absurd (never (let same : k ≡ Granted = e in ap (λ (v : Verdict). Some v) same))
-free-by None None None (Some c) never e = absurd cc
-free-by None None None None never e = (refl, refl, refl, refl)
 
 pub free-put : (l : List Record) (r : Record) → (p : IsPut l r) → IsFree l r.moment p.user p.plan p.ask.key p.ask.request
 free-put l r p =

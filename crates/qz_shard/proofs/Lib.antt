@@ -10,4 +10,10 @@ pub mod Allowing
 pub mod Making
 pub mod StepLemmas
 pub mod GradeLemmas
+pub mod LookLemmas
+pub mod PageLemmas
 pub mod Again
+pub mod Versions
+pub mod Effects
+pub mod Placing
+pub mod Following

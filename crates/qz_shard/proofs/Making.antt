@@ -1,5 +1,5 @@
 -- The record that a decision makes may be put next, and what is then answered.
-use Rattle.std.proofs.Common.{◌≡◌, ℕ, suc, ℤ, ◌+◌, ◌-◌, ◌<◌, ◌≤◌, ◌^◌, max, Bool, true, false, List, [], ◌∷◌, ◌++◌, Option, Some, None, Result, Ok, Err, length, length-append, map, take, drop, get_or, refl, sym, ap, subst, ◌∙◌, arith, option_map, All}
+use Rattle.std.proofs.Common.{◌≡◌, ℕ, suc, ℤ, ◌+◌, ◌-◌, ◌<◌, ◌≤◌, ◌^◌, max, Bool, true, false, List, [], ◌∷◌, ◌++◌, Option, Some, None, Result, Ok, Err, length, length-append, append-nil, map, take, drop, get_or, refl, sym, ap, subst, ◌∙◌, arith, option_map, All}
 use Rattle.std.specs.Prelude.{IfOk, OnErr, OnOk, ◌==◌, filter_map, is_none, if◌then◌else◌, unwrap_or}
 use Rattle.std.specs.List.{list_all, last_or}
 use Rattle.std.proofs.lemmas.Bool.{le-leb, leb-true}
@@ -27,29 +27,30 @@ use Rattle.qz_terms.specs.declared.record.How.{How}
 use Rattle.qz_terms.specs.declared.record.How.TheVariants as how
 use Rattle.qz_terms.specs.declared.record.Learned.{Learned}
 use Rattle.qz_terms.specs.declared.record.Record.{Record}
+use Rattle.qz_terms.specs.declared.reply.Done.TheVariants as done
 use Rattle.qz_terms.specs.declared.reply.Reply.{Reply}
 use Rattle.qz_terms.specs.declared.reply.Reply.TheVariants as reply
 use Rattle.qz_terms.specs.declared.request.Request.{Request}
 use Rattle.qz_terms.specs.declared.request.Request.TheVariants as request
 use Rattle.qz_terms.specs.Access.{settled_by}
-use Rattle.qz_terms.specs.Answer.{acted_or_noted, answer_here, bind, event_here, is_overdue, list_after, moment_of, named_user, new_versions, put_here, record_under, said, same_version, started_by, stepped_by}
+use Rattle.qz_terms.specs.Answer.{acted_or_noted, answer_here, bind, event_here, is_overdue, list_after, looked_by, max_now, moment_of, named_user, new_versions, put_here, record_under, said, same_version, started_by, stepped_by}
 use Rattle.qz_terms.specs.Cause.{Verdict, Denied, Granted, Repeated, by_key, cause_here, forbidden, spells, is_keyed, missing_attempt, missing_here, missing_slot, verdict_here}
-use Rattle.qz_terms.specs.Kept.{AreLearned, AreQuestions, IsKept, IsKeptPlan, KeepsAsked, KeepsEvent, is_bound, is_moment, is_planned, is_step}
+use Rattle.qz_terms.specs.Kept.{AreLearned, AreQuestions, IsKept, IsKeptPlan, KeepsAsked, KeepsEvent, has_terms, is_bound, is_moment, is_planned, is_step}
 use Rattle.qz_terms.specs.Legal.{is_plan_for}
 use Rattle.qz_terms.specs.Lists.{once}
 use Rattle.qz_terms.specs.History.{next_attempt, owned_moment, slot_count, time}
 use Rattle.qz_terms.specs.History as history
-use Rattle.qz_terms.proofs.Standing.{never-granted}
+use Rattle.qz_terms.proofs.Standing.{free-by, never-granted}
 use Rattle.qz_terms.proofs.Walks.{last_told_in}
 use Rattle.qz_shard.specs.declared.decision.Decision.TheVariants as decision
 use Rattle.qz_shard.specs.Answering.{IsAnswered, IsPosed}
 use Rattle.qz_shard.specs.Decisions.{IsDecision, IsRepeated, IsSound}
-use Rattle.qz_shard.specs.Holdings.{Holding, IsHeld, StartsHere, is_change, is_students, is_students_event, older}
-use Rattle.qz_shard.specs.Nexts.{IsNext}
-use Rattle.qz_shard.proofs.Allowing.{IsGranted, IsOn, acted, ask_of, ended, first-none, made_ready, on-allowed, on-step, start-allowed}
-use Rattle.qz_shard.proofs.Keeping.{All-seam, and-left, and-right}
+use Rattle.qz_shard.specs.Holdings.{Holding, IsHeld, StartsHere, is_asked, is_asked_event, is_change, older}
+use Rattle.qz_shard.specs.Nexts.{CanGrow, IsNext, IsPutWith, record_by}
+use Rattle.qz_shard.proofs.Allowing.{IsGranted, IsOn, acted, ask_of, ended, noted, first-none, made_ready, on-allowed, on-step, start-allowed}
+use Rattle.qz_shard.proofs.Keeping.{All-seam, all-at, and-left, and-right}
 use Rattle.qz_shard.proofs.Learning.{learned_all}
-use Rattle.qz_shard.proofs.Legality.{free-by, legal-before, legal-push, told_event, told-pair}
+use Rattle.qz_shard.proofs.Legality.{legal-before, legal-push, told_event, told-pair}
 
 -- ---- what is kept of a moment
 
@@ -103,9 +104,16 @@ start-event-kept h user plan kept = (rw (length-bounds plan.at plan.slots, kept.
 
 -- ---- the next record
 
+asked-terms : (e : Event) → is_asked_event e ≡ true → true ≡ has_terms e
+asked-terms (event.Started quiz nth behaviour bounds learned) asked = refl
+asked-terms (event.Acted a k x) asked = refl
+asked-terms (event.Noted a k x) asked = refl
+asked-terms (event.Ended a how) asked = refl
+asked-terms e asked = absurd cc
+
 event-kept : (index count : ℕ) (h : List Record) (now : ℕ) (user : User) (plan : Plan) (key : Option (List ℕ)) (u : ℕ) (e : Event)
-    → All IsKept h → is_moment now ≡ true → IsKeptPlan plan → KeepsEvent e → IsKept (record_under (time h u now) user u key plan e)
-event-kept index count h now user plan key u e kept is planned keeps = record { moment = time-kept h u now kept is; settings = planned.settings; event = keeps }
+    → All IsKept h → is_moment now ≡ true → IsKeptPlan plan → KeepsEvent e → is_asked_event e ≡ true → IsKept (record_under (time h u now) user u key plan e)
+event-kept index count h now user plan key u e kept is planned keeps asked = record { moment = time-kept h u now kept is; terms = asked-terms e asked; settings = planned.settings; event = keeps }
 
 -- what is known where a decision makes an event
 pub record IsMaking (index count : ℕ) (h : List Record) (now : ℕ) (user : User) (plan : Plan) (who : Caller) (key : Option (List ℕ)) (x : Request) (e : Event) : Type 0 where
@@ -116,7 +124,6 @@ pub record IsMaking (index count : ℕ) (h : List Record) (now : ℕ) (user : Us
   pub asked_kept : KeepsAsked x
   pub moment : is_moment now ≡ true
   pub newer : older h plan x ≡ None
-  pub students : is_students_event e ≡ true
   pub granted : verdict_here h (moment_of h now user x) user plan (ask_of who key x) ≡ Granted
   pub there : missing_here h user x ≡ None
   pub makes : event_here h (moment_of h now user x) user plan x ≡ told_event (named_user user x) e
@@ -128,9 +135,6 @@ step-kept : (v : Moved) (a : AttemptId) (k : ℕ) (s : Step) → is_step s ≡ t
 step-kept moved_as.Kept a k s keeps = keeps
 step-kept moved_as.Same a k s keeps = keeps
 
-marks-not : (h : List Record) (a : AttemptId) (k : ℕ) (m max : ℤ) (e : Event) → event.Acted a k (step.Mark m max) ≡ e → is_students_event e ≡ true → ⊥
-marks-not h a k m max e is students = let none : false ≡ true = ap is_students_event is ∙ students in absurd cc
-
 settles-by : (overdue : Bool) (u o : ℕ) (a : AttemptId) (w : How) (e : Event) → (if overdue then told_event u (event.Ended a w) else None) ≡ told_event o e → event.Ended a w ≡ e
 settles-by true u o a w e is = (told-pair u o (event.Ended a w) e is).1
 settles-by false u o a w e is = absurd cc
@@ -138,16 +142,21 @@ settles-by false u o a w e is = absurd cc
 first-attempt : (h : List Record) (user : User) (a : AttemptId) (k : ℕ) → missing_slot h user a k ≡ None → missing_attempt h user a ≡ None
 first-attempt h user a k there = first-none (missing_attempt h user a) _ there
 
+on-asked : (a : AttemptId) (e : Event) → IsOn a e → is_asked_event e ≡ true
+on-asked a e (acted b k s) = refl
+on-asked a e (noted b k s) = refl
+on-asked a e (ended b how) = refl
+
 -- of an event on an attempt
 next-on : (index count : ℕ) (h : List Record) (now : ℕ) (user : User) (plan : Plan) (who : Caller) (key : Option (List ℕ)) (x : Request) (a : AttemptId) (e : Event)
     → IsGranted index count h (time h a.user now) user plan who key x → IsGranted index count h (time h a.user now) user (made_ready plan) who key x → missing_attempt h user a ≡ None → IsOn a e
     → put_here h (time h a.user now) user (made_ready plan) (ask_of who key x) ≡ Some (record_under (time h a.user now) user a.user key plan e)
-    → All IsKept h → is_moment now ≡ true → IsKeptPlan plan → KeepsEvent e → is_students_event e ≡ true
+    → All IsKept h → is_moment now ≡ true → IsKeptPlan plan → KeepsEvent e
     → IsNext index count h (record_under (time h a.user now) user a.user key plan e)
-next-on index count h now user plan who key x a e g ready there on put kept is planned keeps students = record {
+next-on index count h now user plan who key x a e g ready there on put kept is planned keeps = record {
   allowed = on-allowed index count h now user plan who key x a e g ready there on put;
-  kept = event-kept index count h now user plan key a.user e kept is planned keeps;
-  students = students;
+  kept = event-kept index count h now user plan key a.user e kept is planned keeps (on-asked a e on);
+  asked = on-asked a e on;
 }
 
 abbrev NextOf : ℕ → ℕ → List Record → ℕ → User → Plan → Option (List ℕ) → Request → Event → Type 0
@@ -163,8 +172,8 @@ next-made index count h now user plan who key (request.Start quiz) e change here
     let g = granting index count h now user plan who key (request.Start quiz) e m in
     subst (NextOf index count h now user plan key (request.Start quiz)) made (record {
       allowed = start-allowed index count h now user plan who key quiz g here.0 here.1 m.newer;
-      kept = event-kept index count h now user plan key user.number (started_by h user plan) m.held.kept m.moment m.plan_kept (start-event-kept h user plan m.plan_kept);
-      students = refl;
+      kept = event-kept index count h now user plan key user.number (started_by h user plan) m.held.kept m.moment m.plan_kept (start-event-kept h user plan m.plan_kept) refl;
+      asked = refl;
     })
 next-made index count h now user plan who key (request.Save a k c r) e change here m =
     let x = request.Save a k c r in
@@ -173,7 +182,7 @@ next-made index count h now user plan who key (request.Save a k c r) e change he
     let g = granting index count h now user plan who key x e m in
     next-on index count h now user plan who key x a e g (again-granted index count h (time h a.user now) user plan who key x g m.of_quiz m.granted) (first-attempt h user a k m.there)
     (subst (IsOn a) made (on-step (moved (history.steps h a k) s) a k s)) (ap (λ (d : Event). Some (record_under (time h a.user now) user a.user key plan d)) made) m.held.kept m.moment m.plan_kept
-    (subst KeepsEvent made (step-kept (moved (history.steps h a k) s) a k s m.asked_kept)) m.students
+    (subst KeepsEvent made (step-kept (moved (history.steps h a k) s) a k s m.asked_kept))
 next-made index count h now user plan who key (request.Submit a k c r) e change here m =
     let x = request.Submit a k c r in
     let s : Step = step.Submit (record { answer = r; certainty = c }) in
@@ -181,22 +190,29 @@ next-made index count h now user plan who key (request.Submit a k c r) e change 
     let g = granting index count h now user plan who key x e m in
     next-on index count h now user plan who key x a e g (again-granted index count h (time h a.user now) user plan who key x g m.of_quiz m.granted) (first-attempt h user a k m.there)
     (subst (IsOn a) made (on-step (moved (history.steps h a k) s) a k s)) (ap (λ (d : Event). Some (record_under (time h a.user now) user a.user key plan d)) made) m.held.kept m.moment m.plan_kept
-    (subst KeepsEvent made (step-kept (moved (history.steps h a k) s) a k s m.asked_kept)) m.students
+    (subst KeepsEvent made (step-kept (moved (history.steps h a k) s) a k s m.asked_kept))
 next-made index count h now user plan who key (request.Again a k) e change here m =
     let x = request.Again a k in
     let made : event.Acted a k step.Again ≡ e = (told-pair a.user a.user (event.Acted a k step.Again) e m.makes).1 in
     let g = granting index count h now user plan who key x e m in
     next-on index count h now user plan who key x a e g (again-granted index count h (time h a.user now) user plan who key x g m.of_quiz m.granted) (first-attempt h user a k m.there)
     (subst (IsOn a) made (acted a k step.Again)) (ap (λ (d : Event). Some (record_under (time h a.user now) user a.user key plan d)) made) m.held.kept m.moment m.plan_kept
-    (subst KeepsEvent made refl) m.students
+    (subst KeepsEvent made refl)
 next-made index count h now user plan who key (request.Finish a) e change here m =
     let x = request.Finish a in
     let made : event.Ended a how.Finished ≡ e = (told-pair a.user a.user (event.Ended a how.Finished) e m.makes).1 in
     let g = granting index count h now user plan who key x e m in
     next-on index count h now user plan who key x a e g (again-granted index count h (time h a.user now) user plan who key x g m.of_quiz m.granted) m.there
     (subst (IsOn a) made (ended a how.Finished)) (ap (λ (d : Event). Some (record_under (time h a.user now) user a.user key plan d)) made) m.held.kept m.moment m.plan_kept
-    (subst KeepsEvent made tt) m.students
-next-made index count h now user plan who key (request.Mark a k mark) e change here m = absurd (marks-not h a k mark _ e (told-pair a.user a.user _ e m.makes).1 m.students)
+    (subst KeepsEvent made tt)
+next-made index count h now user plan who key (request.Mark a k mark) e change here m =
+    let x = request.Mark a k mark in
+    let d : Event = event.Acted a k (step.Mark mark (max_now h a k)) in
+    let made : d ≡ e = (told-pair a.user a.user d e m.makes).1 in
+    let g = granting index count h now user plan who key x e m in
+    next-on index count h now user plan who key x a e g (again-granted index count h (time h a.user now) user plan who key x g m.of_quiz m.granted) (first-attempt h user a k m.there)
+    (subst (IsOn a) made (acted a k (step.Mark mark (max_now h a k)))) (ap (λ (d : Event). Some (record_under (time h a.user now) user a.user key plan d)) made) m.held.kept m.moment m.plan_kept
+    (subst KeepsEvent made refl)
 next-made index count h now user plan who key (request.Settle a) e change here m =
     let x = request.Settle a in
     let made : event.Ended a (settled_by plan.settings.handling) ≡ e = settles-by (is_overdue h (time h a.user now) plan a) a.user a.user a (settled_by plan.settings.handling) e m.makes in
@@ -204,7 +220,7 @@ next-made index count h now user plan who key (request.Settle a) e change here m
     let put : put_here h (time h a.user now) user (made_ready plan) (ask_of who key x) ≡ Some (record_under (time h a.user now) user a.user key plan e) =
     ap (option_map (λ (d : ℕ × Event). record_under (time h a.user now) user d.0 key plan d.1)) m.makes in
     next-on index count h now user plan who key x a e g (again-granted index count h (time h a.user now) user plan who key x g m.of_quiz m.granted) m.there
-    (subst (IsOn a) made (ended a (settled_by plan.settings.handling))) put m.held.kept m.moment m.plan_kept (subst KeepsEvent made tt) m.students
+    (subst (IsOn a) made (ended a (settled_by plan.settings.handling))) put m.held.kept m.moment m.plan_kept (subst KeepsEvent made tt)
 next-made index count h now user plan who key x e change here m = absurd cc
 
 -- ---- the longer list, and the list before
@@ -214,7 +230,7 @@ held-push index count h r held next room = record {
   shard = held.shard;
   legal = legal-push index count h r held.legal next.allowed;
   kept = All-push IsKept h r held.kept next.kept;
-  students = list_all-append is_students h (r ∷ []) ∙ rw (held.students, next.students) refl;
+  asked = list_all-append is_asked h (r ∷ []) ∙ rw (held.asked, next.asked) refl;
   few = let long = length-append h (r ∷ []) in omega arith;
 }
 
@@ -223,7 +239,7 @@ sound-parts index count l rest held kept = record {
   shard = held.shard;
   legal = legal-before index count l rest held.legal;
   kept = kept;
-  students = and-left (list_all is_students l) (list_all is_students rest) (sym (list_all-append is_students l rest) ∙ held.students);
+  asked = and-left (list_all is_asked l) (list_all is_asked rest) (sym (list_all-append is_asked l rest) ∙ held.asked);
   few = let few : length (l ++ rest) < 2 ^ 32 - 1 = held.few in let long = length-append l rest in omega arith;
 }
 
@@ -247,6 +263,18 @@ pub answer-granted : (h : List Record) (now : ℕ) (user : User) (plan : Plan) (
     × (list_after h now user plan ask ≡ h ++ record_under (moment_of h now user ask.request) user u ask.key plan e ∷ [])
 answer-granted h now user plan ask u e is made = (rw (is, made) refl, rw (is, made) refl)
 
+idle-look : (h : List Record) (moment : ℕ) (user : User) (plan : Plan) (x : Request) → is_change x ≡ true → looked_by h moment user plan x ≡ done.Idle
+idle-look h moment user plan (request.View a k) change = absurd cc
+idle-look h moment user plan (request.Total a) change = absurd cc
+idle-look h moment user plan (request.Page a) change = absurd cc
+idle-look h moment user plan (request.Grade q owner) change = absurd cc
+idle-look h moment user plan x change = refl
+
+-- there was nothing to do
+pub answer-idle : (h : List Record) (now : ℕ) (user : User) (plan : Plan) (ask : Ask) → is_change ask.request ≡ true → verdict_here h (moment_of h now user ask.request) user plan ask ≡ Granted → event_here h (moment_of h now user ask.request) user plan ask.request ≡ None
+    → (answer_here h now user plan ask ≡ reply.Ok (history.place h (named_user user ask.request)) done.Idle) × (list_after h now user plan ask ≡ h)
+answer-idle h now user plan ask change is none = (rw (is, none, idle-look h (moment_of h now user ask.request) user plan ask.request change) refl, rw (is, none) (append-nil h))
+
 -- ---- a request that was decided
 
 -- a fact of an answer that is there
@@ -262,6 +290,11 @@ repeated-kept index count g h n r v same held is repeated =
     let kept : All IsKept g = subst (All IsKept) (sym same) held.kept in
     subst IsKept (sym is) (kept n r (slice_get_within g n repeated.0 repeated.1))
 
+pub repeated-asked : (index count : ℕ) (g h : List Record) (n : ℕ) (r : Record) (v : Verdict) → g ≡ h → IsHeld index count h → r ≡ get_or g n r → IsRepeated g n v → is_asked r ≡ true
+repeated-asked index count g h n r v same held is repeated =
+    let item : r ≡ repeated.0 = is ∙ get_or_from_slice_get g n repeated.0 r repeated.1 in
+    ap is_asked item ∙ all-at is_asked g n repeated.0 (ap (list_all is_asked) same ∙ held.asked) repeated.1
+
 repeated-answer-here : (h : List Record) (now : ℕ) (user : User) (plan : Plan) (ask : Ask) (n : ℕ) (r : Record) (told : Reply) → IsRepeated h n (verdict_here h (moment_of h now user ask.request) user plan ask) → r ≡ get_or h n r → told ≡ said (take (n + 1) h) r → IsAnswered h now user plan ask told h
 repeated-answer-here h now user plan ask n r told repeated is says =
     let item : r ≡ repeated.0 = is ∙ get_or_from_slice_get h n repeated.0 r repeated.1 in
@@ -272,6 +305,16 @@ pub repeated-answer : (g h : List Record) (now moment : ℕ) (user : User) (plan
 repeated-answer g h now moment user plan ask n r told same at repeated is says =
     subst (λ (t : List Record). IsAnswered t now user plan ask told t) same
     (repeated-answer-here g now user plan ask n r told (subst (λ (m : ℕ). IsRepeated g n (verdict_here g m user plan ask)) at repeated) is says)
+
+idle-answer-here : (h : List Record) (now : ℕ) (user : User) (plan : Plan) (ask : Ask) (told : Reply) → is_change ask.request ≡ true → IsDecision h (moment_of h now user ask.request) user plan ask decision.Idle → told ≡ reply.Ok (history.place h (named_user user ask.request)) done.Idle → IsAnswered h now user plan ask told h
+idle-answer-here h now user plan ask told change idle says =
+    let answer = answer-idle h now user plan ask change idle.0 idle.1 in
+    record { reply = says ∙ sym answer.0; list = sym answer.1 }
+
+pub idle-answer : (g h : List Record) (now moment : ℕ) (user : User) (plan : Plan) (ask : Ask) (told : Reply) → g ≡ h → moment ≡ moment_of g now user ask.request → is_change ask.request ≡ true → IsDecision g moment user plan ask decision.Idle → told ≡ reply.Ok (history.place g (named_user user ask.request)) done.Idle → IsAnswered h now user plan ask told h
+idle-answer g h now moment user plan ask told same at change idle says =
+    subst (λ (t : List Record). IsAnswered t now user plan ask told t) same
+    (idle-answer-here g now user plan ask told change (subst (λ (m : ℕ). IsDecision g m user plan ask decision.Idle) at idle) says)
 
 decided-next-here : (s : Holding) (now : ℕ) (user : User) (plan : Plan) (ask : Ask) (e : Event) → IsHeld s.index s.count s.records → IsPosed s now user plan ask → IsDecision s.records (moment_of s.records now user ask.request) user plan ask (decision.Made e)
     → IsNext s.index s.count s.records (record_under (moment_of s.records now user ask.request) user (named_user user ask.request) ask.key plan e)
@@ -286,7 +329,6 @@ decided-next-here s now user plan ask e held posed d =
       asked_kept = posed.asked.kept_request;
       moment = posed.asked.kept_moment;
       newer = posed.newer;
-      students = d.2;
       granted = d.0;
       there = parts.1;
       makes = d.1;
@@ -301,6 +343,38 @@ decided-next s g now moment user plan ask e made held posed same at d is =
     let made_is : made ≡ record_under (moment_of s.records now user ask.request) user (named_user user ask.request) ask.key plan e = is ∙ ap (λ (m : ℕ). record_under m user (named_user user ask.request) ask.key plan e) at_here in
     subst (IsNext s.index s.count s.records) (sym made_is) (decided-next-here s now user plan ask e held posed there)
 
-pub put-held : {A E : Type 0} (index count : ℕ) (r : Result A E) (old new longer : List Record) → OnOk r (new ≡ longer) → OnErr r (new ≡ old) → IsHeld index count old → IsHeld index count longer → IsHeld index count new
-put-held index count (Ok x) old new longer put same held more = subst (IsHeld index count) (sym put) more
-put-held index count (Err e) old new longer put same held more = subst (IsHeld index count) (sym same) held
+-- the list is held behind a record that is put, or as it was
+pub put-held : {E : Type 0} (index count : ℕ) (told : Result Reply E) (old new : List Record) (r : Record) → IfOk told (λ reply. IsPutWith old new r reply) → OnErr told (new ≡ old) → IsHeld index count old → IsNext index count old r → IsHeld index count new
+put-held index count (Ok reply) old new r put same held next = put.held index count held next
+put-held index count (Err e) old new r put same held next = subst (IsHeld index count) (sym same) held
+
+put-here : (h g : List Record) (r : Record) (reply : Reply) → length h + 1 < 2 ^ 32 - 1 → reply ≡ said (h ++ r ∷ []) r → g ≡ h ++ r ∷ [] → IsPutWith h g r reply
+put-here h g r reply room says put = record { said_so = says; put = put; held = λ i c held next. subst (IsHeld i c) (sym put) (held-push i c h r held next room) }
+
+put-so : {E : Type 0} (told : Result Reply E) (h g : List Record) (made r : Record) → made ≡ r → length h + 1 < 2 ^ 32 - 1 → IfOk told (λ reply. reply ≡ said (h ++ made ∷ []) made) → OnOk told (g ≡ h ++ made ∷ []) → IfOk told (λ reply. IsPutWith h g r reply)
+put-so (Ok reply) h g made r same room says put = subst (λ (x : Record). IsPutWith h g x reply) same (put-here h g made reply room says put)
+put-so (Err e) h g made r same room says put = tt
+
+pub put-with : {E : Type 0} (told : Result Reply E) (h l g : List Record) (made r : Record) → l ≡ h → made ≡ r → length h + 1 < 2 ^ 32 - 1 → IfOk told (λ reply. reply ≡ said (l ++ made ∷ []) made) → OnOk told (g ≡ l ++ made ∷ []) → IfOk told (λ reply. IsPutWith h g r reply)
+put-with told h l g made r list same room says put =
+    put-so told h g made r same room (subst (λ (t : List Record). IfOk told (λ reply. reply ≡ said (t ++ made ∷ []) made)) list says) (subst (λ (t : List Record). OnOk told (g ≡ t ++ made ∷ [])) list put)
+
+granted-answer-here : (h new : List Record) (now : ℕ) (user : User) (plan : Plan) (ask : Ask) (e : Event) (told : Reply) → IsDecision h (moment_of h now user ask.request) user plan ask (decision.Made e) → IsPutWith h new (record_by (moment_of h now user ask.request) user plan ask e) told → IsAnswered h now user plan ask told new
+granted-answer-here h new now user plan ask e told made put =
+    let answer = answer-granted h now user plan ask (named_user user ask.request) e made.0 made.1 in
+    record { reply = put.said_so ∙ sym answer.0; list = put.put ∙ sym answer.1 }
+
+pub granted-answer : (g h new : List Record) (now moment : ℕ) (user : User) (plan : Plan) (ask : Ask) (e : Event) (told : Reply) → g ≡ h → moment ≡ moment_of g now user ask.request → IsDecision g moment user plan ask (decision.Made e) → IsPutWith h new (record_by moment user plan ask e) told → IsAnswered h now user plan ask told new
+granted-answer g h new now moment user plan ask e told same at made put =
+    let at_here : moment ≡ moment_of h now user ask.request = at ∙ ap (λ (t : List Record). moment_of t now user ask.request) same in
+    granted-answer-here h new now user plan ask e told
+    (subst (λ (t : List Record). IsDecision t (moment_of h now user ask.request) user plan ask (decision.Made e)) same (subst (λ (m : ℕ). IsDecision g m user plan ask (decision.Made e)) at_here made))
+    (subst (λ (m : ℕ). IsPutWith h new (record_by m user plan ask e) told) at_here put)
+
+-- the longer list is one of a shard
+pub grown-sound : (h : List Record) (made r : Record) → CanGrow h r → made ≡ r → length h + 1 < 2 ^ 32 - 1 → IsSound (h ++ made ∷ [])
+grown-sound h made r grows same room = record {
+  index = grows.index;
+  count = grows.count;
+  held = held-push grows.index grows.count h made grows.held (subst (IsNext grows.index grows.count h) (sym same) grows.next) room;
+}

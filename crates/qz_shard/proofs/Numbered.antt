@@ -78,10 +78,10 @@ below-push u n (x ∷ xs) y b same few = (b.0, b.1, below-push u n xs y b.2 same
 
 -- ---- the attempts of a user
 
-abbrev starts_one : ℕ → Record → Bool
+abbrev pub starts_one : ℕ → Record → Bool
 starts_one u r = is_owned u r && is_some (started r)
 
-abbrev made : List Record → ℕ → ℕ
+abbrev pub made : List Record → ℕ → ℕ
 made l u = how_many (starts_one u) l
 
 -- a start of a user's attempt is numbered, and counts

@@ -40,12 +40,13 @@ places-more n =
     let last : 1 + n ≡ n + 1 = omega arith in
     ap places_to more ∙ range-more 1 n ∙ ap (λ (m : ℕ). places_to n ++ m ∷ []) last
 
-slots-more : (h : List Record) (a : AttemptId) (n : ℕ) (o : Option Slot) → slot h a (n + 1) ≡ o → map history.scored (filter_map (slot h a) (places_to (n + 1))) ≡ map history.scored (filter_map (slot h a) (places_to n)) ++ map history.scored (option_to_list o)
-slots-more h a n o is =
-    ap (λ (ns : List ℕ). map history.scored (filter_map (slot h a) ns)) (places-more n)
-    ∙ ap (map history.scored) (all_of-push (slot h a) (places_to n) (n + 1))
-    ∙ map-append history.scored (filter_map (slot h a) (places_to n)) (option_to_list (slot h a (n + 1)))
-    ∙ ap (λ (s : Option Slot). map history.scored (filter_map (slot h a) (places_to n)) ++ map history.scored (option_to_list s)) is
+-- of one slot more
+pub slots-more : {B : Type 0} (f : Slot → B) (h : List Record) (a : AttemptId) (n : ℕ) (o : Option Slot) → slot h a (n + 1) ≡ o → map f (filter_map (slot h a) (places_to (n + 1))) ≡ map f (filter_map (slot h a) (places_to n)) ++ map f (option_to_list o)
+slots-more f h a n o is =
+    ap (λ (ns : List ℕ). map f (filter_map (slot h a) ns)) (places-more n)
+    ∙ ap (map f) (all_of-push (slot h a) (places_to n) (n + 1))
+    ∙ map-append f (filter_map (slot h a) (places_to n)) (option_to_list (slot h a (n + 1)))
+    ∙ ap (λ (s : Option Slot). map f (filter_map (slot h a) (places_to n)) ++ map f (option_to_list s)) is
 
 pub played-none : (h : List Record) (a : AttemptId) → ArePlayed h a 0 []
 played-none h a = record { questions = []; bound = tt; count = refl }
@@ -57,14 +58,14 @@ played-more h a n runs p so_far here = record {
   count =
       scored-push runs so_far.questions p.run p.question.now so_far.bound
       ∙ ap (λ (t : List Scored). t ++ scored (p.run, p.question.now) ∷ []) so_far.count
-      ∙ sym (slots-more h a n (Some (slot_of p.run p.question.now)) here.0);
+      ∙ sym (slots-more history.scored h a n (Some (slot_of p.run p.question.now)) here.0);
 }
 
 pub played-same : (h : List Record) (a : AttemptId) (n : ℕ) (runs : List Run) → ArePlayed h a n runs → IsSlot None (slot h a (n + 1)) → ArePlayed h a (n + 1) runs
 played-same h a n runs so_far here = record {
   questions = so_far.questions;
   bound = so_far.bound;
-  count = so_far.count ∙ sym (append-nil (map history.scored (filter_map (slot h a) (places_to n)))) ∙ sym (slots-more h a n None here);
+  count = so_far.count ∙ sym (append-nil (map history.scored (filter_map (slot h a) (places_to n)))) ∙ sym (slots-more history.scored h a n None here);
 }
 
 -- ---- one step more

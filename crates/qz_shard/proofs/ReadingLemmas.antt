@@ -28,7 +28,7 @@ few-found h a (Some s) is kept = leb-true (length s.bounds.now) 200 (and-left (n
 pub le-true : (a b : ℤ) → int_le a b ≡ true → a ≤ℤ b
 le-true a b is = le_z_yes (subst T (sym is) tt)
 
-max-mark : (b : Bound) → is_bound b ≡ true → IsMaxMark b.max
+pub max-mark : (b : Bound) → is_bound b ≡ true → IsMaxMark b.max
 max-mark b is = (le-true (pos 0) b.max (and-left (int_le (pos 0) b.max) (int_le b.max (pos (10000 * one))) is), le-true b.max (pos (10000 * one)) (and-right (int_le (pos 0) b.max) (int_le b.max (pos (10000 * one))) is))
 
 pub bound-found : (h : List Record) (a : AttemptId) (k : ℕ) (o : Option Bound) → o ≡ bound h a k → All IsKept h → IfSome o (λ b. IsMaxMark b.max)

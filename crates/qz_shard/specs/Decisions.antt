@@ -1,5 +1,5 @@
 -- What the parts of a shard that decide a request promise each other.
-use Rattle.std.specs.Prelude.{◌≡◌, ℕ, ◌+◌, true, List, take, length, slice_get, Option, Some, None, Result, MatchResult}
+use Rattle.std.specs.Prelude.{◌≡◌, ℕ, ◌+◌, true, List, take, length, slice_get, Option, Some, None, option_map, Result, MatchResult}
 use Rattle.qz_grading.specs.declared.refusal.Refusal.TheVariants as refusal
 use Rattle.qz_grading.specs.declared.refusal.Refusal.{Refusal}
 use Rattle.qz_terms.specs.declared.ask.Ask.{Ask}
@@ -11,7 +11,7 @@ use Rattle.qz_terms.specs.declared.request.Request.{Request}
 use Rattle.qz_terms.specs.declared.request.Request.TheVariants as request
 use Rattle.qz_terms.specs.Answer.{event_here, named_user}
 use Rattle.qz_terms.specs.Cause.{Verdict, Denied, Granted, Repeated, cause_here, verdict_here}
-use Rattle.qz_shard.specs.Holdings.{IsHeld, is_students_event}
+use Rattle.qz_shard.specs.Holdings.{IsHeld}
 use Rattle.qz_shard.specs.declared.decision.Decision.{Decision}
 use Rattle.qz_shard.specs.declared.decision.Decision.TheVariants as decision
 use Rattle.qz_shard.specs.declared.keys.Found.{Found}
@@ -33,10 +33,10 @@ IsFound h None v = v ≡ None
 IsFound h (Some (found.Same n)) v = (w : Verdict) × (v ≡ Some w) × IsRepeated h n w
 IsFound h (Some (found.Other place)) v = v ≡ Some (Denied (refusal.KeyReused place))
 
--- the event that a request makes of its user's list, or the first cause behind the key
-abbrev pub IsFate : List Record → ℕ → User → Plan → Request → Result Event Refusal → Type 0
+-- the event that a request makes of its user's list, where it makes one, or the first cause behind the key
+abbrev pub IsFate : List Record → ℕ → User → Plan → Request → Result (Option Event) Refusal → Type 0
 IsFate h moment user plan x fate = MatchResult fate
-    (λ e. (cause_here h moment user plan x ≡ None) × (event_here h moment user plan x ≡ Some (named_user user x, e)) × (is_students_event e ≡ true))
+    (λ e. (cause_here h moment user plan x ≡ None) × (event_here h moment user plan x ≡ option_map (λ d. (named_user user x, d)) e))
     (λ r. cause_here h moment user plan x ≡ Some r)
 
 -- the plan of a start has a question for each slot
@@ -48,4 +48,5 @@ IsWhole plan x = Unit {0}
 abbrev pub IsDecision : List Record → ℕ → User → Plan → Ask → Decision → Type 0
 IsDecision h moment user plan ask (decision.Refused r) = verdict_here h moment user plan ask ≡ Denied r
 IsDecision h moment user plan ask (decision.Repeated n) = IsRepeated h n (verdict_here h moment user plan ask)
-IsDecision h moment user plan ask (decision.Made e) = (verdict_here h moment user plan ask ≡ Granted) × (event_here h moment user plan ask.request ≡ Some (named_user user ask.request, e)) × (is_students_event e ≡ true)
+IsDecision h moment user plan ask decision.Idle = (verdict_here h moment user plan ask ≡ Granted) × (event_here h moment user plan ask.request ≡ None)
+IsDecision h moment user plan ask (decision.Made e) = (verdict_here h moment user plan ask ≡ Granted) × (event_here h moment user plan ask.request ≡ Some (named_user user ask.request, e))

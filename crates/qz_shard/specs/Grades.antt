@@ -1,10 +1,8 @@
--- The greatest of the totals of some attempts.
+-- Totals that are taken for a grade, one more at a time.
 use Rattle.std.specs.Int.{int_max}
-use Rattle.std.specs.Prelude.{List, Option, Some, None, ℤ, filter, filter_map, map}
-use Rattle.qz_grading.specs.declared.refusal.AttemptId.{AttemptId}
-use Rattle.qz_terms.specs.declared.record.Record.{Record}
-use Rattle.qz_terms.specs.History.{is_finished, total}
-use Rattle.qz_terms.specs.Rows.{greatest_total}
+use Rattle.std.specs.Prelude.{◌≡◌, ℕ, ◌≤◌, ◌*◌, List, length, Option, Some, None, ℤ, filter_map, unsigned_abs}
+use Rattle.qz_decimal.specs.Numbers.{one}
+use Rattle.qz_terms.specs.Rows.{sum_of}
 
 -- the greater of two, of those that are there
 abbrev pub greater : Option ℤ → Option ℤ → Option ℤ
@@ -12,6 +10,8 @@ greater None t = t
 greater (Some b) None = Some b
 greater (Some b) (Some t) = Some (int_max b t)
 
--- of the finished attempts that have a total
-abbrev pub highest_of : List Record → List AttemptId → Option ℤ
-highest_of h attempts = greatest_total (filter_map (λ t. t) (map (total h) (filter (is_finished h) attempts)))
+-- what the totals that are there add up to, and how many they are
+pub record IsAdded (totals : List (Option ℤ)) (sum : ℤ) (count : ℕ) : Type 0 where
+  pub sum_is : sum ≡ sum_of (filter_map (λ t. t) totals)
+  pub count_is : count ≡ length (filter_map (λ t. t) totals)
+  pub range : unsigned_abs sum ≤ count * (12000000 * one)

@@ -1,8 +1,7 @@
 -- What a shard is seen as, what is asked of it, and how it answers.
-use Rattle.std.specs.Prelude.{◌≡◌, ℕ, ◌<◌, ◌-◌, ◌^◌, ◌⊎◌, Bool, true, false, not, List, [], ◌∷◌, ◌++◌, length, if◌then◌else◌, nat_lt, nat_le, ◌&&◌, Some, None, Option, All}
+use Rattle.std.specs.Prelude.{◌≡◌, ℕ, ◌<◌, ◌-◌, ◌^◌, ◌⊎◌, Bool, true, false, List, [], ◌∷◌, ◌++◌, length, if◌then◌else◌, nat_lt, nat_le, ◌&&◌, Some, None, Option, All}
 use Rattle.std.specs.List.{list_all}
 use Rattle.qz_grading.specs.declared.refusal.Refusal.TheVariants as refusal
-use Rattle.qz_grading.specs.Steps.{is_mark}
 use Rattle.qz_terms.specs.declared.ask.Ask.{Ask}
 use Rattle.qz_terms.specs.declared.people.User.{User}
 use Rattle.qz_terms.specs.declared.plan.Plan.{Plan}
@@ -31,22 +30,22 @@ pub record Holding : Type 0 where
 abbrev pub is_shard : ℕ → ℕ → Bool
 is_shard index count = nat_lt index count && nat_le count 64
 
--- no job has bound anything yet, and no teacher has marked
-abbrev pub is_students_event : Event → Bool
-is_students_event (event.Started quiz nth behaviour bounds learned) = true
-is_students_event (event.Acted a k x) = not (is_mark x)
-is_students_event (event.Noted a k x) = true
-is_students_event (event.Ended a how) = true
-is_students_event e = false
+-- what a request puts, and no job
+abbrev pub is_asked_event : Event → Bool
+is_asked_event (event.Started quiz nth behaviour bounds learned) = true
+is_asked_event (event.Acted a k x) = true
+is_asked_event (event.Noted a k x) = true
+is_asked_event (event.Ended a how) = true
+is_asked_event e = false
 
-abbrev pub is_students : Record → Bool
-is_students r = is_students_event r.event
+abbrev pub is_asked : Record → Bool
+is_asked r = is_asked_event r.event
 
 pub record IsHeld (index count : ℕ) (h : List Record) : Type 0 where
   pub shard : is_shard index count ≡ true
   pub legal : IsLegal index count h
   pub kept : All IsKept h
-  pub students : list_all is_students h ≡ true
+  pub asked : list_all is_asked h ≡ true
   pub few : length h < 2 ^ 32 - 1
 
 -- ---- what is asked

@@ -6,3 +6,4 @@ pub mod Replays
 pub mod Nexts
 pub mod Answering
 pub mod Grades
+pub mod Pages

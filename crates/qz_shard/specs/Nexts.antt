@@ -1,11 +1,34 @@
--- A record that may be put next.
-use Rattle.std.specs.Prelude.{◌≡◌, ℕ, true, List}
+-- A record that may be put next, and a list that it was put into.
+use Rattle.std.specs.Prelude.{◌≡◌, ℕ, true, List, [], ◌∷◌, ◌++◌}
+use Rattle.qz_terms.specs.declared.ask.Ask.{Ask}
+use Rattle.qz_terms.specs.declared.people.User.{User}
+use Rattle.qz_terms.specs.declared.plan.Plan.{Plan}
+use Rattle.qz_terms.specs.declared.record.Event.{Event}
 use Rattle.qz_terms.specs.declared.record.Record.{Record}
+use Rattle.qz_terms.specs.declared.reply.Reply.{Reply}
+use Rattle.qz_terms.specs.Answer.{named_user, record_under, said}
 use Rattle.qz_terms.specs.Kept.{IsKept}
 use Rattle.qz_terms.specs.Legal.{IsAllowed}
-use Rattle.qz_shard.specs.Holdings.{is_students}
+use Rattle.qz_shard.specs.Holdings.{IsHeld, is_asked}
 
 pub record IsNext (index count : ℕ) (h : List Record) (r : Record) : Type 0 where
   pub allowed : IsAllowed index count h r
   pub kept : IsKept r
-  pub students : is_students r ≡ true
+  pub asked : is_asked r ≡ true
+
+-- the list of some shard, which may put this record next
+pub record CanGrow (h : List Record) (r : Record) : Type 0 where
+  pub index : ℕ
+  pub count : ℕ
+  pub held : IsHeld index count h
+  pub next : IsNext index count h r
+
+-- the record of an event that a request makes
+abbrev pub record_by : ℕ → User → Plan → Ask → Event → Record
+record_by moment user plan ask e = record_under moment user (named_user user ask.request) ask.key plan e
+
+-- the record stands at the end, and this is said of it
+pub record IsPutWith (h g : List Record) (r : Record) (told : Reply) : Type 0 where
+  pub said_so : told ≡ said (h ++ r ∷ []) r
+  pub put : g ≡ h ++ r ∷ []
+  pub held : (index count : ℕ) → IsHeld index count h → IsNext index count h r → IsHeld index count g

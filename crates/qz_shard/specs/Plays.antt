@@ -18,7 +18,6 @@ use Rattle.qz_terms.specs.History as history
 use Rattle.qz_terms.specs.Lists.{places_to}
 use Rattle.qz_usage.specs.Runs.{Run, IsBound, behaviour_of}
 use Rattle.qz_usage.specs.Usages.{AreBound, scored}
-use Rattle.qz_shard.specs.Holdings.{is_students_event}
 use Rattle.qz_shard.specs.declared.slots.Played.{Played}
 
 -- the slot that a run plays
@@ -43,7 +42,7 @@ IsMove s x told = MatchResult told
     (λ r. step_cause s.behaviour s.question s.bound.max s.steps x ≡ Some r)
 
 -- the event of a step on a slot, or the first cause behind the key
-abbrev pub IsStepFate : List Record → ℕ → User → Plan → AttemptId → ℕ → Step → Result Event Refusal → Type 0
+abbrev pub IsStepFate : List Record → ℕ → User → Plan → AttemptId → ℕ → Step → Result (Option Event) Refusal → Type 0
 IsStepFate h moment user plan a k x fate = MatchResult fate
-    (λ e. (answering_cause h moment user plan a k x ≡ None) × (e ≡ stepped_by h a k x) × (is_students_event e ≡ true))
+    (λ e. (answering_cause h moment user plan a k x ≡ None) × (e ≡ Some (stepped_by h a k x)))
     (λ r. answering_cause h moment user plan a k x ≡ Some r)

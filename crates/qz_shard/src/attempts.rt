@@ -2,16 +2,16 @@
 
 ghost use Rattle.std.specs.Prelude.{◌≡◌, filter, true, IfOk};
 ghost use Rattle.qz_terms.specs.Access.{expired};
+ghost use Rattle.qz_terms.specs.Answer.{is_overdue};
 ghost use Rattle.qz_terms.specs.Cause.{goes_on};
 ghost use Rattle.qz_terms.specs.History.{attempts, is_ended};
-ghost use Rattle.qz_terms.specs.Kept.{are_settings};
 ghost use Rattle.qz_terms.specs.Lists.{first_of};
 ghost use Rattle.qz_shard.specs.Decisions.{IsSound};
 
-use crate::access::expired;
 use crate::history::{ended, start, starts_at};
+use qz_access::expired;
 use qz_grading::AttemptId;
-use qz_terms::{Record, Settings};
+use qz_terms::{Plan, Record, Settings};
 use qz_text::NoMemory;
 use std::alloc::Global;
 
@@ -44,7 +44,6 @@ pub(crate) fn is_ended(records: &[Record], attempt: AttemptId) -> bool
 /// Whether an attempt goes on: it hasn't ended and isn't expired.
 fn goes_on(records: &[Record], settings: &Settings, moment: u64, attempt: AttemptId) -> bool
     requires sound { IsSound records.now }
-    requires settings { are_settings settings.now ≡ true }
     ensures { result ≡ goes_on records.now settings.now moment attempt }
 {
     if is_ended(records, attempt) {
@@ -56,6 +55,19 @@ fn goes_on(records: &[Record], settings: &Settings, moment: u64, attempt: Attemp
     }
 }
 
+/// Whether an attempt that goes on is expired.
+pub(crate) fn is_overdue(records: &[Record], moment: u64, plan: &Plan, attempt: AttemptId) -> bool
+    requires sound { IsSound records.now }
+    ensures { result ≡ is_overdue records.now moment plan.now attempt }
+{
+    match start(records, attempt) {
+        Some(begun) => {
+            !is_ended(records, attempt) && expired(&plan.settings, begun.moment, moment)
+        }
+        None => false,
+    }
+}
+
 /// The first of these attempts that goes on.
 pub(crate) fn unfinished(
     records: &[Record],
@@ -64,7 +76,6 @@ pub(crate) fn unfinished(
     attempts: &[AttemptId],
 ) -> Option<AttemptId>
     requires sound { IsSound records.now }
-    requires settings { are_settings settings.now ≡ true }
     ensures { result ≡ first_of (filter (goes_on records.now settings.now moment) attempts.now) }
 {
     let mut found = None;

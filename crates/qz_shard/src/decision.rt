@@ -3,17 +3,17 @@
 ghost use Rattle.std.specs.Prelude.{◌≡◌, length, true, option_map, unwrap_or, Some, None, IfOk};
 ghost use Rattle.qz_grading.specs.Steps.{is_answering};
 ghost use Rattle.qz_terms.specs.Answer.{named_user};
-ghost use Rattle.qz_terms.specs.Kept.{are_settings};
+ghost use Rattle.qz_terms.specs.Cause.{missing_here};
 ghost use Rattle.qz_terms.specs.declared.request.Request.TheVariants as request;
 ghost use Rattle.qz_shard.specs.Decisions.{IsSound, IsFate, IsDecision, IsWhole};
+ghost use Rattle.qz_shard.specs.Holdings.{is_change};
 
-use crate::callers::forbidden;
-use crate::fates::{Fate, fate_of_finish, fate_of_start};
+use crate::fates::{Fate, fate_of_finish, fate_of_settle, fate_of_start};
 use crate::keys::{Found, by_key};
 use crate::missing::missing_here;
-use crate::stepping::fate_of_step;
+use crate::stepping::{fate_of_mark, fate_of_step};
 use qz_grading::{Answer, Refusal, Response, Step, Steps};
-use qz_terms::{Ask, Event, Plan, Record, Request, User};
+use qz_terms::{Ask, Event, Plan, Record, Request, User, forbidden};
 use qz_text::{NoMemory, TryCopy};
 use std::alloc::Global;
 use std::sync::ledger::Ledger;
@@ -23,6 +23,8 @@ pub(crate) enum Decision {
     Refused(Refusal),
     /// It is answered as the record at this place, from 0, was.
     Repeated(usize),
+    /// There is nothing to do.
+    Idle,
     /// It makes an event.
     Made(Event),
 }
@@ -37,8 +39,7 @@ fn response_of(alloc: Global, answer: &Answer, certainty: u8) -> Result<Response
     })
 }
 
-/// What a request comes to, behind the tests of its key. A teacher's mark, a settling and a look have no event here yet, and
-/// give want of memory.
+/// What a request that may change the list comes to, behind the tests of its key.
 fn fate<L: Ledger>(
     alloc: Global,
     records: &[Record],
@@ -49,8 +50,9 @@ fn fate<L: Ledger>(
     steps: &mut Steps<L>,
 ) -> Result<Fate, NoMemory>
     requires sound { IsSound records.now }
-    requires settings { are_settings plan.now.settings ≡ true }
     requires whole { IsWhole plan.now request.now }
+    requires change { is_change request.now ≡ true }
+    requires there { missing_here records.now user.now request.now ≡ None }
     ensures { IfOk result (IsFate records.now moment user.now plan.now request.now) }
 {
     match request {
@@ -89,7 +91,37 @@ fn fate<L: Ledger>(
             steps,
         ),
         Request::Finish { attempt } => { Ok(fate_of_finish(records, moment, user, plan, *attempt)) }
-        _ => Err(NoMemory),
+        Request::Mark {
+            attempt,
+            slot,
+            mark,
+        } => fate_of_mark(
+            alloc, records, moment, user, plan, *attempt, *slot, *mark, steps,
+        ),
+        Request::Settle { attempt } => { Ok(fate_of_settle(records, moment, user, plan, *attempt)) }
+        Request::User { .. }
+        | Request::Group { .. }
+        | Request::Member { .. }
+        | Request::Import { .. }
+        | Request::Edit { .. }
+        | Request::Tune { .. }
+        | Request::Quiz { .. }
+        | Request::Slot { .. }
+        | Request::Ready { .. }
+        | Request::Remax { .. }
+        | Request::Policy { .. }
+        | Request::Times { .. }
+        | Request::Override { .. }
+        | Request::Regrade { .. }
+        | Request::Work { .. }
+        | Request::Live { .. }
+        | Request::Jobs
+        | Request::View { .. }
+        | Request::Total { .. }
+        | Request::Page { .. }
+        | Request::Grade { .. }
+        | Request::Report { .. }
+        | Request::Bank { .. } => unreachable!(),
     }
 }
 
@@ -105,8 +137,8 @@ pub(crate) fn decide<L: Ledger>(
     steps: &mut Steps<L>,
 ) -> Result<Decision, NoMemory>
     requires sound { IsSound records.now }
-    requires settings { are_settings plan.now.settings ≡ true }
     requires whole { IsWhole plan.now ask.now.request }
+    requires change { is_change ask.now.request ≡ true }
     ensures { IfOk result (IsDecision records.now moment user.now plan.now ask.now) }
 {
     if let Some(refusal) = forbidden(user, &ask.request) {
@@ -115,13 +147,14 @@ pub(crate) fn decide<L: Ledger>(
     if let Some(refusal) = missing_here(records, user, &ask.request) {
         return Ok(Decision::Refused(refusal));
     }
-    match by_key(alloc, records, user.number, ask)? {
+    match by_key(records, user.number, ask) {
         Some(Found::Same(at)) => return Ok(Decision::Repeated(at)),
         Some(Found::Other(place)) => return Ok(Decision::Refused(Refusal::KeyReused { place })),
         None => {}
     }
     match fate(alloc, records, moment, user, plan, &ask.request, steps)? {
-        Ok(event) => Ok(Decision::Made(event)),
+        Ok(Some(event)) => Ok(Decision::Made(event)),
+        Ok(None) => Ok(Decision::Idle),
         Err(refusal) => Ok(Decision::Refused(refusal)),
     }
 }

@@ -1,24 +1,23 @@
 //! What a request comes to: the event that it makes, or the first cause for which it is refused.
 
 ghost use Rattle.std.specs.Prelude.{◌≡◌, ◌+◌, ◌-◌, ◌<◌, ◌^◌, length, true, Some, None, IfOk};
-ghost use Rattle.qz_terms.specs.Access.{finish_cause, answer_cause};
+ghost use Rattle.qz_terms.specs.Access.{finish_cause, settled_by};
 ghost use Rattle.qz_terms.specs.Cause.{time_cause};
 ghost use Rattle.qz_terms.specs.History.{ended_at};
-ghost use Rattle.qz_terms.specs.Kept.{are_settings};
 ghost use Rattle.qz_terms.specs.declared.request.Request.TheVariants as request;
 ghost use Rattle.qz_shard.specs.Decisions.{IsSound, IsFate};
 
-use crate::access::{finish_cause, start_cause};
-use crate::attempts::{attempts, unfinished};
+use crate::attempts::{attempts, is_overdue, unfinished};
 use crate::history::{ended_at, start};
 use crate::starting::started;
+use qz_access::{may_finish, may_start};
 use qz_grading::{AttemptId, Refusal};
-use qz_terms::{Event, How, Plan, Record, Settings, User};
+use qz_terms::{Event, Handling, How, Plan, Record, Settings, User};
 use qz_text::NoMemory;
 use std::alloc::Global;
 
-/// The event of a request, or why it is refused.
-pub(crate) type Fate = Result<Event, Refusal>;
+/// The event of a request, none where there is nothing to do, or why it is refused.
+pub(crate) type Fate = Result<Option<Event>, Refusal>;
 
 /// So many attempts a user makes at a quiz.
 const MOST_ATTEMPTS: u32 = 1_000;
@@ -33,13 +32,13 @@ pub(crate) fn fate_of_start(
     quiz: u32,
 ) -> Result<Fate, NoMemory>
     requires sound { IsSound records.now }
-    requires settings { are_settings plan.now.settings ≡ true }
     requires whole { length plan.now.questions ≡ length plan.now.slots }
     ensures { IfOk result (IsFate records.now moment user.now plan.now (request.Start quiz)) }
 {
     let made = attempts(alloc, records, quiz, user.number)?;
     let goes_on = unfinished(records, &plan.settings, moment, &made);
-    if let Some(refusal) = start_cause(&plan.settings, plan.ready, moment, made.len(), goes_on) {
+    let count = made.len() as u64;
+    if let Err(refusal) = may_start(&plan.settings, plan.ready, moment, count, goes_on) {
         return Ok(Err(refusal));
     }
     if made.len() >= MOST_ATTEMPTS as usize {
@@ -47,7 +46,7 @@ pub(crate) fn fate_of_start(
             limit: MOST_ATTEMPTS,
         }));
     }
-    Ok(Ok(started(alloc, records, user, plan)?))
+    Ok(Ok(Some(started(alloc, records, user, plan)?)))
 }
 
 /// The first cause that lies with time for which a finish is refused.
@@ -58,12 +57,11 @@ fn finish_time(
     attempt: AttemptId,
 ) -> Option<Refusal>
     requires sound { IsSound records.now }
-    requires settings { are_settings settings.now ≡ true }
     ensures { result ≡ time_cause (λ began. finish_cause settings.now began moment (ended_at records.now attempt)) records.now attempt }
 {
     let begun = start(records, attempt)?;
     let ended = ended_at(records, attempt);
-    finish_cause(settings, begun.moment, moment, ended)
+    may_finish(settings, begun.moment, moment, ended).err()
 }
 
 /// What a finish comes to.
@@ -75,14 +73,43 @@ pub(crate) fn fate_of_finish(
     attempt: AttemptId,
 ) -> Fate
     requires sound { IsSound records.now }
-    requires settings { are_settings plan.now.settings ≡ true }
     ensures { IsFate records.now moment user.now plan.now (request.Finish attempt) result }
 {
     match finish_time(records, &plan.settings, moment, attempt) {
         Some(refusal) => Err(refusal),
-        None => Ok(Event::Ended {
+        None => Ok(Some(Event::Ended {
             attempt,
             how: How::Finished,
-        }),
+        })),
     }
+}
+
+/// How a settling ends an attempt that is expired.
+fn settled_by(handling: Handling) -> How
+    ensures { result ≡ settled_by handling }
+{
+    match handling {
+        Handling::AutoSubmit => How::Finished,
+        Handling::GracePeriod | Handling::AutoAbandon => How::Abandoned,
+    }
+}
+
+/// What a settling comes to: an attempt that goes on and is expired ends, and any other stays as it is.
+pub(crate) fn fate_of_settle(
+    records: &[Record],
+    moment: u64,
+    user: &User,
+    plan: &Plan,
+    attempt: AttemptId,
+) -> Fate
+    requires sound { IsSound records.now }
+    ensures { IsFate records.now moment user.now plan.now (request.Settle attempt) result }
+{
+    if !is_overdue(records, moment, plan, attempt) {
+        return Ok(None);
+    }
+    Ok(Some(Event::Ended {
+        attempt,
+        how: settled_by(plan.settings.handling),
+    }))
 }

@@ -1,69 +1,42 @@
-//! The grade of a user at a quiz. Moodle's manual page "Grading method" names the four methods.
+//! The grade of a user at a quiz.
 
-ghost use Rattle.std.specs.Prelude.{◌≡◌, ◌≤◌, ◌*◌, true, filter, filter_map, map, option_to_list, unsigned_abs, IfOk, IfSome};
-ghost use Rattle.qz_decimal.specs.Numbers.{one, IsMaxSum, IsQuizGrade};
-ghost use Rattle.qz_terms.specs.History.{row};
-ghost use Rattle.qz_terms.specs.Rows.{graded_by};
+ghost use Rattle.std.specs.Prelude.{◌≡◌, ◌≤◌, All, filter, length, map, true, IfOk, IfSome};
+ghost use Rattle.qz_decimal.specs.Numbers.{IsMaxSum, IsQuizGrade};
+ghost use Rattle.qz_terms.specs.History.{is_finished, row, total};
 ghost use Rattle.qz_usage.specs.Usages.{IsTotal};
 ghost use Rattle.qz_shard.specs.Decisions.{IsSound};
-ghost use Rattle.qz_shard.specs.Grades.{greater, highest_of};
 
 use crate::attempts::attempts;
-use crate::totals::total;
-use qz_decimal::{Grade, Mark, grade_of};
+use crate::gradebook::row_of;
+use crate::totals::{is_finished, total};
+use qz_decimal::{Grade, Mark};
 use qz_grading::{AttemptId, Steps};
-use qz_terms::{Method, Policy, Record};
+use qz_terms::{Policy, Record};
 use qz_text::NoMemory;
 use std::alloc::Global;
 use std::sync::ledger::Ledger;
 
-/// The greater of two totals, of those that are there.
-fn greater(best: Option<Mark>, total: Option<Mark>) -> Option<Mark>
-    requires best { IfSome best IsTotal }
-    requires total { IfSome total IsTotal }
-    ensures value { result ≡ greater best total }
-    ensures range { IfSome result IsTotal }
-{
-    match (best, total) {
-        (Some(best), Some(total)) if total.0 < best.0 => Some(best),
-        (Some(_), Some(total)) => Some(total),
-        (Some(best), None) => Some(best),
-        (None, total) => total,
-    }
-}
-
-/// The greatest total of these attempts (in 10^-7), of those that have one.
-fn highest<L: Ledger>(
+/// The totals (in 10^-7) of those of these attempts that are finished, in order.
+fn finished_totals<L: Ledger>(
     alloc: Global,
     records: &[Record],
     attempts: &[AttemptId],
     steps: &mut Steps<L>,
-) -> Result<Option<Mark>, NoMemory>
+) -> Result<Vec<Option<Mark>>, NoMemory>
     requires { IsSound records.now }
-    ensures value { IfOk result (λ best. best ≡ highest_of records.now attempts.now) }
-    ensures range { IfOk result (λ best. IfSome best IsTotal) }
+    ensures value { IfOk result (λ ts. ts.items ≡ map (total records.now) (filter (is_finished records.now) attempts.now)) }
+    ensures range { IfOk result (λ ts. All (λ t. IfSome t IsTotal) ts.items) }
 {
-    let mut best = None;
+    let mut totals = Vec::new(alloc);
     for attempt in attempts {
-        let here = total(alloc, records, *attempt, steps)?;
-        best = greater(best, here);
+        if is_finished(records, *attempt) {
+            totals.push(total(alloc, records, *attempt, steps)?)?;
+        }
     }
-    Ok(best)
+    Ok(totals)
 }
 
-/// The grade that a total makes, if it is there.
-fn graded(policy: &Policy, total: Option<Mark>) -> Option<Grade>
-    requires grade { IsQuizGrade policy.now.grade }
-    requires sum { IsMaxSum policy.now.sum }
-    requires range { IfSome total IsTotal }
-    ensures { result ≡ graded_by policy.now (option_to_list total) }
-{
-    let total = i128::from(total?.0);
-    Some(grade_of(total, 1, policy.grade, policy.sum))
-}
-
-/// The grade of a user at a quiz (in 10^-5), and none where no attempt has a total. A method other than the highest total gives
-/// want of memory yet.
+/// The grade of a user at a quiz (in 10^-5), and none where no total is taken.
 pub(crate) fn row<L: Ledger>(
     alloc: Global,
     records: &[Record],
@@ -77,12 +50,7 @@ pub(crate) fn row<L: Ledger>(
     requires sum { IsMaxSum policy.now.sum }
     ensures { IfOk result (λ g. g ≡ row records.now quiz policy.now user) }
 {
-    match policy.method {
-        Method::Highest => {
-            let attempts = attempts(alloc, records, quiz, user)?;
-            let best = highest(alloc, records, &attempts, steps)?;
-            Ok(graded(policy, best))
-        }
-        Method::Average | Method::First | Method::Last => Err(NoMemory),
-    }
+    let attempts = attempts(alloc, records, quiz, user)?;
+    let totals = finished_totals(alloc, records, &attempts, steps)?;
+    Ok(row_of(policy, &totals))
 }

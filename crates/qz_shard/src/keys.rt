@@ -1,14 +1,12 @@
 //! Requests that are asked again: a key stands in the list with the request that it was first given to.
 
-ghost use Rattle.std.specs.Prelude.{◌≡◌, ◌+◌, take, position, option_and_then, IfOk};
-ghost use Rattle.qz_terms.specs.Cause.{by_key, has_key, said_at, same_slot, same_step, spells};
+ghost use Rattle.std.specs.Prelude.{◌≡◌, ◌+◌, take, option_and_then};
+ghost use Rattle.qz_terms.specs.Cause.{by_key, said_at, same_slot, same_step, spells};
 ghost use Rattle.qz_shard.specs.Decisions.{IsFound};
 
 use crate::history::{is_same, place};
-use qz_grading::{AttemptId, Response, Step, same};
-use qz_terms::{Ask, Event, Record, Request};
-use qz_text::{NoMemory, Text, TryCopy};
-use std::alloc::Global;
+use qz_grading::{AttemptId, Step, same_answer};
+use qz_terms::{Ask, Event, Record, Request, place_of};
 
 /// What stands under a request's key.
 pub(crate) enum Found {
@@ -16,26 +14,6 @@ pub(crate) enum Found {
     Same(usize),
     /// Another one, whose reply had this place.
     Other(u64),
-}
-
-/// Whether a record has this caller and key.
-fn has_key(caller: u32, key: &Text, record: &Record) -> bool
-    ensures { result ≡ has_key caller key.now «record».now }
-{
-    record.caller == caller
-        && match &record.key {
-            Some(other) => other.as_bytes() == key.as_bytes(),
-            None => false,
-        }
-}
-
-/// The place in the list, from 0, of the first record with this caller and key.
-fn place_of(records: &[Record], caller: u32, key: &Text) -> Option<usize>
-    ensures { result ≡ position (has_key caller key.now) records.now }
-{
-    records
-        .iter()
-        .position(|record| has_key(caller, key, record))
 }
 
 /// The place that the reply for a record carries, over the list that ends with it.
@@ -77,8 +55,8 @@ fn same_slot(attempt: AttemptId, slot: u16, request: &Request) -> bool
 }
 
 /// Whether a step is the one that a request asks for.
-fn same_step(alloc: Global, step: &Step, request: &Request) -> Result<bool, NoMemory>
-    ensures { IfOk result (λ is. is ≡ same_step step.now request.now) }
+fn same_step(step: &Step, request: &Request) -> bool
+    ensures { result ≡ same_step step.now request.now }
 {
     match (step, request) {
         (
@@ -96,25 +74,19 @@ fn same_step(alloc: Global, step: &Step, request: &Request) -> Result<bool, NoMe
                 response,
                 ..
             },
-        ) => {
-            let asked = Response {
-                answer: response.try_copy(alloc)?,
-                certainty: *certainty,
-            };
-            Ok(same(kept, &asked))
-        }
-        (Step::Again, Request::Again { .. }) => Ok(true),
-        (Step::Mark { mark, .. }, Request::Mark { mark: asked, .. }) => Ok(mark.0 == asked.0),
-        _ => Ok(false),
+        ) => same_answer(&kept.answer, response) && kept.certainty == *certainty,
+        (Step::Again, Request::Again { .. }) => true,
+        (Step::Mark { mark, .. }, Request::Mark { mark: asked, .. }) => mark.0 == asked.0,
+        _ => false,
     }
 }
 
 /// Whether a record was made by this request.
-fn spells(alloc: Global, request: &Request, record: &Record) -> Result<bool, NoMemory>
-    ensures { IfOk result (λ is. is ≡ spells request.now «record».now) }
+fn spells(request: &Request, record: &Record) -> bool
+    ensures { result ≡ spells request.now «record».now }
 {
     match (&record.event, request) {
-        (Event::Started { quiz, .. }, Request::Start { quiz: asked }) => Ok(asked == quiz),
+        (Event::Started { quiz, .. }, Request::Start { quiz: asked }) => asked == quiz,
         (
             Event::Acted {
                 attempt,
@@ -127,32 +99,27 @@ fn spells(alloc: Global, request: &Request, record: &Record) -> Result<bool, NoM
                 step,
             },
             _,
-        ) => Ok(same_slot(*attempt, *slot, request) && same_step(alloc, step, request)?),
+        ) => same_slot(*attempt, *slot, request) && same_step(step, request),
         (Event::Ended { attempt, .. }, Request::Finish { attempt: asked }) => {
-            Ok(is_same(*attempt, *asked))
+            is_same(*attempt, *asked)
         }
-        _ => Ok(false),
+        _ => false,
     }
 }
 
 /// What stands under the key of a request, if it has one and it stands there.
-pub(crate) fn by_key(
-    alloc: Global,
-    records: &[Record],
-    caller: u32,
-    ask: &Ask,
-) -> Result<Option<Found>, NoMemory>
-    ensures { IfOk result (λ found. IsFound records.now found (by_key (spells ask.now.request) caller ask.now.key records.now)) }
+pub(crate) fn by_key(records: &[Record], caller: u32, ask: &Ask) -> Option<Found>
+    ensures { IsFound records.now result (by_key (spells ask.now.request) caller ask.now.key records.now) }
 {
     let Some(key) = &ask.key else {
-        return Ok(None);
+        return None;
     };
     let Some(at) = place_of(records, caller, key) else {
-        return Ok(None);
+        return None;
     };
     let record = &records[at];
-    if spells(alloc, &ask.request, record)? {
-        return Ok(Some(Found::Same(at)));
+    if spells(&ask.request, record) {
+        return Some(Found::Same(at));
     }
-    Ok(Some(Found::Other(said_at(&records[..at + 1], record))))
+    Some(Found::Other(said_at(&records[..at + 1], record)))
 }

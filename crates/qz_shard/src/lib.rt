@@ -1,17 +1,18 @@
 //! One shard: the records of its users' attempts, what is asked of them, and what is answered.
 #![tactic(auto)]
 
-mod access;
 mod attempts;
-mod callers;
 mod decision;
 mod fates;
+mod feedback;
+mod gradebook;
 mod grades;
 mod history;
 mod keys;
 pub mod laws;
 mod looking;
 mod missing;
+mod pages;
 mod putting;
 mod replies;
 mod review;
@@ -20,5 +21,6 @@ mod slots;
 mod starting;
 mod stepping;
 mod totals;
+mod viewing;
 
 pub use shard::{Older, Shard};

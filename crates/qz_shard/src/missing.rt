@@ -3,10 +3,9 @@
 ghost use Rattle.std.specs.Prelude.{◌≡◌};
 ghost use Rattle.qz_terms.specs.Cause.{missing_attempt, missing_slot, missing_here};
 
-use crate::callers::is_anothers;
 use crate::history::{slot_count, start};
 use qz_grading::{AttemptId, Refusal, Thing};
-use qz_terms::{Record, Request, User};
+use qz_terms::{Record, Request, User, is_anothers};
 
 /// The refusal of a request that names an attempt that isn't there, or to a student another's.
 fn missing_attempt(records: &[Record], user: &User, attempt: AttemptId) -> Option<Refusal>

@@ -1,9 +1,11 @@
 //! How a record is made and put at the end of the list.
 
-ghost use Rattle.std.specs.Prelude.{◌≡◌, ◌++◌, ◌∷◌, [], IfOk, OnOk, OnErr};
-ghost use Rattle.qz_terms.specs.Answer.{attempt_named, moment_of, named_user, record_under, said};
+ghost use Rattle.std.specs.Prelude.{◌≡◌, ◌+◌, ◌-◌, ◌<◌, ◌^◌, ◌++◌, ◌∷◌, [], length, true, IfOk, OnOk, OnErr};
+ghost use Rattle.qz_terms.specs.Answer.{attempt_named, moment_of, named_user, said};
 ghost use Rattle.qz_terms.specs.Kept.{IsKept};
 ghost use Rattle.qz_shard.specs.Decisions.{IsSound};
+ghost use Rattle.qz_shard.specs.Holdings.{is_asked};
+ghost use Rattle.qz_shard.specs.Nexts.{CanGrow, IsPutWith, record_by};
 
 use crate::history::time;
 use crate::replies::said;
@@ -13,8 +15,11 @@ use qz_text::{Listed, NoMemory, Text, TryCopy};
 use std::alloc::Global;
 use std::sync::ledger::Ledger;
 
+/// So many records a list holds, since the attempts of a user are numbered in 32 bits.
+const MOST_RECORDS: usize = 4_294_967_293;
+
 /// The attempt that a request names, if it names one.
-fn attempt_named(request: &Request) -> Option<AttemptId>
+pub(crate) fn attempt_named(request: &Request) -> Option<AttemptId>
     ensures { result ≡ attempt_named request.now }
 {
     match request {
@@ -62,7 +67,7 @@ fn copy_of(alloc: Global, key: &Option<Text>) -> Result<Option<Text>, NoMemory>
 }
 
 /// The record of an event that a request makes.
-pub(crate) fn record_of(
+fn record_of(
     alloc: Global,
     moment: u64,
     user: &User,
@@ -70,7 +75,7 @@ pub(crate) fn record_of(
     ask: &Ask,
     event: Event,
 ) -> Result<Record, NoMemory>
-    ensures { IfOk result (λ r. r ≡ record_under moment user.now (named_user user.now ask.now.request) ask.now.key plan.now event) }
+    ensures { IfOk result (λ r. r ≡ record_by moment user.now plan.now ask.now event) }
 {
     Ok(Record {
         moment,
@@ -85,8 +90,19 @@ pub(crate) fn record_of(
     })
 }
 
+/// Makes room for one more record. A list that has its greatest number of records grows no more, and that is a want of memory.
+fn make_room(records: &mut Listed<Record>) -> Result<(), NoMemory>
+    ensures few { OnOk result (length records.old + 1 < 2 ^ 32 - 1) }
+    ensures unchanged { records.new ≡ records.old }
+{
+    if records.items.len() >= MOST_RECORDS {
+        return Err(NoMemory);
+    }
+    Ok(records.items.reserve(1)?)
+}
+
 /// Puts a record at the end, and gives what is said of it. Where memory is wanting the list is as before.
-pub(crate) fn put<L: Ledger>(
+fn append<L: Ledger>(
     alloc: Global,
     records: &mut Listed<Record>,
     record: Record,
@@ -94,6 +110,7 @@ pub(crate) fn put<L: Ledger>(
 ) -> Result<Reply, NoMemory>
     requires sound { IsSound (records.old ++ «record» ∷ []) }
     requires kept { IsKept «record» }
+    requires asked { is_asked «record» ≡ true }
     ensures said { IfOk result (λ reply. reply ≡ said (records.old ++ «record» ∷ []) «record») }
     ensures put { OnOk result (records.new ≡ records.old ++ «record» ∷ []) }
     ensures unchanged { OnErr result (records.new ≡ records.old) }
@@ -108,4 +125,24 @@ pub(crate) fn put<L: Ledger>(
             Err(wanting)
         }
     }
+}
+
+/// Puts the record of an event at the end, and gives what is said of it. Where memory is wanting the list is as before.
+pub(crate) fn put<L: Ledger>(
+    alloc: Global,
+    records: &mut Listed<Record>,
+    moment: u64,
+    user: &User,
+    plan: &Plan,
+    ask: &Ask,
+    event: Event,
+    steps: &mut Steps<L>,
+) -> Result<Reply, NoMemory>
+    requires { CanGrow records.old (record_by moment user.now plan.now ask.now event) }
+    ensures put { IfOk result (λ reply. IsPutWith records.old records.new (record_by moment user.now plan.now ask.now event) reply) }
+    ensures unchanged { OnErr result (records.new ≡ records.old) }
+{
+    make_room(records)?;
+    let made = record_of(alloc, moment, user, plan, ask, event)?;
+    append(alloc, records, made, steps)
 }

@@ -4,13 +4,14 @@ ghost use Rattle.std.specs.Prelude.{◌≡◌, true, option_map, unwrap_or, IfOk
 ghost use Rattle.qz_terms.specs.Answer.{due_by, ended_reply, is_visible, reply_by, said, shown_mark_in, shown_state_in};
 ghost use Rattle.qz_terms.specs.Kept.{IsKept};
 ghost use Rattle.qz_shard.specs.Decisions.{IsSound};
+ghost use Rattle.qz_shard.specs.Holdings.{is_asked};
 
-use crate::access::due;
 use crate::attempts::is_ended;
 use crate::keys::said_at;
 use crate::review::{shown_mark, shown_state, shows_marks};
 use crate::slots::standing;
 use crate::totals::total;
+use qz_access::due;
 use qz_decimal::Mark;
 use qz_grading::{AttemptId, State, Step, Steps};
 use qz_terms::{Done, Event, How, Record, Reply, Shown};
@@ -82,7 +83,7 @@ fn ended_reply<L: Ledger>(
     })
 }
 
-/// What was done by a record. A record that no shard has gives want of memory.
+/// What was done by a record that a request put.
 fn reply_by<L: Ledger>(
     alloc: Global,
     records: &[Record],
@@ -91,6 +92,7 @@ fn reply_by<L: Ledger>(
 ) -> Result<Done, NoMemory>
     requires sound { IsSound records.now }
     requires kept { IsKept «record».now }
+    requires asked { is_asked «record».now ≡ true }
     ensures { IfOk result (λ done. done ≡ reply_by records.now «record».now («record».now).event) }
 {
     match &record.event {
@@ -118,7 +120,11 @@ fn reply_by<L: Ledger>(
             Ok(Done::Same { state, mark })
         }
         Event::Ended { attempt, how } => ended_reply(alloc, records, record, *attempt, *how, steps),
-        _ => Err(NoMemory),
+        Event::Founded { .. }
+        | Event::Asked { .. }
+        | Event::Rebound { .. }
+        | Event::Skipped { .. }
+        | Event::JobDone { .. } => unreachable!(),
     }
 }
 
@@ -131,6 +137,7 @@ pub(crate) fn said<L: Ledger>(
 ) -> Result<Reply, NoMemory>
     requires sound { IsSound records.now }
     requires kept { IsKept «record».now }
+    requires asked { is_asked «record».now ≡ true }
     ensures { IfOk result (λ reply. reply ≡ said records.now «record».now) }
 {
     Ok(Reply::Ok {

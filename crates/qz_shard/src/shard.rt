@@ -2,31 +2,41 @@
 
 ghost use Rattle.std.specs.Prelude.{◌≡◌, ◌⊎◌, ◌≤◌, List, [], length, true, false, Some, None, option_map, IfOk, IfErr, OnOk, OnErr, MatchResult};
 ghost use Rattle.qz_grading.specs.declared.refusal.Refusal.TheVariants as refusal;
-ghost use Rattle.qz_terms.specs.History.{quiz};
+ghost use Rattle.qz_terms.specs.declared.reply.Done.TheVariants as done;
+ghost use Rattle.qz_terms.specs.declared.reply.Reply.TheVariants as reply;
+ghost use Rattle.qz_terms.specs.Answer.{named_user};
+ghost use Rattle.qz_terms.specs.History.{place, quiz};
 ghost use Rattle.qz_terms.specs.Legal.{IsLegal};
 ghost use Rattle.qz_shard.specs.Answering.{IsAnswered, IsPosed};
 ghost use Rattle.qz_shard.specs.Holdings.{is_shard, is_change, is_look, IsAsked, StartsHere, older, Answers, IsAnsweredAgain};
 
 use crate::decision::{Decision, decide};
-use crate::history::{floor, start};
+use crate::history::{floor, place, start};
 use crate::looking::seen;
-use crate::putting::{moment_of, put, record_of};
+use crate::putting::{moment_of, named_user, put};
 use crate::replies::said;
 use qz_grading::{AttemptId, Refusal, Steps, Thing};
-use qz_terms::{Ask, Plan, Record, Reply, Request, User};
+use qz_terms::{Ask, Done, Plan, Record, Reply, Request, User};
 use qz_text::{Listed, NoMemory};
 use std::alloc::Global;
 use std::marker::Model;
 use std::sync::ledger::Ledger;
-
-/// So many records a shard holds.
-const MOST_RECORDS: usize = 4_294_967_293;
 
 /// A start's plan is older than a job that is done here. It is to be read again, from a catalogue that has at least the
 /// position `floor`.
 #[derive(Clone, Copy, Debug, PartialEq, Eq)]
 pub struct Older {
     pub floor: u64,
+}
+
+/// What is said of a request that had nothing to do.
+fn idle(records: &[Record], user: &User, request: &Request) -> Reply
+    ensures { result ≡ reply.Ok (place records.now (named_user user.now request.now)) done.Idle }
+{
+    Reply::Ok {
+        place: place(records, named_user(user, request)),
+        done: Done::Idle,
+    }
 }
 
 /// The records of the attempts of a part of the users: those whose number, modulo the number of shards, is the shard's index.
@@ -165,13 +175,21 @@ impl Shard {
             Decision::Repeated(at) => {
                 return said(alloc, &records[..at + 1], &records[at], steps);
             }
+            Decision::Idle => {
+                return Ok(idle(records, user, &ask.request));
+            }
             Decision::Made(event) => event,
         };
-        if records.len() >= MOST_RECORDS {
-            return Err(NoMemory);
-        }
-        let made = record_of(alloc, moment, user, plan, ask, event)?;
-        put(alloc, &mut self.records, made, steps)
+        put(
+            alloc,
+            &mut self.records,
+            moment,
+            user,
+            plan,
+            ask,
+            event,
+            steps,
+        )
     }
 
     /// The floor of the quiz, where the plan of a start is older.

@@ -1,16 +1,16 @@
 //! The slots of an attempt, played again from their first step.
 
-ghost use Rattle.std.specs.Prelude.{◌≡◌, ◌≤◌, [], true, false, not, IfOk, OnOk};
-ghost use Rattle.qz_grading.specs.Steps.{is_mark};
+ghost use Rattle.std.specs.Prelude.{◌≡◌, [], true, is_some, Some, IfOk, OnOk};
 ghost use Rattle.qz_terms.specs.History as history;
 ghost use Rattle.qz_terms.specs.History.{state, mark, step_in};
 ghost use Rattle.qz_usage.specs.Runs.{Adds, IsBound, behaviour_of};
 ghost use Rattle.qz_shard.specs.Decisions.{IsSound};
 ghost use Rattle.qz_shard.specs.Plays.{IsSlot};
+ghost use Rattle.qz_shard.specs.Replays.{CanAdd, CanFollow};
 
 use crate::history::{bound, is_same, start, version};
 use qz_decimal::Mark;
-use qz_grading::{AttemptId, Moved, Question, State, Step, Steps};
+use qz_grading::{AttemptId, Question, State, Step, Steps};
 use qz_terms::{Event, How, Record};
 use qz_text::{NoMemory, TryCopy};
 use qz_usage::SlotRun;
@@ -47,28 +47,24 @@ fn step_in(
     }
 }
 
-/// Takes a step that was taken before.
-fn repeat<L: Ledger>(
+/// Follows a step that was taken before, whether or not it would be taken now.
+fn follow<L: Ledger>(
     run: &mut SlotRun,
     question: &Question,
     step: Step,
     steps: &mut Steps<L>,
 ) -> Result<(), NoMemory>
-    requires { IsBound run.old question.now }
+    requires question { IsBound run.old question.now }
+    requires adds { CanAdd (behaviour_of run.old) question.now run.old.steps step }
     ensures adds { OnOk result (Adds run.old run.new step) }
     ensures question { IsBound run.new question.now }
 {
-    if matches!(step, Step::Mark { .. }) {
-        return Err(NoMemory);
-    }
     run.reserve()?;
-    match run.act(question, step, steps) {
-        Ok(Moved::Kept) => Ok(()),
-        _ => Err(NoMemory),
-    }
+    run.feed(question, step, steps);
+    Ok(())
 }
 
-/// Takes the steps of a slot in order.
+/// Follows the steps of a slot in order.
 fn replay<L: Ledger>(
     alloc: Global,
     records: &[Record],
@@ -80,6 +76,7 @@ fn replay<L: Ledger>(
 ) -> Result<(), NoMemory>
     requires question { IsBound run.old question.now }
     requires fresh { run.old.steps ≡ [] }
+    requires follows { CanFollow (behaviour_of run.old) question.now (history.steps records.now attempt slot) }
     ensures steps { OnOk result (run.new.steps ≡ history.steps records.now attempt slot) }
     ensures bound { OnOk result (run.new.bound ≡ run.old.bound) }
     ensures behaviour { OnOk result (behaviour_of run.new ≡ behaviour_of run.old) }
@@ -87,7 +84,7 @@ fn replay<L: Ledger>(
 {
     for record in records {
         if let Some(step) = step_in(alloc, attempt, slot, record)? {
-            repeat(run, question, step, steps)?;
+            follow(run, question, step, steps)?;
         }
     }
     Ok(())
@@ -116,6 +113,24 @@ pub(crate) fn slot<'a, L: Ledger>(
     let mut run = SlotRun::new(alloc, begun.behaviour, question, bound)?;
     replay(alloc, records, attempt, slot, question, &mut run, steps)?;
     Ok(Some(Played { question, run }))
+}
+
+/// A slot of an attempt that is there.
+pub(crate) fn slot_there<'a, L: Ledger>(
+    alloc: Global,
+    records: &'a [Record],
+    attempt: AttemptId,
+    place: u16,
+    steps: &mut Steps<L>,
+) -> Result<Played<'a>, NoMemory>
+    requires sound { IsSound records.now }
+    requires there { is_some (history.slot records.now attempt place) ≡ true }
+    ensures { IfOk result (λ played. IsSlot (Some played) (history.slot records.now attempt place)) }
+{
+    match slot(alloc, records, attempt, place, steps)? {
+        Some(played) => Ok(played),
+        None => unreachable!(),
+    }
 }
 
 /// The state and the mark (in 10^-7) of a slot: todo without a mark where there is no such slot.

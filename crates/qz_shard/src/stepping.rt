@@ -1,32 +1,32 @@
 //! What a step on a slot comes to.
 
-ghost use Rattle.std.specs.Prelude.{◌≡◌, true, false, IfOk};
-ghost use Rattle.qz_grading.specs.Steps.{is_mark};
+ghost use Rattle.std.specs.Prelude.{◌≡◌, true, None, IfOk, IfSome};
+ghost use Rattle.qz_grading.specs.Steps.{given};
 ghost use Rattle.qz_terms.specs.Access.{answer_cause};
-ghost use Rattle.qz_terms.specs.Cause.{refusal_shown, sees_marks, time_cause};
+ghost use Rattle.qz_terms.specs.Cause.{missing_slot, refusal_shown, sees_marks, time_cause};
 ghost use Rattle.qz_terms.specs.History.{ended_at};
-ghost use Rattle.qz_terms.specs.Kept.{are_settings};
-ghost use Rattle.qz_shard.specs.Decisions.{IsSound};
+ghost use Rattle.qz_terms.specs.declared.request.Request.TheVariants as request;
+ghost use Rattle.qz_shard.specs.Decisions.{IsFate, IsSound};
 ghost use Rattle.qz_terms.specs.Answer.{acted_or_noted};
 ghost use Rattle.qz_usage.specs.Runs.{IsBound};
 ghost use Rattle.qz_shard.specs.Plays.{IsMove, IsStepFate, slot_of};
 
-use crate::access::answer_cause;
 use crate::attempts::is_ended;
-use crate::callers::is_student;
 use crate::fates::Fate;
 use crate::history::{ended_at, start};
 use crate::review::{shown_state, shows_marks};
-use crate::slots::{Played, slot};
+use crate::slots::{Played, slot_there};
+use qz_access::may_answer;
+use qz_decimal::Mark;
 use qz_grading::{AttemptId, Moved, Question, Refusal, Step, Steps};
-use qz_terms::{Event, Plan, Record, Settings, User};
+use qz_terms::{Event, Plan, Record, Settings, User, is_student};
 use qz_text::{NoMemory, TryCopy};
 use qz_usage::SlotRun;
 use std::alloc::Global;
 use std::sync::ledger::Ledger;
 
 /// Whether a user is shown the marks of an attempt. To a student own marks are shown as the settings say, to all others always.
-fn sees_marks(
+pub(crate) fn sees_marks(
     records: &[Record],
     settings: &Settings,
     user: &User,
@@ -58,12 +58,11 @@ fn answer_time(
     attempt: AttemptId,
 ) -> Option<Refusal>
     requires sound { IsSound records.now }
-    requires settings { are_settings settings.now ≡ true }
     ensures { result ≡ time_cause (λ began. answer_cause settings.now began moment (ended_at records.now attempt)) records.now attempt }
 {
     let begun = start(records, attempt)?;
     let ended = ended_at(records, attempt);
-    answer_cause(settings, begun.moment, moment, ended)
+    may_answer(settings, begun.moment, moment, ended).err()
 }
 
 /// Takes a step on a slot, or refuses it for its first cause.
@@ -74,7 +73,7 @@ fn step_on<L: Ledger>(
     steps: &mut Steps<L>,
 ) -> Result<Result<Moved, Refusal>, NoMemory>
     requires question { IsBound run question.now }
-    requires unmarked { is_mark step ≡ false }
+    requires max { IfSome (given step) (λ m. m.1 ≡ run.bound.max) }
     ensures { IfOk result (IsMove (slot_of run question.now) step) }
 {
     run.reserve()?;
@@ -112,20 +111,47 @@ pub(crate) fn fate_of_step<L: Ledger>(
     steps: &mut Steps<L>,
 ) -> Result<Fate, NoMemory>
     requires sound { IsSound records.now }
-    requires settings { are_settings plan.now.settings ≡ true }
-    requires unmarked { is_mark step ≡ false }
+    requires unmarked { given step ≡ None }
+    requires there { missing_slot records.now user.now attempt place ≡ None }
     ensures { IfOk result (IsStepFate records.now moment user.now plan.now attempt place step) }
 {
     if let Some(refusal) = answer_time(records, &plan.settings, moment, attempt) {
         return Ok(Err(refusal));
     }
     let visible = sees_marks(records, &plan.settings, user, attempt, moment);
-    let Some(Played { question, run }) = slot(alloc, records, attempt, place, steps)? else {
-        return Err(NoMemory);
-    };
+    let Played { question, run } = slot_there(alloc, records, attempt, place, steps)?;
     let asked = step.try_copy(alloc)?;
     match step_on(run, question, asked, steps)? {
         Err(refusal) => Ok(Err(refusal_shown(visible, refusal))),
-        Ok(moved) => Ok(Ok(event_of(moved, attempt, place, step))),
+        Ok(moved) => Ok(Ok(Some(event_of(moved, attempt, place, step)))),
     }
+}
+
+/// What a teacher's Mark (in 10^-7) comes to: it is kept with the max mark that is bound now.
+pub(crate) fn fate_of_mark<L: Ledger>(
+    alloc: Global,
+    records: &[Record],
+    moment: u64,
+    user: &User,
+    plan: &Plan,
+    attempt: AttemptId,
+    place: u16,
+    mark: Mark,
+    steps: &mut Steps<L>,
+) -> Result<Fate, NoMemory>
+    requires sound { IsSound records.now }
+    requires there { missing_slot records.now user.now attempt place ≡ None }
+    ensures { IfOk result (IsFate records.now moment user.now plan.now (request.Mark attempt place mark)) }
+{
+    let visible = sees_marks(records, &plan.settings, user, attempt, moment);
+    let Played { question, run } = slot_there(alloc, records, attempt, place, steps)?;
+    let max = run.bound().max;
+    if let Err(refusal) = step_on(run, question, Step::Mark { mark, max }, steps)? {
+        return Ok(Err(refusal_shown(visible, refusal)));
+    }
+    Ok(Ok(Some(Event::Acted {
+        attempt,
+        slot: place,
+        step: Step::Mark { mark, max },
+    })))
 }

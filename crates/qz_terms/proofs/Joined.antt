@@ -7,7 +7,8 @@ use Rattle.qz_terms.specs.declared.plan.Plan.{Plan}
 use Rattle.qz_terms.specs.declared.record.Record.{Record}
 use Rattle.qz_terms.specs.declared.request.Request.{Request}
 use Rattle.qz_terms.specs.declared.request.Request.TheVariants as request
-use Rattle.qz_terms.specs.Answer.{answer_here, list_after, plan_for, answer_by, after_by}
+use Rattle.qz_terms.specs.Answer.{answer_here, list_after}
+use Rattle.qz_terms.specs.SchoolAnswer.{plan_for, answer_by, after_by}
 use Rattle.qz_terms.specs.Laws.{AnsweredHere}
 
 abbrev asking : Caller → Option (List ℕ) → Request → Ask

@@ -28,9 +28,11 @@ use Rattle.qz_terms.specs.declared.request.Request.TheVariants as request
 use Rattle.qz_terms.specs.declared.request.Whom.{Whom}
 use Rattle.qz_terms.specs.declared.request.Whom.TheVariants as whom
 use Rattle.qz_terms.specs.Access.{answer_cause, closed_at, finish_cause, if_set, is_past, late, start_cause}
-use Rattle.qz_terms.specs.Answer.{answer_by, answer_here, asks_catalog, catalog_answer, catalog_verdict, done_place, job_answer, looked, looked_by, looked_in_by, moment_of, named_user, part_at, part_of, plan_for, put_by_job, put_here, put_in, record_in, reply_to, said_of_put, school_answer_by, shard_answer, user_answer, work_answer}
+use Rattle.qz_terms.specs.Answer.{answer_here, done_place, looked, looked_by, moment_of, named_user, put_by_job, put_here, reply_to, said_of_put, work_answer}
+use Rattle.qz_terms.specs.CatalogAnswer.{asks_catalog, catalog_answer, catalog_verdict, looked_in_by, put_in, record_in}
+use Rattle.qz_terms.specs.SchoolAnswer.{answer_among, answer_by, first_refusal, job_answer, part_at, part_of, plan_for, refusal_among, school_answer_by, shard_answer}
 use Rattle.qz_terms.specs.Catalog as catalog
-use Rattle.qz_terms.specs.Cause.{Denied, Granted, Repeated, Verdict, answering_cause, by_key, cause_here, cause_in, change_cause, denied, forbidden, missing_here, missing_in, missing_slot, missing_whom, refusal_shown, repeated_or_reused, slot_cause, verdict_here, verdict_in}
+use Rattle.qz_terms.specs.Cause.{Denied, Granted, Repeated, Verdict, answering_cause, by_key, cause_here, cause_in, change_cause, denied, forbidden, missing_here, missing_in, missing_shard, missing_slot, missing_whom, refusal_shown, repeated_or_reused, slot_cause, verdict_here, verdict_in}
 use Rattle.qz_terms.specs.History.{Slot, Start}
 use Rattle.qz_terms.specs.History as history
 use Rattle.qz_terms.specs.Laws.{AnswersAreOwn, is_from_outside, tells_of_outside}
@@ -98,12 +100,16 @@ missing-own c (request.Times q opens closes limit allowed handling grace review)
 missing-own c (request.Override q w n opens closes limit allowed) = two-own _ _ (when-own _ _ refl) (whom-own c w n)
 missing-own c (request.Regrade q) = when-own _ _ refl
 missing-own c (request.Start q) = when-own _ _ refl
-missing-own c (request.Work job shard) = two-own _ _ (when-own _ _ refl) (when-own _ _ refl)
-missing-own c (request.Live shard a) = when-own _ _ refl
+missing-own c (request.Work job shard) = when-own _ _ refl
 missing-own c (request.Grade q u) = two-own _ _ (when-own _ _ refl) (when-own _ _ refl)
 missing-own c (request.Report q) = when-own _ _ refl
 missing-own c (request.Bank e v) = two-own _ _ (when-own _ _ refl) (when-own _ _ refl)
 missing-own c x = refl
+
+missing_shard-own : (count : ℕ) (x : Request) → keeps is_own (missing_shard count x) ≡ true
+missing_shard-own count (request.Work job shard) = when-own _ _ refl
+missing_shard-own count (request.Live shard a) = when-own _ _ refl
+missing_shard-own count x = refl
 
 missing_slot-own : (h : List Record) (user : User) (a : AttemptId) (k : ℕ) → keeps is_own (missing_slot h user a k) ≡ true
 missing_slot-own h user a k = two-own _ _ (when-own _ _ refl) (when-own _ _ refl)
@@ -280,8 +286,14 @@ by_list-own : (b : Bool) (c h : List Record) (now : ℕ) (user : User) (ask : As
 by_list-own true c h now user ask = catalog-own c now user ask
 by_list-own false c h now user ask = shard-own c h now user ask
 
+-- the job is done, or a record is put, or the target has no slot
+work-own : (b : Bool) (h : List Record) (put : Option Record) (place : ℕ) (d : Done) → tells_of_outside (cond b (reply.Ok place d) (said_of_put h put (reply.Refused (refusal.Unknown thing.Slot)))) ≡ false
+work-own true h put place d = refl
+work-own false h None place d = refl
+work-own false h (Some r) place d = refl
+
 job-own : (c h : List Record) (now : ℕ) (user : User) (number : ℕ) → tells_of_outside (job_answer c h now user number) ≡ false
-job-own c h now user number = or-own (work_answer h now user.number) (catalog.job c number) (reply.Refused (refusal.Unknown thing.Job)) (λ (job : Job). put-own h (put_by_job h now user.number job) (done_place h job.number) (done.AlreadyDone job.number)) refl
+job-own c h now user number = or-own (work_answer h now user.number) (catalog.job c number) (reply.Refused (refusal.Unknown thing.Job)) (λ (job : Job). work-own (history.is_done h job.number) h (put_by_job h now user.number job) (done_place h job.number) (done.AlreadyDone job.number)) refl
 
 by-own : (c h : List Record) (now : ℕ) (user : User) (ask : Ask) (x : Request) → tells_of_outside (answer_by c h now user ask x) ≡ false
 by-own c h now user ask (request.Work job shard) = job-own c h now user job
@@ -289,12 +301,15 @@ by-own c h now user ask (request.Live shard a) = refl
 by-own c h now user ask (request.Report q) = refl
 by-own c h now user ask x = by_list-own (asks_catalog x) c h now user ask
 
-user-own : (c h : List Record) (now : ℕ) (ask : Ask) (user : User) → tells_of_outside (user_answer c h now ask user) ≡ false
-user-own c h now ask user = refused-own _ _ (two-own _ _ (forbidden-own user ask.request) (missing-own c ask.request)) (by-own c h now user ask ask.request)
+among-own : (c : List Record) (count : ℕ) (user : User) (x : Request) → keeps is_own (refusal_among c count user x) ≡ true
+among-own c count user x = two-own (first_refusal c user x) (missing_shard count x) (two-own _ _ (forbidden-own user x) (missing-own c x)) (missing_shard-own count x)
 
-school-own : (c : List Record) (parts : List (List Record)) (now : ℕ) (ask : Ask) (user : User) (x : Request) → tells_of_outside (school_answer_by c parts now ask user x) ≡ false
-school-own c parts now ask user (request.Report q) = refused-own _ _ (two-own _ _ (forbidden-own user ask.request) (missing-own c ask.request)) refl
-school-own c parts now ask user x = user-own c (part_at parts (part_of c user x)) now ask user
+answer_among-own : (c : List Record) (parts : List (List Record)) (now : ℕ) (user : User) (ask : Ask) (x : Request) → tells_of_outside (answer_among c parts now user ask x) ≡ false
+answer_among-own c parts now user ask (request.Report q) = refl
+answer_among-own c parts now user ask x = by-own c (part_at parts (part_of (length parts) user x)) now user ask x
+
+school-own : (c : List Record) (parts : List (List Record)) (now : ℕ) (ask : Ask) (user : User) → tells_of_outside (school_answer_by c parts now ask user) ≡ false
+school-own c parts now ask user = refused-own _ _ (among-own c (length parts) user ask.request) (answer_among-own c parts now user ask ask.request)
 
 pub owning_law : AnswersAreOwn
-owning_law = record { own = λ c parts now ask. or-own (λ (user : User). school_answer_by c parts now ask user ask.request) (catalog.user_of c ask.caller) (reply.Refused refusal.UnknownToken) (λ (user : User). school-own c parts now ask user ask.request) refl }
+owning_law = record { own = λ c parts now ask. or-own (λ (user : User). school_answer_by c parts now ask user) (catalog.user_of c ask.caller) (reply.Refused refusal.UnknownToken) (λ (user : User). school-own c parts now ask user) refl }

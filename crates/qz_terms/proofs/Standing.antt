@@ -29,7 +29,8 @@ use Rattle.qz_terms.specs.declared.reply.Reply.{Reply}
 use Rattle.qz_terms.specs.declared.reply.Reply.TheVariants as reply
 use Rattle.qz_terms.specs.declared.request.Request.{Request}
 use Rattle.qz_terms.specs.declared.request.Request.TheVariants as request
-use Rattle.qz_terms.specs.Answer.{acted_or_noted, answer_here, asks_catalog, event_here, list_after, looked, max_now, moment_of, put_here, record_under, reply_to, said, said_of_put, started_by, stepped_by}
+use Rattle.qz_terms.specs.Answer.{acted_or_noted, answer_here, event_here, list_after, looked, max_now, moment_of, put_here, record_under, reply_to, said, said_of_put, started_by, stepped_by}
+use Rattle.qz_terms.specs.CatalogAnswer.{asks_catalog}
 use Rattle.qz_terms.specs.Cause.{Denied, Granted, Repeated, Verdict, by_key, cause_here, denied, forbidden, has_key, is_keyed, is_keyless, missing_attempt, missing_here, missing_slot, repeated_or_reused, same_slot, same_step, spells, spells_by, verdict_here}
 use Rattle.qz_terms.specs.History as history
 use Rattle.qz_terms.specs.Laws.{ActsOnce, Stands}
@@ -87,7 +88,7 @@ key-by is_same p h rest (Some r) v found told =
     let first : first_of (filter p (h ++ rest)) ≡ Some r = ap first_of (filter-append p h rest) ∙ first_of-append (filter p h) (filter p rest) r found in
     rw (first, up_to_first-append p h rest r found) told
 
-by_key-append : (is_same : Record → Bool) (caller : ℕ) (key : Option (List ℕ)) (h rest : List Record) (v : Verdict) → by_key is_same caller key h ≡ Some v → by_key is_same caller key (h ++ rest) ≡ Some v
+pub by_key-append : (is_same : Record → Bool) (caller : ℕ) (key : Option (List ℕ)) (h rest : List Record) (v : Verdict) → by_key is_same caller key h ≡ Some v → by_key is_same caller key (h ++ rest) ≡ Some v
 by_key-append is_same caller None h rest v told = absurd cc
 by_key-append is_same caller (Some key) h rest v told = key-by is_same (has_key caller key) h rest (first_of (filter (has_key caller key) h)) v refl told
 
@@ -96,7 +97,7 @@ unmapped f None none = refl
 unmapped f (Some x) none = absurd cc
 
 -- a new key, behind which its record is put
-by_key-push : (is_same : Record → Bool) (caller : ℕ) (key : List ℕ) (h : List Record) (r : Record) → by_key is_same caller (Some key) h ≡ None → has_key caller key r ≡ true → is_same r ≡ true
+pub by_key-push : (is_same : Record → Bool) (caller : ℕ) (key : List ℕ) (h : List Record) (r : Record) → by_key is_same caller (Some key) h ≡ None → has_key caller key r ≡ true → is_same r ≡ true
     → by_key is_same caller (Some key) (h ++ r ∷ []) ≡ Some (Repeated (h ++ r ∷ []) r)
 by_key-push is_same caller key h r fresh has spelled =
     let p = has_key caller key in
@@ -207,12 +208,20 @@ pub never-granted : (is_same : Record → Bool) (caller : ℕ) (key : Option (Li
 never-granted is_same caller None h is = absurd cc
 never-granted is_same caller (Some key) h is = never-granted-by is_same (up_to_first (has_key caller key) h) (first_of (filter (has_key caller key) h)) is
 
+-- no refusal, and no kept reply
+pub free-by : (f m : Option Refusal) (k : Option Verdict) (c : Option Refusal) → (k ≡ Some Granted → ⊥) → unwrap_or (first_some (denied f ∷ denied m ∷ k ∷ denied c ∷ [])) Granted ≡ Granted → (f ≡ None) × (m ≡ None) × (k ≡ None) × (c ≡ None)
+free-by (Some f) m k c never e = absurd cc
+free-by None (Some m) k c never e = absurd cc
+free-by None None (Some k) c never e = absurd (never (let same : k ≡ Granted = e in ap (λ (v : Verdict). Some v) same))
+free-by None None None (Some c) never e = absurd cc
+free-by None None None None never e = (refl, refl, refl, refl)
+
 -- it repeats a record, or nothing holds against it
-data Comes (f m : Option Refusal) (k : Option Verdict) (c : Option Refusal) : Type 0 where
+pub data Comes (f m : Option Refusal) (k : Option Verdict) (c : Option Refusal) : Type 0 where
   repeats : (l : List Record) (r : Record) → f ≡ None → m ≡ None → k ≡ Some (Repeated l r) → Comes f m k c
   passes : f ≡ None → m ≡ None → k ≡ None → c ≡ None → Comes f m k c
 
-comes : (f m : Option Refusal) (k : Option Verdict) (c : Option Refusal) (accepted : Reply) (place : ℕ) (d : Done) → (k ≡ Some Granted → ⊥) → reply_to (unwrap_or (first_some (denied f ∷ denied m ∷ k ∷ denied c ∷ [])) Granted) accepted ≡ reply.Ok place d → Comes f m k c
+pub comes : (f m : Option Refusal) (k : Option Verdict) (c : Option Refusal) (accepted : Reply) (place : ℕ) (d : Done) → (k ≡ Some Granted → ⊥) → reply_to (unwrap_or (first_some (denied f ∷ denied m ∷ k ∷ denied c ∷ [])) Granted) accepted ≡ reply.Ok place d → Comes f m k c
 comes (Some r) m k c accepted place d never told = absurd cc
 comes None (Some r) k c accepted place d never told = absurd cc
 comes None None (Some (Denied r)) c accepted place d never told = absurd cc
@@ -221,7 +230,7 @@ comes None None (Some Granted) c accepted place d never told = absurd (never ref
 comes None None None (Some r) accepted place d never told = absurd cc
 comes None None None None accepted place d never told = passes refl refl refl refl
 
-keyed-by : (b : Bool) → cond b false true ≡ true → b ≡ false
+pub keyed-by : (b : Bool) → cond b false true ≡ true → b ≡ false
 keyed-by true e = absurd cc
 keyed-by false e = refl
 

@@ -15,6 +15,20 @@ use Rattle.qz_terms.specs.Lists.{first_of, how_many, up_to_first}
 pub take-one_more : {A : Type 0} (xs : List A) (i : ℕ) (x : A) → i < length xs → x ≡ get_or xs i x → take (i + 1) xs ≡ take i xs ++ x ∷ []
 take-one_more xs i x inside is = (take_at_read xs i x inside).1 ∙ ap (λ (y : _). take i xs ++ y ∷ []) (sym is)
 
+-- one item at the end is the one that stands after a part, or stands behind it
+pub split-push : {A : Type 0} (l k : List A) (x y : A) (rest : List A) → l ++ x ∷ [] ≡ k ++ y ∷ rest → ((l ≡ k) × (x ≡ y)) ⊎ ((more : List A) × (l ≡ k ++ y ∷ more))
+split-push [] [] x y rest e = inl (refl, cc)
+split-push [] (z ∷ []) x y rest e = absurd cc
+split-push [] (z ∷ w ∷ k) x y rest e = absurd cc
+split-push (z ∷ l) [] x y rest e = inr (l, let same : z ≡ y = cc in ap (λ t. t ∷ l) same)
+split-push (z ∷ l) (w ∷ k) x y rest e =
+    let head : z ≡ w = cc in
+    let tail : l ++ x ∷ [] ≡ k ++ y ∷ rest = cc in
+    elim (split-push l k x y rest tail) [
+      | inl same ↦ inl (let lists : l ≡ k = same.0 in cc, same.1)
+      | inr behind ↦ inr (behind.0, let lists : l ≡ k ++ y ∷ behind.0 = behind.1 in cc)
+    ]
+
 -- ---- the first and the last
 
 first_of-either : {A : Type 0} (xs ys : List A) → first_of (xs ++ ys) ≡ option_or (first_of xs) (first_of ys)

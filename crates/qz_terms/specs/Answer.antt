@@ -1,24 +1,20 @@
--- What is put into a list, what is said of it, and the answer to a request: over one list with a plan, and over the
--- catalogue and a shard.
-use Rattle.std.specs.Prelude.{ℕ, ◌+◌, ◌-◌, ◌%◌, max, Bool, true, false, not, ◌&&◌, ◌||◌, List, [], ◌∷◌, ◌++◌, map, length, ℤ, pos, is_some, is_none, if◌then◌else◌, nat_lt, ◌==◌, slice_get, Some, None, filter, zip, flat_map, Option, unwrap_or, option_map, option_to_list, option_and_then}
+-- What is put into a shard's list, what is said of it, and the answer to a request over one shard's list with a plan.
+use Rattle.std.specs.Prelude.{ℕ, ◌+◌, max, Bool, true, false, not, ◌&&◌, ◌||◌, List, [], ◌∷◌, ◌++◌, map, length, ℤ, pos, is_none, if◌then◌else◌, ◌==◌, Some, None, filter, zip, Option, unwrap_or, option_map, option_to_list, option_and_then}
 use Rattle.qz_grading.specs.declared.outcome.Moved.{Moved}
 use Rattle.qz_grading.specs.declared.outcome.Moved.TheVariants.{Kept, Same}
 use Rattle.qz_grading.specs.declared.outcome.State.{State}
-use Rattle.qz_grading.specs.declared.question.Bank.{Bank}
 use Rattle.qz_grading.specs.declared.question.Question.{Question}
 use Rattle.qz_grading.specs.declared.refusal.AttemptId.{AttemptId}
-use Rattle.qz_grading.specs.declared.refusal.Refusal.{Refusal}
 use Rattle.qz_grading.specs.declared.refusal.Refusal.TheVariants as refusal
 use Rattle.qz_grading.specs.declared.refusal.Thing.TheVariants as thing
 use Rattle.qz_grading.specs.declared.response.Step.{Step}
 use Rattle.qz_grading.specs.declared.response.Step.TheVariants as step
-use Rattle.qz_grading.specs.Behaviours.{first_some, moved}
+use Rattle.qz_grading.specs.Behaviours.{moved}
 use Rattle.qz_grading.specs.Grading.{at_place}
 use Rattle.qz_grading.specs.Shapes.{same_shape, shape}
-use Rattle.qz_grading.specs.Steps.{is_answering, last_of}
+use Rattle.qz_grading.specs.Steps.{is_answering}
 use Rattle.qz_terms.specs.declared.access.Settings.{Settings}
 use Rattle.qz_terms.specs.declared.ask.Ask.{Ask}
-use Rattle.qz_terms.specs.declared.grades.Policy.{Policy}
 use Rattle.qz_terms.specs.declared.people.User.{User}
 use Rattle.qz_terms.specs.declared.plan.Bound.{Bound}
 use Rattle.qz_terms.specs.declared.plan.Job.{Job}
@@ -35,7 +31,6 @@ use Rattle.qz_terms.specs.declared.reply.Done.{Done}
 use Rattle.qz_terms.specs.declared.reply.Done.TheVariants as done
 use Rattle.qz_terms.specs.declared.reply.Reply.{Reply}
 use Rattle.qz_terms.specs.declared.reply.Reply.TheVariants as reply
-use Rattle.qz_terms.specs.declared.reply.Row.{Row}
 use Rattle.qz_terms.specs.declared.reply.Shown.{Shown}
 use Rattle.qz_terms.specs.declared.reply.Status.{Status}
 use Rattle.qz_terms.specs.declared.reply.Status.TheVariants as status
@@ -43,10 +38,10 @@ use Rattle.qz_terms.specs.declared.request.Request.{Request}
 use Rattle.qz_terms.specs.declared.request.Request.TheVariants as request
 use Rattle.qz_terms.specs.Access.{due, expired, settled_by}
 use Rattle.qz_terms.specs.Catalog as catalog
-use Rattle.qz_terms.specs.Cause.{Denied, Granted, Repeated, Verdict, forbidden, is_student, missing_in, said_at, sees_marks, verdict_here, verdict_in}
+use Rattle.qz_terms.specs.Cause.{Denied, Granted, Repeated, Verdict, is_student, said_at, sees_marks, verdict_here}
 use Rattle.qz_terms.specs.History.{Start}
 use Rattle.qz_terms.specs.History as history
-use Rattle.qz_terms.specs.Lists.{first_of, how_many, in_order, once, up_to_first}
+use Rattle.qz_terms.specs.Lists.{first_of, how_many, once, up_to_first}
 use Rattle.qz_terms.specs.Parts.{part}
 use Rattle.qz_terms.specs.Review.{shown_state, shown_value, shows_grade, shows_marks}
 
@@ -157,27 +152,11 @@ abbrev pub ended_reply : List Record → Record → AttemptId → How → Option
 ended_reply l r a how (Some key) = done.Finished (shown_value (is_visible l r a) (history.total l a))
 ended_reply l r a how None = done.Settled a how
 
--- ---- what is said of a record of the catalogue
-
-abbrev pub first_entry : List Record → Bank → ℕ
-first_entry c gift = if length gift.items == 0 then 0 else length (catalog.entries c) - length gift.items + 1
-
-abbrev pub asked_reply : List Record → Request → Done
-asked_reply c (request.User name role token) = done.Made (length (catalog.users c))
-asked_reply c (request.Group name) = done.Made (length (catalog.groups c))
-asked_reply c (request.Import gift) = done.Imported (first_entry c gift) (length gift.items)
-asked_reply c (request.Edit entry gift) = done.Version entry (catalog.latest c entry)
-asked_reply c (request.Tune entry penalty hints) = done.Version entry (catalog.latest c entry)
-asked_reply c (request.Quiz name behaviour) = done.Made (length (catalog.quizzes c))
-asked_reply c (request.Slot quiz entry max) = done.Slot (length (catalog.slots c quiz))
-asked_reply c (request.Regrade quiz) = done.Job (length (catalog.jobs c))
-asked_reply c x = done.Done
-
 -- ---- the reply for the last record of a list
 
 abbrev pub reply_by : List Record → Record → Event → Done
 reply_by l r (event.Founded shards token) = done.Made 1
-reply_by l r (event.Asked x) = asked_reply l x
+reply_by l r (event.Asked x) = catalog.asked_reply l x
 reply_by l r (event.Started quiz nth behaviour bounds learned) = done.Started (record { user = r.owner; nth = nth }) (length bounds) (due_by r.terms r.moment)
 reply_by l r (event.Acted a k x) = acted_reply l r a k x
 reply_by l r (event.Noted a k x) = done.Same (shown_state_in l r a k) (shown_mark_in l r a k)
@@ -279,162 +258,14 @@ list_after h now user plan ask = list_at h (moment_of h now user ask.request) us
 abbrev pub done_place : List Record → ℕ → ℕ
 done_place h job = length (up_to_first (history.is_done_in job) h)
 
+-- a target for which the job has no slot is refused, and nothing is put
 abbrev pub work_answer : List Record → ℕ → ℕ → Job → Reply
-work_answer h now caller job = said_of_put h (put_by_job h now caller job) (reply.Ok (done_place h job.number) (done.AlreadyDone job.number))
+work_answer h now caller job =
+    if history.is_done h job.number then reply.Ok (done_place h job.number) (done.AlreadyDone job.number)
+    else said_of_put h (put_by_job h now caller job) (reply.Refused (refusal.Unknown thing.Slot))
 
 abbrev pub work_after : List Record → ℕ → ℕ → Job → List Record
 work_after h now caller job = h ++ option_to_list (put_by_job h now caller job)
 
 abbrev pub live_answer : List Record → AttemptId → Reply
 live_answer h a = reply.Ok (length h) (done.Live (history.live_after h a))
-
--- ---- the answer over the catalogue's list
-
--- the moment of a request to the catalogue: the clock's, but not before the last record
-abbrev pub moment_in : List Record → ℕ → ℕ
-moment_in c now = max now (unwrap_or (last_of (map (λ (r : Record). r.moment) c)) 0)
-
-abbrev pub record_in : List Record → ℕ → User → Ask → Record
-record_in c now user ask = record { moment = moment_in c now; caller = user.number; owner = 0; key = ask.key; terms = None; event = event.Asked ask.request }
-
--- no look puts a record
-abbrev pub is_look_in : Request → Bool
-is_look_in request.Jobs = true
-is_look_in (request.Bank entry version) = true
-is_look_in x = false
-
-abbrev pub put_in : List Record → ℕ → User → Ask → Option Record
-put_in c now user ask = if is_look_in ask.request then None else Some (record_in c now user ask)
-
-abbrev pub gift_reply : Option Question → Done
-gift_reply None = done.Idle
-gift_reply (Some q) = done.Gift q
-
-abbrev pub looked_in_by : List Record → Request → Done
-looked_in_by c (request.Bank entry version) = gift_reply (catalog.version c entry version)
-looked_in_by c x = done.Jobs (length (catalog.jobs c))
-
-abbrev pub catalog_verdict : List Record → ℕ → User → Ask → Verdict
-catalog_verdict c now user ask = verdict_in c user (record_in c now user ask) ask
-
-abbrev pub catalog_answer : List Record → ℕ → User → Ask → Reply
-catalog_answer c now user ask = reply_to (catalog_verdict c now user ask) (said_of_put c (put_in c now user ask) (reply.Ok (length c) (looked_in_by c ask.request)))
-
-abbrev pub catalog_after : List Record → ℕ → User → Ask → List Record
-catalog_after c now user ask = list_with (catalog_verdict c now user ask) c (put_in c now user ask)
-
--- ---- reports
-
-abbrev pub name_of : List Record → ℕ → List ℕ
-name_of c u = unwrap_or (option_map (λ (x : User). x.name) (at_place (catalog.users c) u)) []
-
--- a user's row is read in the user's own shard
-abbrev pub report_row : List Record → List (List Record) → Policy → ℕ → ℕ → Row
-report_row c parts policy q u = record { user = u; name = name_of c u; grade = unwrap_or (option_map (λ h. history.row h q policy u) (slice_get parts (u % length parts))) None }
-
-abbrev pub report_rows : List Record → List (List Record) → Policy → ℕ → List Row
-report_rows c parts policy q = map (report_row c parts policy q) (in_order nat_lt (flat_map (λ h. history.takers h q) parts))
-
-abbrev pub report_answer : List Record → List (List Record) → ℕ → Reply
-report_answer c parts q = reply.Ok (length c) (done.Report (report_rows c parts (catalog.policy c q) q))
-
--- ---- the answer over the catalogue and a shard
-
--- the plan under which a request to a shard is answered, where there is one
-abbrev pub plan_for : List Record → List Record → User → Request → Option Plan
-plan_for c h user (request.Start quiz) = catalog.plan c quiz user.number
-plan_for c h user (request.Grade quiz owner) = catalog.plan c quiz owner
-plan_for c h user x = option_and_then (λ (a : AttemptId). option_and_then (λ q. catalog.plan c q a.user) (history.quiz h a)) (attempt_named x)
-
--- whether a request goes to the catalogue
-abbrev pub asks_catalog : Request → Bool
-asks_catalog (request.User name role token) = true
-asks_catalog (request.Group name) = true
-asks_catalog (request.Member group user) = true
-asks_catalog (request.Import gift) = true
-asks_catalog (request.Edit entry gift) = true
-asks_catalog (request.Tune entry penalty hints) = true
-asks_catalog (request.Quiz name behaviour) = true
-asks_catalog (request.Slot quiz entry max) = true
-asks_catalog (request.Ready quiz) = true
-asks_catalog (request.Remax quiz slot max) = true
-asks_catalog (request.Policy quiz method grade) = true
-asks_catalog (request.Times quiz opens closes limit allowed handling grace review) = true
-asks_catalog (request.Override quiz whom number opens closes limit allowed) = true
-asks_catalog (request.Regrade quiz) = true
-asks_catalog request.Jobs = true
-asks_catalog (request.Bank entry version) = true
-asks_catalog x = false
-
--- whether the catalogue keeps a request
-abbrev pub keeps_record : Request → Bool
-keeps_record x = asks_catalog x && not (is_look_in x)
-
--- an attempt that isn't there has no plan
-abbrev pub shard_answer : List Record → List Record → ℕ → User → Ask → Reply
-shard_answer c h now user ask = unwrap_or (option_map (λ plan. answer_here h now user plan ask) (plan_for c h user ask.request)) (reply.Refused (refusal.Unknown thing.Attempt))
-
-abbrev pub shard_after : List Record → List Record → ℕ → User → Ask → List Record
-shard_after c h now user ask = unwrap_or (option_map (λ plan. list_after h now user plan ask) (plan_for c h user ask.request)) h
-
-abbrev pub job_answer : List Record → List Record → ℕ → User → ℕ → Reply
-job_answer c h now user number = unwrap_or (option_map (work_answer h now user.number) (catalog.job c number)) (reply.Refused (refusal.Unknown thing.Job))
-
-abbrev pub job_after : List Record → List Record → ℕ → User → ℕ → List Record
-job_after c h now user number = unwrap_or (option_map (work_after h now user.number) (catalog.job c number)) h
-
--- what isn't refused before
-abbrev pub answer_by : List Record → List Record → ℕ → User → Ask → Request → Reply
-answer_by c h now user ask (request.Work job shard) = job_answer c h now user job
-answer_by c h now user ask (request.Live shard attempt) = live_answer h attempt
-answer_by c h now user ask (request.Report quiz) = report_answer c (h ∷ []) quiz
-answer_by c h now user ask x = if asks_catalog x then catalog_answer c now user ask else shard_answer c h now user ask
-
-abbrev pub after_by : List Record → List Record → ℕ → User → Ask → Request → List Record
-after_by c h now user ask (request.Work job shard) = job_after c h now user job
-after_by c h now user ask x = if asks_catalog x then h else shard_after c h now user ask
-
--- a user's request, refused first by the rules of callers and by what the catalogue doesn't have
-abbrev pub first_refusal : List Record → User → Request → Option Refusal
-first_refusal c user x = first_some (forbidden user x ∷ missing_in c x ∷ [])
-
-abbrev pub user_answer : List Record → List Record → ℕ → Ask → User → Reply
-user_answer c h now ask user = unwrap_or (option_map reply.Refused (first_refusal c user ask.request)) (answer_by c h now user ask ask.request)
-
-abbrev pub user_after : List Record → List Record → ℕ → Ask → User → List Record
-user_after c h now ask user = if is_some (first_refusal c user ask.request) then h else after_by c h now user ask ask.request
-
--- the answer over the catalogue and the shard that the request goes to; nobody has an unknown token
-abbrev pub answer : List Record → List Record → ℕ → Ask → Reply
-answer c h now ask = unwrap_or (option_map (user_answer c h now ask) (catalog.user_of c ask.caller)) (reply.Refused refusal.UnknownToken)
-
--- the shard whose list a request to a user's shard goes to
-abbrev pub part_of : List Record → User → Request → ℕ
-part_of c user (request.Work job shard) = shard
-part_of c user (request.Live shard attempt) = shard
-part_of c user x = named_user user x % catalog.shards c
-
--- the shard's list afterwards
-abbrev pub shard_list : List Record → List Record → ℕ → Ask → List Record
-shard_list c h now ask = unwrap_or (option_map (user_after c h now ask) (catalog.user_of c ask.caller)) h
-
--- the catalogue's list afterwards
-abbrev pub catalog_list : List Record → ℕ → Ask → List Record
-catalog_list c now ask = unwrap_or (option_map (λ user. if is_some (first_refusal c user ask.request) || not (asks_catalog ask.request) then c else catalog_after c now user ask) (catalog.user_of c ask.caller)) c
-
--- ---- the answer of a school with several shards
-
-abbrev pub part_at : List (List Record) → ℕ → List Record
-part_at parts k = unwrap_or (slice_get parts k) []
-
-abbrev pub school_answer_by : List Record → List (List Record) → ℕ → Ask → User → Request → Reply
-school_answer_by c parts now ask user (request.Report quiz) = unwrap_or (option_map reply.Refused (first_refusal c user ask.request)) (report_answer c parts quiz)
-school_answer_by c parts now ask user x = user_answer c (part_at parts (part_of c user x)) now ask user
-
--- a report reads every shard, and any other request at most one
-abbrev pub school_answer : List Record → List (List Record) → ℕ → Ask → Reply
-school_answer c parts now ask = unwrap_or (option_map (λ user. school_answer_by c parts now ask user ask.request) (catalog.user_of c ask.caller)) (reply.Refused refusal.UnknownToken)
-
--- the shard that a request goes to, where it goes to one
-abbrev pub asked_part : List Record → Ask → Option ℕ
-asked_part c ask = option_and_then (λ user. if asks_catalog ask.request then None else Some (part_of c user ask.request)) (catalog.user_of c ask.caller)

@@ -4,6 +4,7 @@ use Rattle.std.specs.List.{enumerate_from, list_any}
 use Rattle.std.specs.Prelude.{ℕ, ◌+◌, ◌-◌, ◌*◌, Bool, true, false, ◌&&◌, List, [], map, length, take, ℤ, pos, is_some, if◌then◌else◌, nat_le, ◌==◌, Some, None, codes, bytes_eq, fold, filter, flat_map, filter_map, Option, unwrap_or, option_map, option_and_then}
 use Rattle.qz_decimal.specs.Numbers.{grade_one}
 use Rattle.qz_grading.specs.declared.outcome.Behaviour.{Behaviour}
+use Rattle.qz_grading.specs.declared.question.Bank.{Bank}
 use Rattle.qz_grading.specs.declared.question.Item.{Item}
 use Rattle.qz_grading.specs.declared.question.Question.{Question}
 use Rattle.qz_grading.specs.Grading.{at_place}
@@ -24,6 +25,8 @@ use Rattle.qz_terms.specs.declared.plan.Planned.{Planned}
 use Rattle.qz_terms.specs.declared.record.Event.{Event}
 use Rattle.qz_terms.specs.declared.record.Event.TheVariants as event
 use Rattle.qz_terms.specs.declared.record.Record.{Record}
+use Rattle.qz_terms.specs.declared.reply.Done.{Done}
+use Rattle.qz_terms.specs.declared.reply.Done.TheVariants as done
 use Rattle.qz_terms.specs.declared.request.Request.{Request}
 use Rattle.qz_terms.specs.declared.request.Request.TheVariants as request
 use Rattle.qz_terms.specs.declared.request.Whom.{Whom}
@@ -107,9 +110,9 @@ abbrev pub founded_by : Event → Option ℕ
 founded_by (event.Founded shards token) = Some shards
 founded_by e = None
 
--- how many shards there are
-abbrev pub shards : List Record → ℕ
-shards c = unwrap_or (first_of (filter_map (λ (r : Record). founded_by r.event) c)) 0
+-- how many shards the school was founded with
+abbrev pub shards : List Record → Option ℕ
+shards c = first_of (filter_map (λ (r : Record). founded_by r.event) c)
 
 -- ---- the bank
 
@@ -277,3 +280,21 @@ job_with c number j = option_map (λ plan. record { number = number; position = 
 -- a job has the plan of its quiz at its position, with the quiz's own settings
 abbrev pub job : List Record → ℕ → Option Job
 job c number = option_and_then (job_with c number) (at_place (jobs c) number)
+
+-- ---- what is said of the last record
+
+-- the first of the entries that the last import made, and 0 where it made none
+abbrev pub first_entry : List Record → Bank → ℕ
+first_entry c gift = if length gift.items == 0 then 0 else length (entries c) - length gift.items + 1
+
+-- of a request that was accepted
+abbrev pub asked_reply : List Record → Request → Done
+asked_reply c (request.User name role token) = done.Made (length (users c))
+asked_reply c (request.Group name) = done.Made (length (groups c))
+asked_reply c (request.Import gift) = done.Imported (first_entry c gift) (length gift.items)
+asked_reply c (request.Edit entry gift) = done.Version entry (latest c entry)
+asked_reply c (request.Tune entry penalty hints) = done.Version entry (latest c entry)
+asked_reply c (request.Quiz name behaviour) = done.Made (length (quizzes c))
+asked_reply c (request.Slot quiz entry max) = done.Slot (length (slots c quiz))
+asked_reply c (request.Regrade quiz) = done.Job (length (jobs c))
+asked_reply c x = done.Done

@@ -35,7 +35,8 @@ use Rattle.qz_terms.specs.Catalog as catalog
 use Rattle.qz_terms.specs.History.{Slot, Start}
 use Rattle.qz_terms.specs.History as history
 use Rattle.qz_terms.specs.Lists.{first_of, in_order, up_to_first}
-use Rattle.qz_terms.specs.Spelling.{request_bytes, spelling}
+use Rattle.qz_terms.specs.Sameness.{same_request}
+use Rattle.qz_terms.specs.Spelling.{spelling}
 use Rattle.qz_terms.specs.Review.{shown_state, shows_marks}
 
 -- ---- the rules of callers
@@ -97,9 +98,6 @@ abbrev pub missing_whom : List Record → Whom → ℕ → Option Refusal
 missing_whom c whom.User n = missing_user c n
 missing_whom c whom.Group n = missing_group c n
 
-abbrev pub missing_shard : List Record → ℕ → Option Refusal
-missing_shard c shard = when (not (nat_lt shard (catalog.shards c))) (refusal.Unknown thing.Shard)
-
 -- what a request names that the catalogue doesn't have, the first in the order of the request's words
 abbrev pub missing_in : List Record → Request → Option Refusal
 missing_in c (request.Member group user) = first_some (missing_group c group ∷ missing_user c user ∷ [])
@@ -113,12 +111,17 @@ missing_in c (request.Times quiz opens closes limit allowed handling grace revie
 missing_in c (request.Override quiz whom number opens closes limit allowed) = first_some (missing_quiz c quiz ∷ missing_whom c whom number ∷ [])
 missing_in c (request.Regrade quiz) = missing_quiz c quiz
 missing_in c (request.Start quiz) = missing_quiz c quiz
-missing_in c (request.Work job shard) = first_some (when (is_none (at_place (catalog.jobs c) job)) (refusal.Unknown thing.Job) ∷ missing_shard c shard ∷ [])
-missing_in c (request.Live shard attempt) = missing_shard c shard
+missing_in c (request.Work job shard) = when (is_none (at_place (catalog.jobs c) job)) (refusal.Unknown thing.Job)
 missing_in c (request.Grade quiz user) = first_some (missing_quiz c quiz ∷ missing_user c user ∷ [])
 missing_in c (request.Report quiz) = missing_quiz c quiz
 missing_in c (request.Bank entry version) = first_some (missing_entry c entry ∷ when (is_none (catalog.version c entry version)) (refusal.Unknown thing.Version) ∷ [])
 missing_in c x = None
+
+-- of so many shards, numbered from 0, the one that a worker's request names
+abbrev pub missing_shard : ℕ → Request → Option Refusal
+missing_shard count (request.Work job shard) = when (nat_le count shard) (refusal.Unknown thing.Shard)
+missing_shard count (request.Live shard attempt) = when (nat_le count shard) (refusal.Unknown thing.Shard)
+missing_shard count x = None
 
 -- to a student what belongs to another isn't there
 abbrev pub is_anothers : User → ℕ → Bool
@@ -203,7 +206,7 @@ denied r = option_map Denied r
 
 abbrev pub same_request_by : Option Request → Request → Bool
 same_request_by None x = false
-same_request_by (Some kept) x = bytes_eq (request_bytes kept) (request_bytes x)
+same_request_by (Some kept) x = same_request kept x
 
 -- the same request as a value
 abbrev pub keeps_request : Request → Record → Bool

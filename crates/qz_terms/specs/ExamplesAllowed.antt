@@ -95,13 +95,13 @@ settling_is_allowed = record {
 abbrev at_6 : Option Terms
 at_6 = Some (record { at = 6; settings = default_settings })
 
-abbrev pick_record : Record
+abbrev pub pick_record : Record
 pick_record = record { moment = 110; caller = 2; owner = 2; key = Some (codes "k1"); terms = at_6; event = event.Started 1 1 Immediate (record { entry = 1; version = 1; max = pos 10000000; at = 6 } ∷ []) (record { entry = 1; version = 1; question = three } ∷ []) }
 
-abbrev submit_record : Record
+abbrev pub submit_record : Record
 submit_record = record { moment = 120; caller = 2; owner = 2; key = Some (codes "k2"); terms = at_6; event = event.Acted first_attempt 1 (step.Submit (pick 1)) }
 
-abbrev of_three : Shape
+abbrev pub of_three : Shape
 of_three = record { kind = 3; first = 3; second = 0 }
 
 abbrev of_two : Shape
@@ -122,7 +122,7 @@ plan_at_8 = record plan_at_7 {
   questions = two ∷ [];
 }
 
-abbrev the_job : Job
+abbrev pub the_job : Job
 the_job = record { number = 1; position = 8; plan = plan_at_8 }
 
 pub skip_agrees : Agrees with_job.records (pick_record ∷ submit_record ∷ []) skip_record
@@ -143,7 +143,7 @@ founding = record { moment = 0; caller = 0; owner = 0; key = None; terms = None;
 pub founding_is_allowed : IsAllowedInCatalog [] founding
 founding_is_allowed = record { owner = refl; terms = refl; moment = refl; event = refl }
 
-abbrev roots : List ℕ → Request → Record
+abbrev pub roots : List ℕ → Request → Record
 roots key x = record { moment = 100; caller = 1; owner = 0; key = Some key; terms = None; event = event.Asked x }
 
 pub user_is_allowed : IsAllowedInCatalog founded.records (roots (codes "a1") (request.User (codes "ann") role.Student (codes "ann")))

@@ -1,5 +1,5 @@
 -- Worked ranges: what records keep, and what they don't.
-use Rattle.std.specs.Prelude.{◌≡◌, ℕ, Bool, true, false, ◌&&◌, nat_le, List, [], ◌∷◌, map, length, replicate, pos, negsuc, Some, None, codes, refl}
+use Rattle.std.specs.Prelude.{◌≡◌, ℕ, Bool, true, false, ◌&&◌, nat_le, List, [], ◌∷◌, map, length, replicate, sum_by, pos, negsuc, Some, None, codes, refl}
 use Rattle.std.specs.List.{list_all}
 use Rattle.std.proofs.Common.{ap, ◌∙◌, leb-true, sym, true≢false}
 use Rattle.std.proofs.lemmas.List.Elements.{All-cons, All-nil}
@@ -8,7 +8,8 @@ use Rattle.qz_grading.specs.declared.response.Answer.TheVariants as answer
 use Rattle.qz_grading.specs.declared.question.Question.{Question}
 use Rattle.qz_grading.specs.declared.response.Response.{Response}
 use Rattle.qz_grading.specs.declared.response.Step.TheVariants as step
-use Rattle.qz_grading.specs.Questions.{IsQuestion}
+use Rattle.qz_grading.specs.Canonical.{canonical_size}
+use Rattle.qz_grading.specs.Questions.{IsQuestion, texts}
 use Rattle.qz_terms.specs.declared.access.Handling.TheVariants as handling
 use Rattle.qz_terms.specs.declared.access.Review.TheVariants as review
 use Rattle.qz_terms.specs.declared.access.Settings.{Settings}
@@ -19,7 +20,7 @@ use Rattle.qz_terms.specs.declared.record.Event.TheVariants as event
 use Rattle.qz_terms.specs.declared.record.Learned.{Learned}
 use Rattle.qz_terms.specs.declared.request.Request.TheVariants as request
 use Rattle.qz_terms.specs.declared.request.Whom.TheVariants as whom
-use Rattle.qz_terms.specs.Answer.{keeps_record}
+use Rattle.qz_terms.specs.CatalogAnswer.{keeps_record}
 use Rattle.qz_terms.specs.ExamplesAllowed.{mark_record, noted_record, skip_record}
 use Rattle.qz_terms.specs.ExamplesLegal.{bound_at_7, done_record, finish_record, rebind_record, save_record, start_record}
 use Rattle.qz_terms.specs.ExamplesSchool.{one_of, true_false}
@@ -154,34 +155,41 @@ sound right = record {
   together = leb-true 6 262144 refl;
 }
 
+-- its texts count together, and not its canonical text
+pub six_bytes : sum_by length (texts (sky true)) ≡ 6
+six_bytes = refl
+
+pub eighteen_in_canonical_text : canonical_size (sky true) ≡ 18
+eighteen_in_canonical_text = refl
+
 one_sound : (right : Bool) → AreQuestions (sky right ∷ [])
 one_sound right = All-cons IsQuestion (sky right) [] (sound right) (All-nil IsQuestion)
 
 -- ---- records of a shard
 
 pub start_is_kept : IsKept start_record
-start_is_kept = record { moment = refl; settings = refl; event = (refl, one_sound true) }
+start_is_kept = record { moment = refl; terms = refl; settings = refl; event = (refl, one_sound true) }
 
 pub save_is_kept : IsKept save_record
-save_is_kept = record { moment = refl; settings = refl; event = refl }
+save_is_kept = record { moment = refl; terms = refl; settings = refl; event = refl }
 
 pub noted_is_kept : IsKept noted_record
-noted_is_kept = record { moment = refl; settings = refl; event = refl }
+noted_is_kept = record { moment = refl; terms = refl; settings = refl; event = refl }
 
 pub mark_is_kept : IsKept mark_record
-mark_is_kept = record { moment = refl; settings = refl; event = refl }
+mark_is_kept = record { moment = refl; terms = refl; settings = refl; event = refl }
 
 pub finish_is_kept : IsKept finish_record
-finish_is_kept = record { moment = refl; settings = refl; event = tt }
+finish_is_kept = record { moment = refl; terms = refl; settings = refl; event = tt }
 
 pub rebind_is_kept : IsKept rebind_record
-rebind_is_kept = record { moment = refl; settings = refl; event = (refl, one_sound false) }
+rebind_is_kept = record { moment = refl; terms = refl; settings = refl; event = (refl, one_sound false) }
 
 pub skip_is_kept : IsKept skip_record
-skip_is_kept = record { moment = refl; settings = refl; event = tt }
+skip_is_kept = record { moment = refl; terms = refl; settings = refl; event = tt }
 
 pub done_is_kept : IsKept done_record
-done_is_kept = record { moment = refl; settings = refl; event = tt }
+done_is_kept = record { moment = refl; terms = refl; settings = refl; event = tt }
 
 -- ---- records of the catalogue
 

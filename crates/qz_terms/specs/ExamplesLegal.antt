@@ -18,7 +18,7 @@ use Rattle.qz_terms.specs.declared.record.Record.{Record}
 use Rattle.qz_terms.specs.declared.record.Terms.{Terms}
 use Rattle.qz_terms.specs.declared.request.Request.TheVariants as request
 use Rattle.qz_terms.specs.Access.{default_settings}
-use Rattle.qz_terms.specs.Answer.{keeps_record}
+use Rattle.qz_terms.specs.CatalogAnswer.{keeps_record}
 use Rattle.qz_terms.specs.Catalog as catalog
 use Rattle.qz_terms.specs.Cause.{is_keyed}
 use Rattle.qz_terms.specs.ExamplesSchool.{School, asked_with, first_attempt, school, then_has, true_false}
@@ -63,7 +63,7 @@ anns moment key e = record { moment = moment; caller = 2; owner = 2; key = Some 
 abbrev pub sky_1 : Learned
 sky_1 = record { entry = 1; version = 1; question = true_false (codes "Sky") true }
 
-abbrev sky_2 : Learned
+abbrev pub sky_2 : Learned
 sky_2 = record { entry = 1; version = 2; question = true_false (codes "Sky") false }
 
 abbrev pub bound_at_7 : Bound
@@ -179,7 +179,7 @@ no_settling_with_a_key = refl
 
 -- what a save's record keeps, and a start is no request to the catalogue
 pub save_is_kept : IsKept save_record
-save_is_kept = record { moment = refl; settings = refl; event = refl }
+save_is_kept = record { moment = refl; terms = refl; settings = refl; event = refl }
 
 pub start_is_no_record_of_the_catalogue : keeps_record (request.Start 1) ≡ false
 start_is_no_record_of_the_catalogue = refl

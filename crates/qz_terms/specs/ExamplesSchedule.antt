@@ -16,6 +16,7 @@ use Rattle.qz_terms.specs.declared.request.Request.TheVariants as request
 use Rattle.qz_terms.specs.ExamplesFirstAttempt.{finished}
 use Rattle.qz_terms.specs.ExamplesLegal.{start_record}
 use Rattle.qz_terms.specs.ExamplesSchool.{asked_with, first_attempt, look, school, true_false}
+use Rattle.qz_terms.specs.SchoolAnswer.{school_answer}
 use Rattle.qz_terms.specs.Serial.{Held}
 use Rattle.qz_terms.specs.Worlds.{CouldPut, after, Answers, Begins, Drops, Adopts, GoesOn, Happening, KeepIsPossible, LacksMemory, LeavesInDoubt, Mending, Mends, Stays, Stops, Told, Turns, Visit, World, held_at, is_formed, loaded, world}
 
@@ -126,6 +127,16 @@ it_stays_in_doubt = refl
 pub then_it_is_refused : last_reply (mending_by (Stays refusal.KeepFault)) ≡ reply.Refused refusal.KeepFault ∷ []
 then_it_is_refused = refl
 
+-- a caller whose turn ends in doubt has then seen the list as it stands: three records, behind which ann's start is in doubt
+abbrev third_in_doubt : World
+third_in_doubt = world (loaded finished.records (finished.part ∷ []) 2) (begins 0 (asked_with (codes "ann") (codes "k9") (request.Start 1)) ∷ goes_on 0 1 ∷ Turns 0 150 (GoesOn 2) Drops LeavesInDoubt ∷ Turns 1 150 (Begins (record { caller = caller.Worker; key = None; request = request.Live 0 first_attempt })) (Stays refusal.KeepFault) Answers ∷ [])
+
+pub both_are_refused : replies_of third_in_doubt ≡ reply.Refused refusal.KeepFault ∷ reply.Refused refusal.KeepFault ∷ []
+both_are_refused = refl
+
+pub as_it_stands : map seen_by third_in_doubt.told ≡ (7, 3 ∷ []) ∷ (0, 3 ∷ []) ∷ []
+as_it_stands = refl
+
 -- ---- want of memory: the ask ends, in a reading turn too, and no list changes
 
 pub no_memory_to_read : replies_of (world two_callers (begins 0 anns_start ∷ Turns 0 110 (GoesOn 1) Drops LacksMemory ∷ goes_on 0 2 ∷ [])) ≡ reply.Refused refusal.Memory ∷ []
@@ -215,6 +226,22 @@ live_in shard = request.Live shard (record { user = 0; nth = 0 })
 
 pub none_is_live : replies_of (world two_callers (begins 0 (by_worker (live_in 0)) ∷ [])) ≡ reply.Ok 0 (done.Live None) ∷ []
 none_is_live = refl
+
+-- he has seen nothing of the catalogue, and is answered over what he has seen, as everybody is
+abbrev answers_over : World → List Reply
+answers_over w = map (λ (t : Told). school_answer t.records t.parts t.moment t.ask) w.told
+
+abbrev one_asks_for_live : World
+one_asks_for_live = world two_callers (begins 0 (by_worker (live_in 0)) ∷ [])
+
+pub nothing_of_the_catalogue : map seen_by one_asks_for_live.told ≡ (0, 0 ∷ []) ∷ []
+nothing_of_the_catalogue = refl
+
+pub answered_over_that : answers_over one_asks_for_live ≡ replies_of one_asks_for_live
+answered_over_that = refl
+
+pub and_without_a_shard : answers_over (world two_callers (begins 0 (by_worker (live_in 1)) ∷ [])) ≡ reply.Refused (refusal.Unknown thing.Shard) ∷ []
+and_without_a_shard = refl
 
 pub no_such_shard : replies_of (world two_callers (begins 0 (by_worker (live_in 1)) ∷ [])) ≡ reply.Refused (refusal.Unknown thing.Shard) ∷ []
 no_such_shard = refl

@@ -17,7 +17,7 @@ use Rattle.qz_terms.specs.declared.reply.Reply.{Reply}
 use Rattle.qz_terms.specs.declared.reply.Reply.TheVariants as reply
 use Rattle.qz_terms.specs.declared.request.Request.{Request}
 use Rattle.qz_terms.specs.declared.request.Request.TheVariants as request
-use Rattle.qz_terms.specs.Answer.{answer, catalog_list, shard_list}
+use Rattle.qz_terms.specs.SchoolAnswer.{catalog_list, school_answer, shard_list}
 
 -- the records of the catalogue and of its one shard
 pub record School : Type 0 where
@@ -32,7 +32,7 @@ abbrev pub look : List ℕ → Request → Ask
 look token x = record { caller = caller.Token token; key = None; request = x }
 
 abbrev pub told : School → ℕ → Ask → Reply
-told s now ask = answer s.records s.part now ask
+told s now ask = school_answer s.records (s.part ∷ []) now ask
 
 abbrev pub then_has : School → ℕ → Ask → School
 then_has s now ask = record { records = catalog_list s.records now ask; part = shard_list s.records s.part now ask }

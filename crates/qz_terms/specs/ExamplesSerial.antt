@@ -5,16 +5,18 @@ use Rattle.qz_grading.specs.declared.outcome.State.TheVariants as state
 use Rattle.qz_grading.specs.declared.refusal.Refusal.TheVariants as refusal
 use Rattle.qz_grading.specs.declared.response.Answer.TheVariants as answer
 use Rattle.qz_terms.specs.declared.ask.Ask.{Ask}
+use Rattle.qz_terms.specs.declared.people.Caller.TheVariants as caller
 use Rattle.qz_terms.specs.declared.record.Record.{Record}
 use Rattle.qz_terms.specs.declared.reply.Done.TheVariants as done
 use Rattle.qz_terms.specs.declared.reply.Reply.{Reply}
 use Rattle.qz_terms.specs.declared.reply.Reply.TheVariants as reply
 use Rattle.qz_terms.specs.declared.reply.Shown.TheVariants as shown
+use Rattle.qz_terms.specs.declared.request.Request.{Request}
 use Rattle.qz_terms.specs.declared.request.Request.TheVariants as request
 use Rattle.qz_terms.specs.ExamplesFirstAttempt.{started}
 use Rattle.qz_terms.specs.ExamplesLegal.{save_record, start_record}
 use Rattle.qz_terms.specs.ExamplesSchool.{asked_with, first_attempt, look, school}
-use Rattle.qz_terms.specs.Serial.{Asking, Asks, Held, Lists, Serial, Unread, adopted, answered, doubt_over, dropped, ended, is_settled, lists_over, next, no_memory, puts_record, put_in_doubt, reads_part, reply_over, stayed_in_doubt, stays}
+use Rattle.qz_terms.specs.Serial.{Asking, Asks, Held, Lists, Serial, Unread, adopted, answered, doubt_over, dropped, ended, is_settled, lists_over, lists_read, next, no_memory, puts_record, put_in_doubt, reads_part, reply_over, stayed_in_doubt, stays}
 
 abbrev one_shard : Lists
 one_shard = record { records = record { list = school.records; doubt = None }; parts = record { list = []; doubt = None } ∷ [] }
@@ -26,7 +28,7 @@ abbrev with_start : Lists
 with_start = lists_over one_shard 110 anns_start
 
 abbrev in_turn : Asks one_shard with_start 110 anns_start (reply_over one_shard 110 anns_start)
-in_turn = record { mended = one_shard; mends = record { records = stays one_shard.records; parts = (stays (record { list = []; doubt = None }), tt) }; keeps = record { same = λ k unread. refl }; turn = answered one_shard 110 anns_start refl }
+in_turn = record { mended = one_shard; mends = record { records = stays one_shard.records; parts = (stays (record { list = []; doubt = None }), tt) }; keeps = record { records = λ unread. refl; parts = λ k unread. refl }; turn = answered one_shard 110 anns_start refl }
 
 pub two_lines : Serial one_shard (Unread 5 0 ∷ Asking 110 anns_start ∷ []) (reply.Refused (refusal.Malformed 5 0) ∷ reply_over one_shard 110 anns_start ∷ []) with_start
 two_lines = next one_shard one_shard with_start (Unread 5 0) (reply.Refused (refusal.Malformed 5 0)) (Asking 110 anns_start ∷ []) (reply_over one_shard 110 anns_start ∷ []) (refl, refl) (next one_shard with_start with_start (Asking 110 anns_start) (reply_over one_shard 110 anns_start) [] [] in_turn (ended with_start))
@@ -88,29 +90,29 @@ dropped_is_read zero unread = absurd (true≢false unread)
 dropped_is_read (suc k) unread = refl
 
 keeper_fails : Asks begun doubtful 120 save_true (reply.Refused refusal.KeepFault)
-keeper_fails = record { mended = begun; mends = record { records = stays begun.records; parts = (stays (record { list = start_record ∷ []; doubt = None }), tt) }; keeps = record { same = λ k unread. refl }; turn = put_in_doubt begun 120 save_true refl refl }
+keeper_fails = record { mended = begun; mends = record { records = stays begun.records; parts = (stays (record { list = start_record ∷ []; doubt = None }), tt) }; keeps = record { records = λ unread. refl; parts = λ k unread. refl }; turn = put_in_doubt begun 120 save_true refl refl }
 
 abbrev it_is_saved : Reply
 it_is_saved = reply.Ok 2 (done.Stepped state.Complete shown.None)
 
 -- the record was kept after all: it is adopted, and the same line gets its reply
 adopted_then_answered : Asks doubtful kept 120 save_true it_is_saved
-adopted_then_answered = record { mended = kept; mends = record { records = stays begun.records; parts = (adopted (start_record ∷ []) save_record, tt) }; keeps = record { same = mended_is_read }; turn = answered kept 120 save_true refl }
+adopted_then_answered = record { mended = kept; mends = record { records = stays begun.records; parts = (adopted (start_record ∷ []) save_record, tt) }; keeps = record { records = λ unread. refl; parts = mended_is_read }; turn = answered kept 120 save_true refl }
 
 -- it wasn't: it is dropped, and the same line puts it anew
 dropped_then_answered : Asks doubtful kept 120 save_true it_is_saved
-dropped_then_answered = record { mended = begun; mends = record { records = stays begun.records; parts = (dropped (start_record ∷ []) save_record, tt) }; keeps = record { same = dropped_is_read }; turn = answered begun 120 save_true refl }
+dropped_then_answered = record { mended = begun; mends = record { records = stays begun.records; parts = (dropped (start_record ∷ []) save_record, tt) }; keeps = record { records = λ unread. refl; parts = dropped_is_read }; turn = answered begun 120 save_true refl }
 
 -- the keeper fails once more while the list is mended
 stays_doubtful : Asks doubtful doubtful 120 save_true (reply.Refused refusal.KeepFault)
-stays_doubtful = record { mended = doubtful; mends = record { records = stays begun.records; parts = (stays (record { list = start_record ∷ []; doubt = Some save_record }), tt) }; keeps = record { same = λ k unread. refl }; turn = stayed_in_doubt doubtful 120 save_true refl }
+stays_doubtful = record { mended = doubtful; mends = record { records = stays begun.records; parts = (stays (record { list = start_record ∷ []; doubt = Some save_record }), tt) }; keeps = record { records = λ unread. refl; parts = λ k unread. refl }; turn = stayed_in_doubt doubtful 120 save_true refl }
 
 wants_memory : Asks begun begun 120 save_true (reply.Refused refusal.Memory)
-wants_memory = record { mended = begun; mends = record { records = stays begun.records; parts = (stays (record { list = start_record ∷ []; doubt = None }), tt) }; keeps = record { same = λ k unread. refl }; turn = no_memory begun 120 save_true }
+wants_memory = record { mended = begun; mends = record { records = stays begun.records; parts = (stays (record { list = start_record ∷ []; doubt = None }), tt) }; keeps = record { records = λ unread. refl; parts = λ k unread. refl }; turn = no_memory begun 120 save_true }
 
 -- one step, whichever it was
 it_is_viewed : Asks kept kept 130 view (reply.Ok 2 (done.SlotView state.Complete shown.None 1 1))
-it_is_viewed = record { mended = kept; mends = record { records = stays begun.records; parts = (stays (record { list = start_record ∷ save_record ∷ []; doubt = None }), tt) }; keeps = record { same = λ k unread. refl }; turn = answered kept 130 view refl }
+it_is_viewed = record { mended = kept; mends = record { records = stays begun.records; parts = (stays (record { list = start_record ∷ save_record ∷ []; doubt = None }), tt) }; keeps = record { records = λ unread. refl; parts = λ k unread. refl }; turn = answered kept 130 view refl }
 
 pub three_lines : Serial begun (Asking 120 save_true ∷ Asking 120 save_true ∷ Asking 130 view ∷ []) (reply.Refused refusal.KeepFault ∷ it_is_saved ∷ reply.Ok 2 (done.SlotView state.Complete shown.None 1 1) ∷ []) kept
 three_lines =
@@ -128,3 +130,45 @@ jobs_read_none = refl
 -- a look puts no record, so none is left in doubt
 pub a_look_puts_nothing : puts_record kept 130 view ≡ false
 a_look_puts_nothing = refl
+
+-- ---- a group is in doubt at the catalogue
+
+abbrev unsure : Lists
+unsure = doubt_over kept 140 (asked_with (codes "root") (codes "g1") (request.Group (codes "red")))
+
+abbrev by_worker : Request → Ask
+by_worker x = record { caller = caller.Worker; key = None; request = x }
+
+abbrev live : Ask
+live = by_worker (request.Live 0 (record { user = 0; nth = 0 }))
+
+-- where attempts go on a worker reads of the shard alone: it is answered, and the catalogue's doubt stays
+pub of_the_shard_alone : lists_read unsure live ≡ Some 0 ∷ []
+of_the_shard_alone = refl
+
+pub it_is_settled : is_settled unsure live ≡ true
+it_is_settled = refl
+
+pub the_live_one : reply_over unsure 150 live ≡ reply.Ok 2 (done.Live (Some first_attempt))
+the_live_one = refl
+
+pub the_group_stays_in_doubt : is_some (lists_over unsure 150 live).records.doubt ≡ true
+the_group_stays_in_doubt = refl
+
+-- a settling finds its attempt in the shard before the catalogue is read
+pub one_to_settle : lists_read unsure (by_worker (request.Settle first_attempt)) ≡ Some 0 ∷ None ∷ []
+one_to_settle = refl
+
+pub none_to_settle : lists_read unsure (by_worker (request.Settle (record { user = 2; nth = 9 }))) ≡ Some 0 ∷ []
+none_to_settle = refl
+
+-- what a worker may not ask reads nothing
+pub not_a_workers : lists_read unsure (by_worker (request.Grade 1 2)) ≡ []
+not_a_workers = refl
+
+-- a user is looked for first, so her shard isn't read
+pub no_further : lists_read unsure view ≡ None ∷ []
+no_further = refl
+
+pub she_isnt_answered : is_settled unsure view ≡ false
+she_isnt_answered = refl

@@ -15,9 +15,9 @@ use Rattle.qz_terms.specs.declared.reply.Reply.TheVariants as reply
 use Rattle.qz_terms.specs.declared.reply.Shown.TheVariants as shown
 use Rattle.qz_terms.specs.declared.request.Request.{Request}
 use Rattle.qz_terms.specs.declared.request.Request.TheVariants as request
-use Rattle.qz_terms.specs.Answer.{asked_part}
+use Rattle.qz_terms.specs.SchoolAnswer.{asked_part}
 use Rattle.qz_terms.specs.ExamplesSchool.{asked_with, first_attempt, look, one_of, true_false}
-use Rattle.qz_terms.specs.Serial.{Held, Lists, doubt_over, is_settled, lists_over, part_list, reads_part, reply_over}
+use Rattle.qz_terms.specs.Serial.{Held, Lists, doubt_over, is_settled, lists_over, lists_read, part_list, reads_part, reply_over}
 use Rattle.qz_terms.specs.Worlds.{Answers, Begins, Drops, GoesOn, Told, Turns, World, loaded, world}
 
 abbrev founded : Lists
@@ -80,19 +80,19 @@ pub in_shard_0 : lengths both_started ≡ 1 ∷ 1 ∷ []
 in_shard_0 = refl
 
 -- where a request goes: by the user whose attempt or grade it names, by its own words, or to no shard
-pub by_the_attempt : asked_part school.records.list (look (codes "root") (request.Total bobs_attempt)) ≡ Some 1
+pub by_the_attempt : asked_part school.records.list 2 (look (codes "root") (request.Total bobs_attempt)) ≡ Some 1
 by_the_attempt = refl
 
-pub by_the_user : asked_part school.records.list (look (codes "root") (request.Grade 1 2)) ≡ Some 0
+pub by_the_user : asked_part school.records.list 2 (look (codes "root") (request.Grade 1 2)) ≡ Some 0
 by_the_user = refl
 
-pub by_the_caller : asked_part school.records.list (start (codes "bob")) ≡ Some 1
+pub by_the_caller : asked_part school.records.list 2 (start (codes "bob")) ≡ Some 1
 by_the_caller = refl
 
-pub by_its_words : asked_part school.records.list (look (codes "root") (request.Work 1 1)) ≡ Some 1
+pub by_its_words : asked_part school.records.list 2 (look (codes "root") (request.Work 1 1)) ≡ Some 1
 by_its_words = refl
 
-pub to_none : asked_part school.records.list (look (codes "root") request.Jobs) ≡ None
+pub to_none : asked_part school.records.list 2 (look (codes "root") request.Jobs) ≡ None
 to_none = refl
 
 -- ---- bob's start is left in doubt: his shard is mended before it is read, and the other isn't touched
@@ -114,6 +114,10 @@ anns_shard_alone = refl
 
 pub both_for_a_report : read_by (look (codes "root") (request.Report 1)) ≡ true ∷ true ∷ []
 both_for_a_report = refl
+
+-- in order, up to the first in doubt
+pub no_further_than_anns : lists_read (doubt_over school 110 (start (codes "ann"))) (look (codes "root") (request.Report 1)) ≡ None ∷ Some 0 ∷ []
+no_further_than_anns = refl
 
 pub none_for_a_refused_one : read_by (look (codes "ann") (request.Report 1)) ≡ false ∷ false ∷ []
 none_for_a_refused_one = refl

@@ -1,9 +1,11 @@
 -- What every record keeps: the ranges of its numbers, the lengths of its texts, and the conditions on its questions. Names,
 -- tokens, keys and the max marks that are asked for have no test here. Bytes of anything else spell no record.
 use Rattle.std.specs.List.{list_all}
-use Rattle.std.specs.Prelude.{◌≡◌, ℕ, ◌*◌, Bool, true, ◌&&◌, List, map, length, ℤ, pos, nat_le, int_le, Option, unwrap_or, option_map, All}
+use Rattle.std.specs.Prelude.{◌≡◌, ℕ, ◌*◌, Bool, true, false, ◌&&◌, List, map, length, ℤ, pos, nat_le, ◌==◌, int_le, is_some, Option, unwrap_or, option_map, All}
 use Rattle.qz_decimal.specs.Numbers.{grade_one, one}
 use Rattle.qz_grading.specs.declared.question.Item.{Item}
+use Rattle.qz_grading.specs.declared.question.Kind.{Kind}
+use Rattle.qz_grading.specs.declared.question.Kind.TheVariants as kind
 use Rattle.qz_grading.specs.declared.question.Question.{Question}
 use Rattle.qz_grading.specs.declared.response.Answer.{Answer}
 use Rattle.qz_grading.specs.declared.response.Answer.TheVariants as answer
@@ -22,7 +24,7 @@ use Rattle.qz_terms.specs.declared.record.Record.{Record}
 use Rattle.qz_terms.specs.declared.record.Terms.{Terms}
 use Rattle.qz_terms.specs.declared.request.Request.{Request}
 use Rattle.qz_terms.specs.declared.request.Request.TheVariants as request
-use Rattle.qz_terms.specs.Answer.{keeps_record}
+use Rattle.qz_terms.specs.CatalogAnswer.{keeps_record}
 
 -- ---- numbers
 
@@ -99,8 +101,17 @@ KeepsEvent (event.Rebound job a k bound learned) = (is_bound bound ≡ true) × 
 KeepsEvent (event.Skipped job a k bound newer) = Unit {0}
 KeepsEvent (event.JobDone job quiz position) = Unit {0}
 
+-- terms stand exactly in the records of a start, a step and an end
+abbrev pub has_terms : Event → Bool
+has_terms (event.Started quiz nth behaviour bounds learned) = true
+has_terms (event.Acted a k x) = true
+has_terms (event.Noted a k x) = true
+has_terms (event.Ended a how) = true
+has_terms e = false
+
 pub record IsKept (r : Record) : Type 0 where
   pub moment : is_moment r.moment ≡ true
+  pub terms : is_some r.terms ≡ has_terms r.event
   pub settings : unwrap_or (option_map (λ (t : Terms). are_settings t.settings) r.terms) true ≡ true
   pub event : KeepsEvent r.event
 
@@ -111,6 +122,20 @@ abbrev pub KeepsAsked : Request → Type 0
 KeepsAsked (request.Save attempt slot certainty response) = is_answer response ≡ true
 KeepsAsked (request.Submit attempt slot certainty response) = is_answer response ≡ true
 KeepsAsked x = KeepsRequest x
+
+-- A description has no general feedback, since none is written in its canonical text: so the limit of that text is one of its texts.
+abbrev pub described_by : Kind → List ℕ → Bool
+described_by kind.Description general = length general == 0
+described_by k general = true
+
+abbrev pub is_described : Question → Bool
+is_described q = described_by q.kind q.general.text
+
+-- what every request keeps that brings questions
+abbrev pub asks_described : Request → Bool
+asks_described (request.Import gift) = list_all (λ (i : Item). is_described i.question) gift.items
+asks_described (request.Edit entry gift) = is_described gift
+asks_described x = true
 
 abbrev pub is_planned : Planned → Bool
 is_planned s = int_le (pos 0) s.max && int_le s.max (pos (10000 * one))

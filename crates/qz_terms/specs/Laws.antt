@@ -26,7 +26,9 @@ use Rattle.qz_terms.specs.declared.reply.Done.{Done}
 use Rattle.qz_terms.specs.declared.reply.Reply.{Reply}
 use Rattle.qz_terms.specs.declared.reply.Reply.TheVariants as reply
 use Rattle.qz_terms.specs.declared.request.Request.{Request}
-use Rattle.qz_terms.specs.Answer.{answer, answer_here, asks_catalog, first_refusal, list_after, moment_of, plan_for, put_here, said, school_answer, shard_list}
+use Rattle.qz_terms.specs.Answer.{answer_here, list_after, moment_of, put_here, said}
+use Rattle.qz_terms.specs.CatalogAnswer.{asks_catalog}
+use Rattle.qz_terms.specs.SchoolAnswer.{answer, first_refusal, plan_for, school_answer, shard_list}
 use Rattle.qz_terms.specs.Catalog as catalog
 use Rattle.qz_terms.specs.Cause.{Repeated, by_key, forbidden, is_keyed, missing_here, spells, verdict_here}
 use Rattle.qz_terms.specs.History as history

@@ -1,6 +1,6 @@
 -- Which lists of records a shard and the catalogue may hold, and which records of a shard agree with a catalogue.
 use Rattle.std.specs.List.{list_all, list_any}
-use Rattle.std.specs.Prelude.{◌≡◌, ℕ, ◌%◌, Bool, true, false, not, ◌&&◌, ◌||◌, List, [], ◌∷◌, ◌++◌, map, length, take, is_some, is_none, nat_le, ◌==◌, Some, None, filter, Option, unwrap_or, option_map, option_and_then}
+use Rattle.std.specs.Prelude.{◌≡◌, ℕ, ◌+◌, ◌%◌, Bool, true, false, not, ◌&&◌, ◌||◌, List, [], ◌∷◌, ◌++◌, map, length, take, is_some, is_none, nat_lt, nat_le, ◌==◌, slice_get, Some, None, filter, Option, unwrap_or, option_map, option_to_list, option_and_then}
 use Rattle.qz_grading.specs.declared.outcome.Behaviour.{Behaviour}
 use Rattle.qz_grading.specs.declared.question.Question.{Question}
 use Rattle.qz_grading.specs.declared.question.Shape.{Shape}
@@ -20,7 +20,8 @@ use Rattle.qz_terms.specs.declared.record.Record.{Record}
 use Rattle.qz_terms.specs.declared.record.Terms.{Terms}
 use Rattle.qz_terms.specs.declared.request.Request.{Request}
 use Rattle.qz_terms.specs.declared.request.Request.TheVariants as request
-use Rattle.qz_terms.specs.Answer.{attempt_named, bind, keeps_record, moment_in, put_here}
+use Rattle.qz_terms.specs.Answer.{attempt_named, bind, put_here}
+use Rattle.qz_terms.specs.CatalogAnswer.{keeps_record, moment_in}
 use Rattle.qz_terms.specs.Catalog as catalog
 use Rattle.qz_terms.specs.Cause.{Granted, has_key, is_keyed, verdict_here, verdict_in}
 use Rattle.qz_terms.specs.History as history
@@ -255,3 +256,50 @@ pub record Agrees (c l : List Record) (r : Record) : Type 0 where
 -- each record of a shard agrees
 pub record AllAgree (c h : List Record) : Type 0 where
   pub each : (l : List Record) (r : Record) (rest : List Record) → h ≡ l ++ r ∷ rest → Agrees c l r
+
+-- ---- a school
+
+-- The catalogue is legal and was founded with as many shards as there are lists. Each list is legal for its shard, and each of its
+-- records agrees with the catalogue.
+pub record IsSchool (c : List Record) (parts : List (List Record)) : Type 0 where
+  pub records : IsLegalCatalog c
+  pub founded : catalog.shards c ≡ Some (length parts)
+  pub legal : (k : ℕ) (h : List Record) → slice_get parts k ≡ Some h → IsLegal k (length parts) h
+  pub agree : (k : ℕ) (h : List Record) → slice_get parts k ≡ Some h → AllAgree c h
+
+-- ---- the positions of the catalogue that a record names
+
+-- of what it binds, and of a job that is done
+abbrev pub positions_by : Event → List ℕ
+positions_by (event.Started quiz nth behaviour bounds learned) = map (λ (b : Bound). b.at) bounds
+positions_by (event.Rebound job a k b learned) = b.at ∷ []
+positions_by (event.JobDone job quiz position) = position ∷ []
+positions_by e = []
+
+-- that of its terms comes first
+abbrev pub positions : Record → List ℕ
+positions r = option_to_list (option_map (λ (t : Terms). t.at) r.terms) ++ positions_by r.event
+
+-- the first that is past the catalogue's end
+abbrev pub past_end : List Record → Record → Option ℕ
+past_end c r = first_of (filter (nat_lt (length c)) (positions r))
+
+-- The first record of a shard's list that doesn't agree names a position past the catalogue's end: the catalogue is behind.
+pub record IsBehind (c h : List Record) (position : ℕ) : Type 0 where
+  pub before : List Record
+  pub own : Record
+  pub rest : List Record
+  pub list : h ≡ before ++ own ∷ rest
+  pub agree : AllAgree c before
+  pub past : past_end c own ≡ Some position
+
+-- It names none, and disagrees: it was altered, or the catalogue was. It stands at this place, counted from 1.
+pub record IsAltered (c h : List Record) (place : ℕ) : Type 0 where
+  pub before : List Record
+  pub own : Record
+  pub rest : List Record
+  pub list : h ≡ before ++ own ∷ rest
+  pub agree : AllAgree c before
+  pub within : past_end c own ≡ None
+  pub disagrees : Agrees c before own → ⊥
+  pub at : place ≡ length before + 1

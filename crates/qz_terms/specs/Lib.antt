@@ -5,10 +5,13 @@ pub mod Review
 pub mod History
 pub mod Catalog
 pub mod Spelling
+pub mod Sameness
 pub mod Kept
 pub mod Cause
 pub mod Parts
 pub mod Answer
+pub mod CatalogAnswer
+pub mod SchoolAnswer
 pub mod Legal
 pub mod Serial
 pub mod Worlds
@@ -20,6 +23,7 @@ pub mod ExamplesSchool
 pub mod ExamplesFirstAttempt
 pub mod ExamplesTimes
 pub mod ExamplesOverrides
+pub mod ExamplesSettings
 pub mod ExamplesRegrade
 pub mod ExamplesSkipped
 pub mod ExamplesMarked
@@ -34,3 +38,5 @@ pub mod ExamplesLimits
 pub mod ExamplesParts
 pub mod ExamplesShards
 pub mod ExamplesSerial
+pub mod ExamplesQuizzes
+pub mod ExamplesWhole

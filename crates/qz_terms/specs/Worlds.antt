@@ -1,11 +1,11 @@
 -- Every schedule: what turns, mendings and stops, in any order, make of the lists of a school. No thread stands in it.
 use Rattle.std.specs.List.{range_with_len}
-use Rattle.std.specs.Prelude.{◌≡◌, ℕ, ◌+◌, ◌-◌, ◌%◌, Bool, true, false, not, ◌&&◌, ◌||◌, ◌⊎◌, List, [], ◌∷◌, ◌++◌, map, length, drop, replicate, pos, if◌then◌else◌, nat_lt, nat_le, ◌==◌, slice_get, Some, None, fold, Option, unwrap_or, option_map, option_to_list, slice_set}
+use Rattle.std.specs.Prelude.{◌≡◌, ℕ, ◌+◌, ◌-◌, ◌%◌, Bool, true, false, not, ◌&&◌, ◌||◌, ◌⊎◌, List, [], ◌∷◌, ◌++◌, map, length, drop, replicate, pos, if◌then◌else◌, nat_lt, ◌==◌, slice_get, Some, None, fold, Option, unwrap_or, option_map, option_to_list, slice_set}
 use Rattle.qz_grading.specs.declared.refusal.AttemptId.{AttemptId}
 use Rattle.qz_grading.specs.declared.refusal.Refusal.{Refusal}
 use Rattle.qz_grading.specs.declared.refusal.Refusal.TheVariants as refusal
 use Rattle.qz_grading.specs.declared.refusal.Thing.TheVariants as thing
-use Rattle.qz_grading.specs.Behaviours.{first_some, when}
+use Rattle.qz_grading.specs.Behaviours.{first_some}
 use Rattle.qz_grading.specs.Grading.{at_place}
 use Rattle.qz_grading.specs.Steps.{before}
 use Rattle.qz_terms.specs.declared.ask.Ask.{Ask}
@@ -23,9 +23,10 @@ use Rattle.qz_terms.specs.declared.reply.Reply.TheVariants as reply
 use Rattle.qz_terms.specs.declared.reply.Row.{Row}
 use Rattle.qz_terms.specs.declared.request.Request.{Request}
 use Rattle.qz_terms.specs.declared.request.Request.TheVariants as request
-use Rattle.qz_terms.specs.Answer.{answer_here, asks_catalog, attempt_named, catalog_after, catalog_answer, list_after, live_answer, named_user, work_after, work_answer}
+use Rattle.qz_terms.specs.Answer.{answer_here, attempt_named, list_after, live_answer, named_user, work_after, work_answer}
+use Rattle.qz_terms.specs.CatalogAnswer.{asks_catalog, catalog_after, catalog_answer}
 use Rattle.qz_terms.specs.Catalog as catalog
-use Rattle.qz_terms.specs.Cause.{forbidden, is_keyed, missing_attempt, missing_in, rule_of}
+use Rattle.qz_terms.specs.Cause.{forbidden, is_keyed, missing_attempt, missing_in, missing_shard, rule_of}
 use Rattle.qz_terms.specs.History as history
 use Rattle.qz_terms.specs.Lists.{first_of, in_order}
 use Rattle.qz_terms.specs.Parts.{part}
@@ -190,9 +191,9 @@ abbrev pub read_or_refused : World → ℕ → ℕ → Ask → Visit → Option 
 read_or_refused w k moment ask v (Some r) reading = replied w k moment ask v v (reply.Refused r)
 read_or_refused w k moment ask v None reading = goes_on_with w k ask reading
 
--- a shard that isn't there is found without a turn
+-- where attempts go on is asked of a shard alone, and one that isn't there is found without a turn
 abbrev pub missing_live : ℕ → Request → Option Refusal
-missing_live count (request.Live shard attempt) = when (nat_le count shard) (refusal.Unknown thing.Shard)
+missing_live count (request.Live shard attempt) = missing_shard count (request.Live shard attempt)
 missing_live count x = None
 
 abbrev pub user_refusal : ℕ → Option User → Request → Option Refusal
@@ -265,7 +266,7 @@ abbrev pub reading_turn : World → ℕ → ℕ → Ask → Visit → List Recor
 reading_turn w k moment ask v l count ForUser = read_or_refused w k moment ask v (user_refusal count (catalog.user_of l ask.caller) ask.request) (record v { user = catalog.user_of l ask.caller })
 reading_turn w k moment ask v l count (ForQuiz a) = read_or_refused w k moment ask v (missing_attempt l (visitor v ask) a) (record v { quiz = history.quiz l a })
 reading_turn w k moment ask v l count ForPlan = read_or_refused w k moment ask v (missing_in l ask.request) (record v { plan = catalog.plan l (planned_quiz v ask.request) (named_user (visitor v ask) ask.request) })
-reading_turn w k moment ask v l count (ForJob number) = read_or_refused w k moment ask v (missing_in l ask.request) (record v { job = catalog.job l number })
+reading_turn w k moment ask v l count (ForJob number) = read_or_refused w k moment ask v (first_some (missing_in l ask.request ∷ missing_shard count ask.request ∷ [])) (record v { job = catalog.job l number })
 reading_turn w k moment ask v l count (ForNames quiz) = read_or_refused w k moment ask v (missing_in l ask.request) (record v { plan = catalog.plan l quiz 0; names = map (λ (u : User). u.name) (catalog.users l) })
 reading_turn w k moment ask v l count (ForRows quiz part) = rows_read w k moment ask (record v { rows = v.rows ++ map (row_in l v.names quiz (policy_of v.plan)) (history.takers l quiz) }) (part + 1 == count)
 reading_turn w k moment ask v l count ForRequest = w
@@ -279,15 +280,16 @@ abbrev pub stays_in_doubt : Option Record → Mending → Option Refusal
 stays_in_doubt (Some x) (Stays r) = Some r
 stays_in_doubt doubt m = None
 
+-- a turn at a list that stays in doubt ends, and its caller has then seen the list as it stands
 abbrev pub turn_at : World → ℕ → ℕ → Ask → Visit → ℕ → Mending → Choice → Option ℕ → Held → Stage → World
 turn_at w k moment ask v count mending choice part held stage =
     let mended = mended_by mending held held.doubt in
     elim (stays_in_doubt held.doubt mending) [
-      | Some r ↦ replied w k moment ask v v (reply.Refused r)
+      | Some r ↦ replied w k moment ask (seeing v part held.list) (seeing v part held.list) (reply.Refused r)
       | None ↦ second_part (with_held w part mended) k moment ask (seeing v part mended.list) part mended.list count choice stage
     ]
 
--- a shard that isn't there is found without a turn, by a worker too
+-- so it is by a worker, who has no turn before
 abbrev pub not_there : World → ℕ → ℕ → Ask → Visit → Option Refusal → World
 not_there w k moment ask v None = w
 not_there w k moment ask v (Some r) = replied w k moment ask v v (reply.Refused r)

@@ -3,19 +3,27 @@
 
 mod access;
 mod ask;
+mod callers;
 mod grades;
+mod keys;
 pub mod laws;
 mod people;
 mod plan;
 mod record;
 mod reply;
 mod request;
+mod sameness;
+#[cfg(test)]
+mod tests;
 
 pub use access::{Handling, Override, Review, Settings};
 pub use ask::Ask;
+pub use callers::{forbidden, is_anothers, is_student};
 pub use grades::{Method, Policy};
+pub use keys::place_of;
 pub use people::{Caller, Role, User};
 pub use plan::{Bound, Job, Plan, Planned};
 pub use record::{Event, How, Learned, Record, Terms};
 pub use reply::{Done, Part, Reply, Row, Shown, Status};
 pub use request::{Request, Whom};
+pub use sameness::same_request;

@@ -22,10 +22,10 @@ use Rattle.qz_grading.specs.declared.response.Step.TheVariants as step
 use Rattle.qz_grading.specs.Grading.{same, same_answer, gradable, grade}
 use Rattle.qz_grading.specs.Steps.{is_finish, has_finish, last, last_of}
 use Rattle.qz_grading.specs.Behaviours.{complete_under, handed_in, ends_complete, ends_incomplete, is_right, graded, changed, changed_after, further, submitted_tries, adaptive_tries, best_try, penalty_under, adaptive_state, adaptive, outcome}
-use Rattle.qz_grading.proofs.StepLemmas.{has_finish-push, has_finish-finished, before-finished}
+use Rattle.qz_grading.proofs.StepLemmas.{has_finish-push, has_finish-finished, before-finished, has_finish-closed, before-closed, handed_in-complete, ends_in_submit-push}
 use Rattle.qz_tries.specs.Progress.{is_adaptive}
 use Rattle.qz_tries.specs.Parts.{is_new, gradable_last}
-use Rattle.qz_tries.proofs.MoreSteps.{gradable_last-none, gradable_last-some, has_finish-closed, before-closed, handed_in-complete, ends_in_submit-push, without_last-push, enumerate_from-append, and-false}
+use Rattle.qz_tries.proofs.MoreSteps.{gradable_last-none, gradable_last-some, without_last-push, enumerate_from-append, and-false}
 
 -- ---- responses that are the same are equal
 

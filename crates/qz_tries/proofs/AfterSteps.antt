@@ -12,13 +12,13 @@ use Rattle.qz_grading.specs.declared.response.Response.{Response}
 use Rattle.qz_grading.specs.declared.response.Step.{Step}
 use Rattle.qz_grading.specs.declared.response.Step.TheVariants as step
 use Rattle.qz_grading.specs.Grading.{blank, fits, complete, gradable, grade}
-use Rattle.qz_grading.specs.Steps.{is_finish, has_finish, last, last_of, response_of, submitted}
+use Rattle.qz_grading.specs.Steps.{is_finish, has_finish, last, last_of, response_of, response_at, submitted}
 use Rattle.qz_grading.specs.Behaviours.{ending_try, complete_under, handed_in, ends_complete, ends_incomplete, is_right, changed, submitted_tries, penalty_under, outcome}
-use Rattle.qz_grading.proofs.StepLemmas.{last_of-push, has_finish-push, has_finish-finished, last-finished}
+use Rattle.qz_grading.proofs.StepLemmas.{last_of-push, has_finish-push, has_finish-finished, last-finished, has_finish-closed, last-closed, last-answered, last-passed, handed_in-closed, handed_in-finished, handed_in-complete, handed_in-passed, handed_in-incomplete, ends_in_submit-push, slice_get-push, inside-more, step_at-kept}
 use Rattle.qz_tries.specs.Progress.{Progress, is_adaptive, has_tries}
-use Rattle.qz_tries.specs.After.{response_at, submitted_at, has_right_try, IsAfter}
+use Rattle.qz_tries.specs.After.{submitted_at, has_right_try, IsAfter}
 use Rattle.qz_tries.specs.Parts.{is_new, gradable_last}
-use Rattle.qz_tries.proofs.MoreSteps.{gradable_last-some, has_finish-closed, last-closed, last-response, last-other, handed_in-closed, handed_in-finished, handed_in-complete, handed_in-other, handed_in-incomplete, ends_in_submit-push, slice_get-push, inside-more, step_at-kept, and-true}
+use Rattle.qz_tries.proofs.MoreSteps.{gradable_last-some, and-true}
 use Rattle.qz_tries.proofs.InteractiveSteps as interactive
 use Rattle.qz_tries.proofs.AdaptiveSteps as adaptive
 
@@ -140,20 +140,20 @@ pub passes : (m : Progress) (q : Question) (s : List Step) (x : Step) (o : Outco
     → IsAfter (record m { outcome = o }) q (s ++ x ∷ [])
 passes m q s x o after open_yet other silent none waits_is =
     let still : has_finish s ≡ false = sym after.finished ∙ open_yet in
-    let same_last : last (s ++ x ∷ []) ≡ last s = last-other s x still other silent in
+    let same_last : last (s ++ x ∷ []) ≡ last s = last-passed s x still other silent in
     let part : ends_complete m.behaviour q (s ++ x ∷ []) ≡ false = ends_in_submit-push (complete_under m.behaviour q) s x ∙ rw none refl in
     let is : ends_incomplete m.behaviour q (s ++ x ∷ []) ≡ false = ends_in_submit-push (λ (t : Response). not (complete_under m.behaviour q t)) s x ∙ rw none refl in
-    stays m q s x o false after open_yet other (handed_in-other m.behaviour q s x still other none) part is waits_is
+    stays m q s x o false after open_yet other (handed_in-passed m.behaviour q s x still other none) part is waits_is
     m.last (ap (λ (p : Option Step). unwrap_or (option_and_then response_of p) blank) (step_at-kept m.last s x after.inside) ∙ after.last ∙ sym same_last) (inside-more m.last s x after.inside) (rw same_last after.fits)
 
 pub saves : (m : Progress) (q : Question) (s : List Step) (r : Response) (place : ℕ) (o : Outcome) → IsAfter m q s → m.finished ≡ false → fits q r m.behaviour ≡ true → place ≡ length s → o ≡ waited m.outcome false
     → IsAfter (record m { outcome = o; last = Some place }) q (s ++ step.Save r ∷ [])
 saves m q s r place o after open_yet fitting at_end waits_is =
     let still : has_finish s ≡ false = sym after.finished ∙ open_yet in
-    let last_is : last (s ++ step.Save r ∷ []) ≡ r = last-response s (step.Save r) r still refl refl in
+    let last_is : last (s ++ step.Save r ∷ []) ≡ r = last-answered s (step.Save r) still refl r refl in
     let part : ends_complete m.behaviour q (s ++ step.Save r ∷ []) ≡ false = ends_in_submit-push (complete_under m.behaviour q) s (step.Save r) in
     let is : ends_incomplete m.behaviour q (s ++ step.Save r ∷ []) ≡ false = ends_in_submit-push (λ (t : Response). not (complete_under m.behaviour q t)) s (step.Save r) in
-    stays m q s (step.Save r) o false after open_yet refl (handed_in-other m.behaviour q s (step.Save r) still refl refl) part is waits_is
+    stays m q s (step.Save r) o false after open_yet refl (handed_in-passed m.behaviour q s (step.Save r) still refl refl) part is waits_is
     (Some place) (place-response s (step.Save r) r place at_end refl ∙ sym last_is) (place-inside s (step.Save r) place at_end) (rw last_is (λ can. fitting))
 
 pub submits_incomplete : (m : Progress) (q : Question) (s : List Step) (r : Response) (place : ℕ) (o : Outcome) → IsAfter m q s → m.finished ≡ false → fits q r m.behaviour ≡ true → complete q r ≡ false → place ≡ length s → o ≡ waited m.outcome true
@@ -161,7 +161,7 @@ pub submits_incomplete : (m : Progress) (q : Question) (s : List Step) (r : Resp
 submits_incomplete m q s r place o after open_yet fitting partial at_end waits_is =
     let still : has_finish s ≡ false = sym after.finished ∙ open_yet in
     let under : complete_under m.behaviour q r ≡ false = complete-under m.behaviour q r false after.plays partial in
-    let last_is : last (s ++ step.Submit r ∷ []) ≡ r = last-response s (step.Submit r) r still refl refl in
+    let last_is : last (s ++ step.Submit r ∷ []) ≡ r = last-answered s (step.Submit r) still refl r refl in
     let part : ends_complete m.behaviour q (s ++ step.Submit r ∷ []) ≡ false = ends_in_submit-push (complete_under m.behaviour q) s (step.Submit r) ∙ under in
     let is : ends_incomplete m.behaviour q (s ++ step.Submit r ∷ []) ≡ true = ends_in_submit-push (λ (t : Response). not (complete_under m.behaviour q t)) s (step.Submit r) ∙ ap not under in
     stays m q s (step.Submit r) o true after open_yet refl (handed_in-incomplete m.behaviour q s r still under) part is waits_is
@@ -173,7 +173,7 @@ pub hands_in : (m : Progress) (q : Question) (s : List Step) (r : Response) (pla
     → IsAfter (record m { outcome = o; last = Some place; handed_in = Some place; right = right' }) q (s ++ step.Submit r ∷ [])
 hands_in m q s r place o right' after open_yet fitting whole at_end is earned' few' right_is =
     let still : has_finish s ≡ false = sym after.finished ∙ open_yet in
-    let last_is : last (s ++ step.Submit r ∷ []) ≡ r = last-response s (step.Submit r) r still refl refl in
+    let last_is : last (s ++ step.Submit r ∷ []) ≡ r = last-answered s (step.Submit r) still refl r refl in
     let more : handed_in m.behaviour q (s ++ step.Submit r ∷ []) ≡ handed_in m.behaviour q s ++ r ∷ [] = handed_in-complete m.behaviour q s r still (complete-under m.behaviour q r true after.plays whole) in
     record {
       plays = after.plays;

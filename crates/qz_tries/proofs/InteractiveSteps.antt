@@ -14,9 +14,9 @@ use Rattle.qz_grading.specs.declared.response.Step.TheVariants as step
 use Rattle.qz_grading.specs.Grading.{complete, gradable, grade}
 use Rattle.qz_grading.specs.Steps.{is_finish, has_finish, before, last}
 use Rattle.qz_grading.specs.Behaviours.{complete_under, handed_in, ends_complete, ends_incomplete, ending_try, tries_allowed, is_right, graded, penalised, outcome}
-use Rattle.qz_grading.proofs.StepLemmas.{has_finish-push, has_finish-finished, before-open, before-finished}
+use Rattle.qz_grading.proofs.StepLemmas.{has_finish-push, has_finish-finished, before-open, before-finished, has_finish-closed, before-closed, handed_in-complete, ends_in_submit-push}
 use Rattle.qz_tries.specs.Parts.{gradable_last}
-use Rattle.qz_tries.proofs.MoreSteps.{gradable_last-none, gradable_last-some, has_finish-closed, before-closed, handed_in-complete, ends_in_submit-push, enumerate_from-append, and-false}
+use Rattle.qz_tries.proofs.MoreSteps.{gradable_last-none, gradable_last-some, enumerate_from-append, and-false}
 
 -- a try, with its number, that ends the slot
 abbrev pub ends : Question → ℕ × Response → Bool

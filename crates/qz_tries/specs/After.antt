@@ -1,24 +1,15 @@
 -- What a machine of tries knows of the steps that it followed.
-use Rattle.std.specs.Prelude.{◌≡◌, ℕ, ◌<◌, ◌≤◌, Bool, true, false, List, [], length, Option, IfSome, is_some, find, unwrap_or, option_and_then, slice_get}
+use Rattle.std.specs.Prelude.{◌≡◌, ℕ, ◌<◌, ◌≤◌, Bool, true, false, List, [], length, Option, IfSome, is_some, find, option_and_then}
 use Rattle.qz_decimal.specs.Numbers.{IsEarnedFraction}
 use Rattle.qz_grading.specs.declared.outcome.Behaviour.{Behaviour}
 use Rattle.qz_grading.specs.declared.outcome.Behaviour.TheVariants.{Interactive}
 use Rattle.qz_grading.specs.declared.question.Question.{Question}
 use Rattle.qz_grading.specs.declared.response.Response.{Response}
 use Rattle.qz_grading.specs.declared.response.Step.{Step}
-use Rattle.qz_grading.specs.declared.response.Step.TheVariants as step
-use Rattle.qz_grading.specs.Grading.{blank, fits, gradable, grade}
-use Rattle.qz_grading.specs.Steps.{has_finish, last, last_of, response_of, submitted}
+use Rattle.qz_grading.specs.Grading.{fits, gradable, grade}
+use Rattle.qz_grading.specs.Steps.{has_finish, last, last_of, submitted, step_at, response_at}
 use Rattle.qz_grading.specs.Behaviours.{outcome, handed_in, submitted_tries, is_right}
 use Rattle.qz_tries.specs.Progress.{Progress, has_tries}
-
--- the step at a place, if any
-abbrev pub step_at : List Step → Option ℕ → Option Step
-step_at s place = option_and_then (slice_get s) place
-
--- the response at a place, or the blank one where there is none
-abbrev pub response_at : List Step → Option ℕ → Response
-response_at s place = unwrap_or (option_and_then response_of (step_at s place)) blank
 
 -- the response that was submitted at a place
 abbrev pub submitted_at : List Step → Option ℕ → Option Response
@@ -48,11 +39,3 @@ pub record IsAfter (m : Progress) (q : Question) (s : List Step) : Type 0 where
 pub record Starts (m : Progress) (b : Behaviour) : Type 0 where
   pub behaviour : m.behaviour ≡ b
   pub after : (q : Question) → IsAfter m q []
-
--- the response of a step, if it has one, fits the question
-abbrev pub StepFits : Behaviour → Question → Step → Type 0
-StepFits b q x = IfSome (response_of x) (λ r. fits q r b ≡ true)
-
-abbrev pub is_save : Step → Bool
-is_save (step.Save r) = true
-is_save x = false

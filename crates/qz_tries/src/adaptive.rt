@@ -18,7 +18,7 @@ ghost use Rattle.qz_grading.specs.Behaviours as behaviours;
 ghost use Rattle.qz_tries.specs.Progress.{is_adaptive};
 ghost use Rattle.qz_tries.specs.Parts.{is_new, gradable_last};
 
-use crate::fractions::{graded, reduced};
+use crate::fractions::reduced;
 use qz_decimal::Fraction;
 use qz_grading::{Behaviour, Outcome, Question, Response, State, Steps, grade, same};
 use std::sync::ledger::Ledger;
@@ -121,8 +121,12 @@ pub(crate) fn after_finish<L: Ledger>(
     };
     let grade = grade(question, last, steps);
     if !is_new(handed_in, last) {
-        return ended(graded(grade), best(so_far), tries);
+        return ended(State::graded(grade), best(so_far), tries);
     }
     let penalty = penalty_under(behaviour, question);
-    ended(graded(grade), best_with(so_far, grade, penalty), tries + 1)
+    ended(
+        State::graded(grade),
+        best_with(so_far, grade, penalty),
+        tries + 1,
+    )
 }

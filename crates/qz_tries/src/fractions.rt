@@ -1,29 +1,17 @@
-//! Fractions: which are right, the states that they give, and what penalties leave of them.
+//! Fractions: which are right, and what penalties leave of them.
 
 ghost use Rattle.std.specs.Prelude.{◌≡◌, pos, neg_ℤ, ◌-ℤ◌, ◌*ℤ◌, ◌≤ℤ◌};
 ghost use Rattle.qz_decimal.specs.Numbers.{one, IsWithin};
 ghost use Rattle.qz_decimal.specs.Reading.{IsWrittenFraction};
-ghost use Rattle.qz_grading.specs.Behaviours.{is_right, graded};
+ghost use Rattle.qz_grading.specs.Behaviours.{is_right};
 
 use qz_decimal::{Fraction, Tone, tone_of};
-use qz_grading::State;
 
 /// Whether a fraction is that of a right answer.
 pub(crate) fn is_right(fraction: Fraction) -> bool
     ensures { result ≡ is_right fraction }
 {
     tone_of(fraction) == Tone::Right
-}
-
-/// The state of an answer with this fraction.
-pub(crate) fn graded(fraction: Fraction) -> State
-    ensures { result ≡ graded fraction }
-{
-    match tone_of(fraction) {
-        Tone::Wrong => State::GradedWrong,
-        Tone::Partial => State::GradedPartial,
-        Tone::Right => State::GradedRight,
-    }
 }
 
 /// What so many penalties leave of a fraction. It may be below 0.

@@ -16,7 +16,7 @@ ghost use Rattle.qz_grading.specs.Steps.{has_finish};
 ghost use Rattle.qz_grading.specs.Behaviours.{outcome, is_right, graded, tries_allowed};
 ghost use Rattle.qz_tries.specs.Parts.{gradable_last};
 
-use crate::fractions::{graded, is_right, reduced};
+use crate::fractions::{is_right, reduced};
 use qz_decimal::Fraction;
 use qz_grading::{Outcome, Question, Response, State, Steps, grade};
 use std::sync::ledger::Ledger;
@@ -38,7 +38,7 @@ fn ends_with(question: &Question, grade: Fraction, penalties: u32, tries: u32) -
 {
     let left = reduced(grade, penalties, question.penalty);
     Outcome {
-        state: graded(grade),
+        state: State::graded(grade),
         fraction: Some(Fraction(left.0.max(0))),
         ended: true,
         needs_again: false,

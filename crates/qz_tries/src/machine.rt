@@ -4,18 +4,19 @@ ghost use Rattle.std.specs.Prelude.{◌≡◌, ◌-◌, ◌+◌, ◌^◌, ◌<�
 ghost use Rattle.qz_decimal.specs.Numbers.{IsEarnedFraction};
 ghost use Rattle.qz_grading.specs.Grading.{complete, fits};
 ghost use Rattle.qz_grading.specs.Questions.{IsQuestion};
-ghost use Rattle.qz_grading.specs.Steps.{last, is_finish, is_mark};
+ghost use Rattle.qz_grading.specs.Steps.{last, is_finish, is_mark, is_save, response_at, StepFits};
 ghost use Rattle.qz_grading.specs.Behaviours.{barred, barred_showing, moved, is_wrong_action};
 ghost use Rattle.qz_grading.specs.Behaviours as behaviours;
 ghost use Rattle.qz_tries.specs.Progress.{is_adaptive, has_tries};
-ghost use Rattle.qz_tries.specs.After.{is_save, response_at, IsAfter, Starts, StepFits};
+ghost use Rattle.qz_tries.specs.After.{IsAfter, Starts};
 
 use crate::adaptive::{is_new, penalty_under};
 use crate::fractions::is_right;
-use crate::places::{ends_complete, ends_with_submit_of, gradable_at, is_same_at, submitted_at};
+use crate::places::{ends_complete, gradable_at, submitted_at};
 use crate::{adaptive, interactive};
 use qz_grading::{
     Behaviour, Moved, Outcome, Question, Refusal, Response, State, Step, Steps, complete, grade,
+    moved,
 };
 use std::marker::Model;
 use std::sync::ledger::Ledger;
@@ -216,11 +217,7 @@ impl TryMachine {
         requires { response_at before.now self.now.last ≡ last before.now }
         ensures { result ≡ moved before.now step.now }
     {
-        match step {
-            Step::Save(response) if is_same_at(before, self.last, response) => Moved::Same,
-            Step::Submit(response) if ends_with_submit_of(before, response) => Moved::Same,
-            _ => Moved::Kept,
-        }
+        moved(before, self.last, step)
     }
 
     /// Goes on with a response, at this place, that isn't handed in.

@@ -1,24 +1,20 @@
-ghost use Rattle.std.specs.Prelude.{◌≡◌, ◌<◌, ◌≤◌, ◌∷◌, [], true, pos, IfOk, codes};
-ghost use Rattle.qz_decimal.specs.Reading.{IsWrittenFraction};
+ghost use Rattle.std.specs.Prelude.{◌≡◌, ◌<◌, ◌≤◌, true};
 ghost use Rattle.qz_grading.specs.Questions.{IsQuestion};
+ghost use Rattle.qz_grading.specs.Steps.{StepFits};
 ghost use Rattle.qz_tries.specs.Progress.{has_tries};
-ghost use Rattle.qz_tries.specs.After.{StepFits};
 
 use super::*;
-use qz_decimal::{Fraction, Mark};
+use qz_decimal::{Fraction, Mark, ONE};
 use qz_grading::{
-    Answer, Behaviour, Choice, Format, Kind, Moved, Outcome, Question, Refusal, Response, Rich,
-    State, Step, Steps, fits,
+    Answer, Behaviour, Moved, Outcome, Question, Refusal, Response, State, Step, Steps, fits,
 };
-use qz_text::{Listed, NoMemory, Text};
+use qz_samples::{three_choices, truth};
+use qz_text::NoMemory;
 use std::alloc::{AllocError, Global};
 use std::marker::Brand;
 use std::process::Abort;
 use std::sync::ledger::{Blank, Ledger};
 use std::test::Fail;
-
-/// The units in 1.
-const ONE: i64 = 10_000_000;
 
 const HALF: i64 = 5_000_000;
 
@@ -32,85 +28,6 @@ const KEPT: Result<Moved, Refusal> = Ok(Moved::Kept);
 const SAME: Result<Moved, Refusal> = Ok(Moved::Same);
 
 const AGAIN_FIRST: Result<Moved, Refusal> = Err(Refusal::NeedsTryAgain);
-
-fn empty(alloc: Global) -> Text
-    ensures { result ≡ [] }
-{
-    Text {
-        items: String::new(alloc),
-    }
-}
-
-fn no_text(alloc: Global) -> Rich
-    ensures { result.text ≡ [] }
-{
-    Rich {
-        format: Format::Moodle,
-        text: empty(alloc),
-    }
-}
-
-/// A question with two hints.
-fn question(alloc: Global, kind: Kind, penalty: Fraction) -> Result<Question, NoMemory>
-    ensures kind { IfOk result (λ q. q.kind ≡ kind) }
-    ensures penalty { IfOk result (λ q. q.penalty ≡ penalty) }
-    ensures name { IfOk result (λ q. q.name ≡ []) }
-    ensures text { IfOk result (λ q. q.text.text ≡ []) }
-    ensures general { IfOk result (λ q. q.general.text ≡ []) }
-    ensures hints { IfOk result (λ q. q.hints ≡ [] ∷ [] ∷ []) }
-{
-    let items = vec![in alloc; empty(alloc), empty(alloc)]?;
-    Ok(Question {
-        name: empty(alloc),
-        text: no_text(alloc),
-        general: no_text(alloc),
-        kind,
-        penalty,
-        hints: Listed { items },
-    })
-}
-
-/// True is right.
-fn sky(alloc: Global, penalty: Fraction) -> Result<Question, NoMemory>
-    requires { IsWrittenFraction penalty }
-    ensures { IfOk result IsQuestion }
-{
-    let on_wrong = no_text(alloc);
-    let on_right = no_text(alloc);
-    let kind = Kind::TrueFalse {
-        right: true,
-        on_wrong,
-        on_right,
-    };
-    question(alloc, kind, penalty)
-}
-
-fn choice(alloc: Global, weight: Fraction) -> Result<Choice, NoMemory>
-    ensures weight { IfOk result (λ c. c.weight ≡ weight) }
-    ensures text { IfOk result (λ c. c.text.text ≡ codes "a") }
-    ensures feedback { IfOk result (λ c. c.feedback.text ≡ []) }
-{
-    Ok(Choice {
-        weight,
-        text: Rich {
-            format: Format::Moodle,
-            text: Text::of(alloc, "a")?,
-        },
-        feedback: no_text(alloc),
-    })
-}
-
-/// The first choice is right, the second is half of it, and the third is wrong.
-fn weighed(alloc: Global, penalty: Fraction) -> Result<Question, NoMemory>
-    requires { IsWrittenFraction penalty }
-    ensures { IfOk result IsQuestion }
-{
-    let right = choice(alloc, Fraction(ONE))?;
-    let half = choice(alloc, Fraction(HALF))?;
-    let wrong = choice(alloc, Fraction(0))?;
-    let items = vec![in alloc; right, half, wrong]?;
-    question(alloc, Kind::One(Listed { items }), penalty)
-}
 
 /// A step of one word: `s` for a Save and `u` for a Submit, each with the place of a choice or 0 for a blank answer, `a` for
 /// Again, `m` for a Mark, else a Finish.
@@ -245,7 +162,7 @@ const fn wrong(behaviour: Behaviour) -> Result<Moved, Refusal> {
 #[test]
 fn interactive_tries(rt: HostRuntime) -> Result<(), Fail> {
     let alloc = rt.alloc();
-    let question = sky(alloc, Fraction(THIRD))?;
+    let question = truth(alloc, true, Fraction(THIRD))?;
     let rows = [
         ("u1", KEPT, State::GradedRight, Some(ONE), 1),
         ("u2", KEPT, State::Todo, None, 1),
@@ -315,7 +232,7 @@ fn interactive_finish(rt: HostRuntime) -> Result<(), Fail> {
         ("u3 a u2 a u2 f", KEPT, State::GradedPartial, Some(0), 3),
         ("u3 a s1 f m", KEPT, State::GradedRight, Some(6_666_667), 1),
     ];
-    let question = weighed(alloc, Fraction(THIRD))?;
+    let question = three_choices(alloc, Fraction(0), Fraction(THIRD))?;
     hold(&rt, alloc, &question, Behaviour::Interactive, &rows)?;
     Ok(())
 }
@@ -324,7 +241,7 @@ fn interactive_finish(rt: HostRuntime) -> Result<(), Fail> {
 #[test]
 fn adaptive_tries(rt: HostRuntime) -> Result<(), Fail> {
     let alloc = rt.alloc();
-    let question = sky(alloc, Fraction(TENTH))?;
+    let question = truth(alloc, true, Fraction(TENTH))?;
     let rows = [
         ("u2", KEPT, State::Todo, Some(0), 1),
         ("u2 u2", SAME, State::Todo, Some(0), 1),
@@ -357,7 +274,7 @@ fn adaptive_tries(rt: HostRuntime) -> Result<(), Fail> {
 #[test]
 fn adaptive_finish(rt: HostRuntime) -> Result<(), Fail> {
     let alloc = rt.alloc();
-    let question = weighed(alloc, Fraction(TENTH))?;
+    let question = three_choices(alloc, Fraction(0), Fraction(TENTH))?;
     let rows = [
         ("f", KEPT, State::GaveUp, Some(0), 0),
         ("s1 f", KEPT, State::GradedRight, Some(ONE), 1),

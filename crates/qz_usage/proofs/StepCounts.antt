@@ -15,9 +15,8 @@ use Rattle.qz_grading.specs.declared.response.Step.TheVariants as step
 use Rattle.qz_grading.specs.Steps.{is_answering, is_finish, is_mark, has_finish, given, last_of}
 use Rattle.qz_grading.specs.Behaviours.{first_some, when}
 use Rattle.qz_grading.specs.Slots.{last_given, is_full_for, is_misfit, most_answering, most_marks}
-use Rattle.qz_grading.proofs.StepLemmas.{last_of-push}
+use Rattle.qz_grading.proofs.StepLemmas.{last_of-push, has_finish-more}
 use Rattle.qz_usage.specs.Runs.{IsGiven, IsWithinLimits, has_misfit}
-use Rattle.qz_behave.proofs.MoreSteps.{has_finish-more}
 
 one_more : {A : Type 0} (p : A → Bool) (x : A) (b : Bool) → p x ≡ b → length (filter p (x ∷ [])) ≡ (if b then 1 else 0)
 one_more p x true is = rw is refl

@@ -4,8 +4,8 @@ ghost use Rattle.std.specs.Prelude.{◌≡◌, ◌+◌, ◌-◌, ◌^◌, ◌<�
 ghost use Rattle.qz_decimal.specs.Numbers.{IsEarnedFraction};
 ghost use Rattle.qz_grading.specs.Questions.{IsQuestion};
 ghost use Rattle.qz_grading.specs.Behaviours.{barred, barred_showing, moved};
+ghost use Rattle.qz_grading.specs.Steps.{is_save};
 ghost use Rattle.qz_grading.specs.Slots.{is_misfit};
-ghost use Rattle.qz_behave.specs.Machines.{is_save};
 ghost use Rattle.qz_usage.specs.Players.{played_behaviour, played_outcome, HasPlayed};
 ghost use Rattle.qz_usage.specs.Runs.{has_misfit};
 

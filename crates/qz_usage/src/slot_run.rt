@@ -6,10 +6,9 @@ ghost use Rattle.qz_decimal.specs.Numbers.{IsMaxMark, IsSlotMark, IsEarnedFracti
 ghost use Rattle.qz_grading.specs.Grading.{shape};
 ghost use Rattle.qz_grading.specs.Shapes.{same_shape};
 ghost use Rattle.qz_grading.specs.Questions.{IsQuestion};
-ghost use Rattle.qz_grading.specs.Steps.{given, is_answering, is_mark, is_finish, has_finish};
+ghost use Rattle.qz_grading.specs.Steps.{given, is_save, has_finish};
 ghost use Rattle.qz_grading.specs.Behaviours.{behaviour_for, barred_showing, moved, outcome, marked};
 ghost use Rattle.qz_grading.specs.Slots.{slot_state, slot_mark, step_cause, last_given, is_misfit, is_out_of_range, is_full_for};
-ghost use Rattle.qz_behave.specs.Machines.{is_save};
 ghost use Rattle.qz_usage.specs.Runs.{behaviour_of, outcome_of, IsBound, IsGiven, IsWithinLimits, Adds};
 
 use crate::player::Player;
@@ -90,25 +89,6 @@ fn same_shape(one: Shape, other: Shape) -> bool
     one.kind == other.kind && one.first == other.first && one.second == other.second
 }
 
-/// Whether a step is a Save, a Submit or an Again.
-fn is_answering(step: &Step) -> bool
-    ensures { result ≡ is_answering step.now }
-{
-    matches!(step, Step::Save(_) | Step::Submit(_) | Step::Again)
-}
-
-fn is_mark(step: &Step) -> bool
-    ensures { result ≡ is_mark step.now }
-{
-    matches!(step, Step::Mark { .. })
-}
-
-fn is_finish(step: &Step) -> bool
-    ensures { result ≡ is_finish step.now }
-{
-    matches!(step, Step::Finish)
-}
-
 /// The mark of a Mark step, and the max mark of that moment.
 fn given(step: &Step) -> Option<(Mark, Mark)>
     ensures { result ≡ given step.now }
@@ -120,8 +100,8 @@ fn given(step: &Step) -> Option<(Mark, Mark)>
 }
 
 impl SlotRun {
-    /// A slot without a step, for a question and a bound, with room for one step. A description is always shown, and an essay always marked by a
-    /// teacher; every other kind has the preferred behaviour. The max mark is from 0 to 10,000.
+    /// A slot without a step, for a question and a bound, with room for one step. A description is always shown, and an essay
+    /// always marked by a teacher; every other kind has the preferred behaviour. The max mark is from 0 to 10,000.
     pub fn new(
         alloc: Global,
         preferred: Behaviour,
@@ -215,7 +195,7 @@ impl SlotRun {
     /// is then what these steps come to under `newer`, though `newer` would have refused some of them.
     ///
     /// Versions of another shape than the one bound are refused (`Incompatible`, with both shapes), and the slot stays as it
-    /// was. It takes no memory, and counts as many gradings as there are steps, and one, at most.
+    /// was. The room for further steps stays. It takes no memory, and counts at most as many gradings as there are steps, and one.
     pub fn bind<L: Ledger>(
         &mut self,
         old: &Question,
@@ -231,6 +211,7 @@ impl SlotRun {
         ensures question { OnOk result (IsBound self.new newer.now) }
         ensures bound { OnOk result (self.new.bound ≡ bound) }
         ensures steps { self.new.steps ≡ self.old.steps }
+        ensures room { self.new.room ≡ self.old.room }
         ensures behaviour { behaviour_of self.new ≡ behaviour_of self.old }
         ensures unchanged { OnErr result (self.new ≡ self.old) }
         ensures count { steps.new ≤ steps.old + length self.old.steps + 1 }
@@ -320,7 +301,7 @@ impl SlotRun {
                 max: self.bound.max,
             });
         }
-        if is_mark(step) && !self.finished {
+        if step.is_mark() && !self.finished {
             return Some(Refusal::NotFinished);
         }
         self.full_for(step)
@@ -373,9 +354,9 @@ impl SlotRun {
         ensures adds { Adds self.old self.new step }
         ensures player { self.new.player ≡ self.old.player }
     {
-        self.answering += u32::from(is_answering(&step));
-        self.marks += u32::from(is_mark(&step));
-        self.finished |= is_finish(&step);
+        self.answering += u32::from(step.is_answering());
+        self.marks += u32::from(step.is_mark());
+        self.finished |= step.is_finish();
         self.given = given(&step).or(self.given);
         // Room was made before, so this takes no memory.
         self.steps.push(step).unwrap();

@@ -1,93 +1,21 @@
-ghost use Rattle.std.specs.Prelude.{◌≡◌, ◌<◌, ◌∷◌, [], pos, IfOk, IfSome, codes};
+ghost use Rattle.std.specs.Prelude.{◌≡◌, ◌<◌, IfOk, IfSome};
 ghost use Rattle.qz_decimal.specs.Numbers.{IsMaxMark};
 ghost use Rattle.qz_grading.specs.Questions.{IsQuestion};
 ghost use Rattle.qz_grading.specs.Steps.{given};
 ghost use Rattle.qz_usage.specs.Runs.{IsBound};
 
 use super::*;
-use qz_decimal::{Fraction, Mark};
-use qz_grading::{
-    Answer, Behaviour, Choice, Format, Kind, Moved, Question, Refusal, Response, Rich, Shape, Step,
-    Steps,
-};
+use qz_decimal::{Fraction, Mark, ONE};
+use qz_grading::{Answer, Behaviour, Moved, Question, Refusal, Response, Shape, Step, Steps};
+use qz_samples::{truth, two_choices};
 use qz_terms::Bound;
-use qz_text::{Listed, NoMemory, Text};
+use qz_text::NoMemory;
 use std::alloc::Global;
 use std::marker::Brand;
 use std::sync::ledger::{Blank, Ledger};
 use std::test::Fail;
 
-/// The units in 1.
-const ONE: i64 = 10_000_000;
-
-fn no_text(alloc: Global) -> Rich
-    ensures { result.text ≡ [] }
-{
-    Rich {
-        format: Format::Moodle,
-        text: Text {
-            items: String::new(alloc),
-        },
-    }
-}
-
-fn question(alloc: Global, kind: Kind) -> Question
-    ensures kind { result.kind ≡ kind }
-    ensures name { result.name ≡ [] }
-    ensures text { result.text.text ≡ [] }
-    ensures general { result.general.text ≡ [] }
-    ensures penalty { result.penalty ≡ pos 0 }
-    ensures hints { result.hints ≡ [] }
-{
-    Question {
-        name: Text {
-            items: String::new(alloc),
-        },
-        text: no_text(alloc),
-        general: no_text(alloc),
-        kind,
-        penalty: Fraction(0),
-        hints: Listed::empty(alloc),
-    }
-}
-
-fn truth(alloc: Global, right: bool) -> Question
-    ensures { IsQuestion result }
-{
-    question(
-        alloc,
-        Kind::TrueFalse {
-            right,
-            on_wrong: no_text(alloc),
-            on_right: no_text(alloc),
-        },
-    )
-}
-
-fn choice(alloc: Global, weight: Fraction) -> Result<Choice, NoMemory>
-    ensures weight { IfOk result (λ c. c.weight ≡ weight) }
-    ensures text { IfOk result (λ c. c.text.text ≡ codes "a") }
-    ensures feedback { IfOk result (λ c. c.feedback.text ≡ []) }
-{
-    Ok(Choice {
-        weight,
-        text: Rich {
-            format: Format::Moodle,
-            text: Text::of(alloc, "a")?,
-        },
-        feedback: no_text(alloc),
-    })
-}
-
-/// The first of two choices is right.
-fn two_choices(alloc: Global) -> Result<Question, NoMemory>
-    ensures { IfOk result IsQuestion }
-{
-    let right = choice(alloc, Fraction(ONE))?;
-    let wrong = choice(alloc, Fraction(0))?;
-    let items = vec![in alloc; right, wrong]?;
-    Ok(question(alloc, Kind::One(Listed { items })))
-}
+const FREE: Fraction = Fraction(0);
 
 fn bound(max: i64) -> Bound
     ensures { result.max ≡ max }
@@ -185,7 +113,7 @@ fn finished(
 #[test]
 fn a_slot_is_bound_anew(rt: HostRuntime) -> Result<(), Fail> {
     let alloc = rt.alloc();
-    let (old, newer) = (truth(alloc, true), truth(alloc, false));
+    let (old, newer) = (truth(alloc, true, FREE)?, truth(alloc, false, FREE)?);
     let mut run = finished(alloc, Behaviour::Deferred, &old, 2 * ONE)?;
     assert!(rt; run.mark() == Some(Mark(2 * ONE)));
     assert!(rt; rebind(&mut run, &old, &newer).is_ok());
@@ -196,7 +124,7 @@ fn a_slot_is_bound_anew(rt: HostRuntime) -> Result<(), Fail> {
 #[test]
 fn another_shape_is_refused(rt: HostRuntime) -> Result<(), Fail> {
     let alloc = rt.alloc();
-    let (old, other) = (truth(alloc, true), two_choices(alloc)?);
+    let (old, other) = (truth(alloc, true, FREE)?, two_choices(alloc)?);
     let mut run = finished(alloc, Behaviour::Deferred, &old, 2 * ONE)?;
     let truth = Shape {
         kind: 2,
@@ -221,7 +149,7 @@ fn another_shape_is_refused(rt: HostRuntime) -> Result<(), Fail> {
 #[test]
 fn a_total_waits_for_the_teacher(rt: HostRuntime) -> Result<(), Fail> {
     let alloc = rt.alloc();
-    let truth = truth(alloc, true);
+    let truth = truth(alloc, true, FREE)?;
     let unmarked = finished(alloc, Behaviour::Manual, &truth, ONE)?;
     let waiting = Usage::of(vec![in alloc; unmarked]?);
     assert!(rt; waiting.total().is_none());

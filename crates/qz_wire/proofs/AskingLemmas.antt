@@ -7,8 +7,7 @@ use Rattle.std.specs.declared.str.Utf8Error.{Utf8Error}
 use Rattle.std.proofs.lemmas.Bool.{and_parts}
 use Rattle.std.proofs.lemmas.Bool.Decides.{nat_tests}
 use Rattle.std.proofs.lemmas.Str.{IsUtf8-from_ascii}
-use Rattle.qz_wire.specs.Asking.{end_at}
-use Rattle.qz_wire.specs.Numbered.{line_at as word_at}
+use Rattle.qz_wire.specs.Numbered.{end_at, line_at as word_at}
 use Rattle.qz_wire.specs.declared.words.WordFault.{WordFault}
 use Rattle.qz_wire.specs.declared.words.WordFault.TheVariants as fault
 use Rattle.qz_wire.specs.Words.{FailsAt, IsCutAt, attempt_of, is_token, is_token_byte, token_of, words_after}

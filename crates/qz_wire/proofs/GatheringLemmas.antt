@@ -26,7 +26,7 @@ rest_of text = take (length text - 1) (drop 1 text)
 rest-cons : (c : ℕ) (cs : List ℕ) → rest_of (c ∷ cs) ≡ cs
 rest-cons c cs = take_all (length (c ∷ cs) - 1) cs (omega arith)
 
-plain-byte : (c : ℕ) (cs : List ℕ) → (c == 92) ≡ false → unescaped (c ∷ cs) ≡ onto (Some c) (unescaped cs)
+pub plain-byte : (c : ℕ) (cs : List ℕ) → (c == 92) ≡ false → unescaped (c ∷ cs) ≡ onto (Some c) (unescaped cs)
 plain-byte c [] plain = rw plain refl
 plain-byte c (d ∷ cs) plain = rw plain refl
 

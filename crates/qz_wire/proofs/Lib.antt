@@ -4,3 +4,8 @@ pub mod PartLemmas
 pub mod GatheringLemmas
 pub mod AnswerLemmas
 pub mod AskingLemmas
+pub mod EscapeLemmas
+pub mod HintLemmas
+pub mod BankLemmas
+pub mod DescribedLemmas
+pub mod RequestLemmas

@@ -60,6 +60,9 @@ pub some_part : (c : ℕ) (text : List ℕ) → (w : List ℕ) × (ws : List (Li
 some_part c [] = ([], [], refl)
 some_part c (b ∷ bs) = some-cons c b bs (is c b) refl (some_part c bs)
 
+pub some-parts : (c : ℕ) (text : List ℕ) → 0 < length (parts_at c text)
+some-parts c text = let some = some_part c text in rw some.2 (omega arith)
+
 -- ---- two texts, one behind the other
 
 -- the last of some parts joined with the first of others

@@ -1,7 +1,11 @@
 pub mod Lines
 pub mod Words
 pub mod Numbered
+pub mod Faults
 pub mod Answers
 pub mod ExamplesWords
+pub mod BankWords
+pub mod Requests
 pub mod Asking
+pub mod Escapes
 pub mod Replies

@@ -2,6 +2,7 @@
 use Rattle.std.specs.Char.{is_ascii_alphanumeric}
 use Rattle.std.specs.List.{list_all, slice_split}
 use Rattle.std.specs.Prelude.{◌≡◌, ℕ, Bool, not, ◌&&◌, ◌||◌, ◌==◌, nat_le, if◌then◌else◌, List, [], ◌∷◌, ◌++◌, length, Option, Some, None, option_map, option_and_then, Result, Ok, Err, bytes_eq, codes}
+use Rattle.std.specs.Str.{is_utf8}
 use Rattle.qz_grading.specs.declared.refusal.AttemptId.{AttemptId}
 use Rattle.qz_wire.specs.declared.words.WordFault.{WordFault}
 use Rattle.qz_wire.specs.declared.words.WordFault.TheVariants as fault
@@ -58,6 +59,10 @@ abbrev pub text_of : List ℕ → Option (List ℕ)
 text_of [] = None
 text_of (c ∷ cs) = if bytes_eq (c ∷ cs) (codes "\\e") then Some [] else unescaped (c ∷ cs)
 
+-- bytes that are UTF-8
+abbrev pub utf8_of : List ℕ → Option (List ℕ)
+utf8_of bytes = if is_utf8 bytes then Some bytes else None
+
 -- a text that is one word
 abbrev pub only_word : List (List ℕ) → Option (List ℕ)
 only_word (word ∷ []) = Some word
@@ -73,8 +78,8 @@ abbrev pub moment_of : List ℕ → Option ℕ
 moment_of word = number_within 0 last_moment word
 
 -- the number of a thing
-abbrev pub name_of : List ℕ → Option ℕ
-name_of word = number_within 0 4294967295 word
+abbrev pub number_of : List ℕ → Option ℕ
+number_of word = number_within 0 4294967295 word
 
 abbrev pub slot_of : List ℕ → Option ℕ
 slot_of word = number_within 0 65535 word
@@ -84,7 +89,7 @@ certainty_of word = number_within 0 3 word
 
 -- `USER.NTH`
 abbrev pub attempt_by : List (List ℕ) → Option AttemptId
-attempt_by (user ∷ nth ∷ []) = option_and_then (λ u. option_map (λ n. record { user = u; nth = n }) (name_of nth)) (name_of user)
+attempt_by (user ∷ nth ∷ []) = option_and_then (λ u. option_map (λ n. record { user = u; nth = n }) (number_of nth)) (number_of user)
 attempt_by parts = None
 
 abbrev pub attempt_of : List ℕ → Option AttemptId

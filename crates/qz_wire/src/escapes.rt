@@ -1,9 +1,10 @@
 //! Texts in words, where spaces and line feeds are written as escapes.
 
-ghost use Rattle.std.specs.Prelude.{◌≡◌, IfOk};
-ghost use Rattle.qz_wire.specs.Words.{escape_of, unescaped, text_of};
+ghost use Rattle.std.specs.Prelude.{◌≡◌, ◌++◌, Some, IfOk, OnOk, encode_utf8, option_copied, string_bytes};
+ghost use Rattle.qz_wire.specs.Escapes.{written_for, escaped, text_word};
+ghost use Rattle.qz_wire.specs.Words.{escape_of, unescaped, text_of, utf8_of};
 
-use qz_text::{Bytes, NoMemory};
+use qz_text::{Bytes, NoMemory, Text};
 use std::alloc::Global;
 
 /// The byte that a backslash and this one stand for.
@@ -57,4 +58,59 @@ pub fn text_in(alloc: Global, word: &[u8]) -> Result<Option<Bytes>, NoMemory>
         }));
     }
     unescaped(alloc, word)
+}
+
+/// The text that bytes are. None exactly where they aren't UTF-8.
+pub fn utf8_in(alloc: Global, bytes: &[u8]) -> Result<Option<Text>, NoMemory>
+    ensures { IfOk result (λ found. found ≡ utf8_of bytes.now) }
+{
+    match str::from_utf8(bytes) {
+        Ok(text) => Ok(Some(Text::of(alloc, text)?)),
+        Err(_) => Ok(None),
+    }
+}
+
+// ---- texts written as words
+
+/// What a character is written as, where it isn't written as it is.
+fn escape(c: char) -> Option<&'static str>
+    ensures { option_copied result ≡ written_for c }
+{
+    match c {
+        ' ' => Some("\\s"),
+        '\n' => Some("\\n"),
+        '\t' => Some("\\t"),
+        '\r' => Some("\\r"),
+        '\\' => Some("\\\\"),
+        _ => None,
+    }
+}
+
+fn char_onto(out: &mut String, c: char) -> Result<(), NoMemory>
+    ensures { OnOk result (string_bytes out.new ≡ string_bytes out.old ++ escaped (encode_utf8 c)) }
+{
+    match escape(c) {
+        Some(written) => Ok(out.push_str(written)?),
+        None => Ok(out.push(c)?),
+    }
+}
+
+fn chars_onto(out: &mut String, text: &str) -> Result<(), NoMemory>
+    ensures { OnOk result (string_bytes out.new ≡ string_bytes out.old ++ escaped text.now) }
+{
+    for c in text.chars() {
+        char_onto(out, c)?;
+    }
+    Ok(())
+}
+
+/// Adds a text as one word, from which it is read again.
+pub fn text_word_onto(out: &mut String, text: &str) -> Result<(), NoMemory>
+    ensures added { OnOk result (string_bytes out.new ≡ string_bytes out.old ++ text_word text.now) }
+    ensures read { text_of (text_word text.now) ≡ Some text.now }
+{
+    if text.is_empty() {
+        return Ok(out.push_str("\\e")?);
+    }
+    chars_onto(out, text)
 }

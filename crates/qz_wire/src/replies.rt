@@ -1,13 +1,18 @@
 //! The lines that a script says of replies.
 
-ghost use Rattle.std.specs.Prelude.{◌≡◌, ◌++◌, OnOk, string_bytes};
+ghost use Rattle.std.specs.Prelude.{◌≡◌, ◌++◌, IfOk, OnOk, decimal, string_bytes};
 ghost use Rattle.qz_grading.specs.Words.{grade_text, mark_text};
-ghost use Rattle.qz_wire.specs.Replies.{shown_words, moment_word, attempt_word, shape_words, thing_number, standing_words, done_words, refused_words, reply_words, reply_line};
+ghost use Rattle.qz_grading.specs.Canonical.{canonical_question};
+ghost use Rattle.qz_wire.specs.Escapes.{text_word};
+ghost use Rattle.qz_wire.specs.Replies.{shown_words, moment_word, attempt_word, attempt_or_dash, grade_or_dash, shape_words, thing_number, slot_words, standing_words, then_word, how_word, status_word, row_word, row_words, done_words, refused_words, reply_words, reply_line};
 
+use crate::escapes::text_word_onto;
+use gift_write::question_onto;
 use qz_decimal::{Grade, Mark};
-use qz_grading::{AttemptId, Refusal, Shape, Spelled, State, Thing};
-use qz_terms::{Done, Reply, Shown};
-use qz_text::NoMemory;
+use qz_grading::{AttemptId, Question, Refusal, Shape, Spelled, State, Thing};
+use qz_terms::{Done, How, Reply, Row, Shown, Status};
+use qz_text::{NoMemory, Text};
+use std::alloc::Global;
 
 fn mark_onto(out: &mut String, mark: Shown<Mark>) -> Result<(), NoMemory>
     ensures { OnOk result (string_bytes out.new ≡ string_bytes out.old ++ shown_words mark_text mark) }
@@ -89,6 +94,47 @@ fn standing_onto(
     mark_onto(out, mark)
 }
 
+/// A word, an attempt and one of its slots.
+fn slot_onto(out: &mut String, front: &str, attempt: AttemptId, slot: u16) -> Result<(), NoMemory>
+    ensures { OnOk result (string_bytes out.new ≡ string_bytes out.old ++ slot_words front.now attempt slot) }
+{
+    write!(out, "{front} ")?;
+    attempt_onto(out, attempt)?;
+    write!(out, " {slot}")?;
+    Ok(())
+}
+
+// ---- replies about the catalogue
+
+/// A word and a number.
+fn number_onto(out: &mut String, front: &str, number: u32) -> Result<(), NoMemory>
+    ensures { OnOk result (string_bytes out.new ≡ string_bytes out.old ++ then_word front.now (decimal number)) }
+{
+    write!(out, "{front} {number}")?;
+    Ok(())
+}
+
+/// A word and two numbers.
+fn numbers_onto(out: &mut String, front: &str, first: u32, second: u32) -> Result<(), NoMemory>
+    ensures { OnOk result (string_bytes out.new
+        ≡ string_bytes out.old ++ then_word (then_word front.now (decimal first)) (decimal second)) }
+{
+    write!(out, "{front} {first} {second}")?;
+    Ok(())
+}
+
+/// A question as one word.
+fn gift_onto(out: &mut String, question: &Question) -> Result<(), NoMemory>
+    ensures { OnOk result (string_bytes out.new ≡ string_bytes out.old ++ done_words (Done.Gift question.now)) }
+{
+    out.push_str("gift ")?;
+    let mut text = String::new(*out.allocator());
+    question_onto(&mut text, question)?;
+    text_word_onto(out, text.as_str())
+}
+
+// ---- replies about attempts
+
 fn started_onto(
     out: &mut String,
     attempt: AttemptId,
@@ -103,11 +149,142 @@ fn started_onto(
     moment_onto(out, due)
 }
 
+fn rebound_onto(
+    out: &mut String,
+    attempt: AttemptId,
+    slot: u16,
+    state: State,
+    mark: Shown<Mark>,
+) -> Result<(), NoMemory>
+    ensures { OnOk result (string_bytes out.new ≡ string_bytes out.old ++ done_words (Done.Rebound attempt slot state mark)) }
+{
+    slot_onto(out, "rebound", attempt, slot)?;
+    standing_onto(out, "", state, mark)
+}
+
+fn skipped_onto(
+    out: &mut String,
+    attempt: AttemptId,
+    slot: u16,
+    bound: Shape,
+    newer: Shape,
+) -> Result<(), NoMemory>
+    ensures { OnOk result (string_bytes out.new ≡ string_bytes out.old ++ done_words (Done.Skipped attempt slot bound newer)) }
+{
+    slot_onto(out, "skipped", attempt, slot)?;
+    out.push_str(" ")?;
+    shape_onto(out, bound)?;
+    out.push_str(" ")?;
+    shape_onto(out, newer)
+}
+
+fn how_word(how: How) -> &'static str
+    ensures { result.now ≡ how_word how }
+{
+    match how {
+        How::Finished => "finished",
+        How::Abandoned => "abandoned",
+    }
+}
+
+fn settled_onto(out: &mut String, attempt: AttemptId, how: How) -> Result<(), NoMemory>
+    ensures { OnOk result (string_bytes out.new ≡ string_bytes out.old ++ done_words (Done.Settled attempt how)) }
+{
+    out.push_str("settled ")?;
+    attempt_onto(out, attempt)?;
+    let word = how_word(how);
+    write!(out, " {word}")?;
+    Ok(())
+}
+
+fn live_onto(out: &mut String, attempt: Option<AttemptId>) -> Result<(), NoMemory>
+    ensures { OnOk result (string_bytes out.new ≡ string_bytes out.old ++ done_words (Done.Live attempt)) }
+{
+    match attempt {
+        None => Ok(out.push_str("live -")?),
+        Some(attempt) => {
+            out.push_str("live ")?;
+            attempt_onto(out, attempt)
+        }
+    }
+}
+
+fn slot_view_onto(
+    out: &mut String,
+    state: State,
+    mark: Shown<Mark>,
+    version: u32,
+    steps: u32,
+) -> Result<(), NoMemory>
+    ensures { OnOk result (string_bytes out.new ≡ string_bytes out.old ++ done_words (Done.SlotView state mark version steps)) }
+{
+    standing_onto(out, "slot", state, mark)?;
+    write!(out, " {version} {steps}")?;
+    Ok(())
+}
+
+fn status_word(status: Status) -> &'static str
+    ensures { result.now ≡ status_word status }
+{
+    match status {
+        Status::Live => "live",
+        Status::Finished => "finished",
+        Status::Abandoned => "abandoned",
+    }
+}
+
+fn attempt_view_onto(
+    out: &mut String,
+    status: Status,
+    total: Shown<Mark>,
+    due: Option<u64>,
+) -> Result<(), NoMemory>
+    ensures { OnOk result (string_bytes out.new ≡ string_bytes out.old ++ done_words (Done.Attempt status total due)) }
+{
+    let word = status_word(status);
+    write!(out, "attempt {word} ")?;
+    mark_onto(out, total)?;
+    out.push_str(" ")?;
+    moment_onto(out, due)
+}
+
+// ---- replies about a quiz
+
+fn row_onto(out: &mut String, row: &Row) -> Result<(), NoMemory>
+    ensures { OnOk result (string_bytes out.new ≡ string_bytes out.old ++ row_word row.now) }
+{
+    let user = row.user;
+    write!(out, "{user}:")?;
+    match row.grade {
+        None => Ok(out.push_str("-")?),
+        Some(grade) => grade.spell_onto(out),
+    }
+}
+
+/// Each row as a word behind a space.
+fn rows_onto(out: &mut String, rows: &[Row]) -> Result<(), NoMemory>
+    ensures { OnOk result (string_bytes out.new ≡ string_bytes out.old ++ row_words rows.now) }
+{
+    for row in rows {
+        out.push_str(" ")?;
+        row_onto(out, row)?;
+    }
+    Ok(())
+}
+
+// ---- all replies
+
 /// The words behind the place.
 fn done_onto(out: &mut String, done: &Done) -> Result<(), NoMemory>
     ensures { OnOk result (string_bytes out.new ≡ string_bytes out.old ++ done_words done.now) }
 {
     match done {
+        Done::Made { number } => number_onto(out, "made", *number),
+        Done::Done => Ok(out.push_str("done")?),
+        Done::Imported { first, count } => numbers_onto(out, "imported", *first, *count),
+        Done::Version { entry, version } => numbers_onto(out, "version", *entry, *version),
+        Done::Slot { number } => number_onto(out, "slot", u32::from(*number)),
+        Done::Job { number } => number_onto(out, "job", *number),
         Done::Started {
             attempt,
             slots,
@@ -119,11 +296,43 @@ fn done_onto(out: &mut String, done: &Done) -> Result<(), NoMemory>
             out.push_str("finished ")?;
             mark_onto(out, *total)
         }
+        Done::Marked { state, mark } => standing_onto(out, "marked", *state, *mark),
+        Done::Rebound {
+            attempt,
+            slot,
+            state,
+            mark,
+        } => rebound_onto(out, *attempt, *slot, *state, *mark),
+        Done::Skipped {
+            attempt,
+            slot,
+            bound,
+            newer,
+        } => skipped_onto(out, *attempt, *slot, *bound, *newer),
+        Done::JobDone { job } => number_onto(out, "jobdone", *job),
+        Done::AlreadyDone { job } => number_onto(out, "alreadydone", *job),
+        Done::Settled { attempt, how } => settled_onto(out, *attempt, *how),
+        Done::Idle => Ok(out.push_str("idle")?),
+        Done::Live { attempt } => live_onto(out, *attempt),
+        Done::Jobs { count } => number_onto(out, "jobs", *count),
+        Done::SlotView {
+            state,
+            mark,
+            version,
+            steps,
+        } => slot_view_onto(out, *state, *mark, *version, *steps),
+        Done::Attempt { status, total, due } => attempt_view_onto(out, *status, *total, *due),
+        // What a page shows isn't told by a line yet: its word stands alone.
+        Done::Page { .. } => Ok(out.push_str("page")?),
         Done::Grade { grade } => {
             out.push_str("grade ")?;
             grade_onto(out, *grade)
         }
-        _ => Ok(()),
+        Done::Report { rows } => {
+            out.push_str("report")?;
+            rows_onto(out, rows.as_slice())
+        }
+        Done::Gift { question } => gift_onto(out, question),
     }
 }
 
@@ -192,10 +401,12 @@ fn words_onto(out: &mut String, reply: &Reply) -> Result<(), NoMemory>
     }
 }
 
-/// The line of a reply.
-pub fn reply_onto(out: &mut String, reply: &Reply) -> Result<(), NoMemory>
-    ensures { OnOk result (string_bytes out.new ≡ string_bytes out.old ++ reply_line reply.now) }
+/// The line of a reply, with its line feed. Only want of memory is an error.
+pub fn line_of(alloc: Global, reply: &Reply) -> Result<Text, NoMemory>
+    ensures { IfOk result (λ line. line ≡ reply_line reply.now) }
 {
-    words_onto(out, reply)?;
-    Ok(out.push('\n')?)
+    let mut items = String::new(alloc);
+    words_onto(&mut items, reply)?;
+    items.push('\n')?;
+    Ok(Text { items })
 }

@@ -3,10 +3,10 @@
 ghost use Rattle.std.specs.List.{list_all};
 ghost use Rattle.std.specs.Prelude.{◌≡◌, ◌≤◌, ◌∷◌, [], Some, MatchOption, IfSome, option_copied, option_map};
 ghost use Rattle.qz_wire.specs.Numbered.{line_at as word_at};
-ghost use Rattle.qz_wire.specs.Words.{parts_at, words_of, words_after, moment_of, name_of, slot_of, certainty_of, attempt_of, is_dash, is_token_byte, is_token, token_of, key_of, Reads, IsCutAt};
+ghost use Rattle.qz_wire.specs.Words.{parts_at, words_of, words_after, moment_of, number_of, slot_of, certainty_of, attempt_of, is_dash, is_token_byte, is_token, token_of, key_of, Reads, IsCutAt};
 
 use crate::lines::{number, place_of};
-use qz_grading::AttemptId;
+use qz_grading::{AttemptId, Refusal};
 use qz_text::NoMemory;
 use std::alloc::{AllocError, AllocFailed};
 
@@ -26,6 +26,19 @@ impl From<NoMemory> for WordFault {
 
     fn from(_: NoMemory) -> Self {
         WordFault::Memory
+    }
+}
+
+impl From<WordFault> for Refusal {
+    ghost use Rattle.qz_wire.specs.Faults.{refusal_of};
+
+    ghost from_gives = { λ fault given. given ≡ refusal_of fault };
+
+    fn from(fault: WordFault) -> Self {
+        match fault {
+            WordFault::Malformed { place } => Refusal::Malformed { place, rule: 0 },
+            WordFault::Memory => Refusal::Memory,
+        }
     }
 }
 
@@ -74,8 +87,8 @@ pub fn moment_in(word: &[u8]) -> Option<u64>
 }
 
 /// The number of a thing.
-pub fn name_in(word: &[u8]) -> Option<u32>
-    ensures { result ≡ name_of word.now }
+pub fn number_in(word: &[u8]) -> Option<u32>
+    ensures { result ≡ number_of word.now }
 {
     number(word, 0, u32::MAX)
 }
@@ -104,8 +117,8 @@ pub fn attempt_in(word: &[u8]) -> Option<AttemptId>
         return None;
     }
     Some(AttemptId {
-        user: name_in(user)?,
-        nth: name_in(nth)?,
+        user: number_in(user)?,
+        nth: number_in(nth)?,
     })
 }
 

@@ -9,5 +9,5 @@ pub returns-in-None : goal.returns-in-None
 returns-in-None c =
     let b = c.args.block.now in
     let none = rw c.requires.spelled at (sym c.in-None.is ∙ c.in_ok-rule.ensures) in
-    let short : canonical_size c.args.built.now ≤ most_together = leb-true (canonical_size c.args.built.now) most_together (sym c.if-is_at_most.ensures) in
+    let short : canonical_size c.args.built.now ≤ most_together = leb-true (canonical_size c.args.built.now) most_together (sym c.if-canonical_size_is_at_most.ensures) in
     told_nothing b c.requires.asked c.requires.whole none (rw c.requires.spelled at short)

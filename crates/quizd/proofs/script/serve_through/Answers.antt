@@ -9,30 +9,30 @@ loop-input-init g c = record { served = serves_none _ _ _ _ _ c.new-input.result
 pub returns-in_err-line : goal.returns-in_err-line
 returns-in_err-line g c =
     let p = err_from_is_err_and c.from_residual.result c.from_residual.ensures.1 in
-    rw (p.1, p.2) (ends_reading _ _ _ _ _ _ _ _ _ _ _ _ _ c.args.limit c.in_err-line.field-0.0 c.loop-input.invariant.served c.in_err-line.ensures)
+    rw (p.1, p.2) (ends_reading _ _ _ _ _ _ _ _ _ _ _ _ _ c.args.limit c.in_err-line.field-0.0 c.loop-input.invariant.served c.in_err-line.ensures.given)
 
 pub returns-in_err-answer-in-Line : goal.returns-in_err-answer-in-Line
 returns-in_err-answer-in-Line g c =
     let p = err_from_is_err_and c.from_residual-in_err-answer-in-Line.result c.from_residual-in_err-answer-in-Line.ensures.1 in
-    let given = rw c.in-Line.is at c.in_ok-line.ensures in
+    let given = rw c.in-Line.is at c.in_ok-line.ensures.given in
     rw (p.1, p.2) (ends_at_line _ _ _ _ _ _ _ _ _ _ _ _ _ _ _ _ _ c.args.limit c.in-Line.line c.in_err-answer-in-Line.field-0.0 c.loop-input.invariant.served given c.in_err-answer-in-Line.ensures)
 
 pub loop-input-preserved-in_ok-answer-in-Line : goal.loop-input-preserved-in_ok-answer-in-Line
 loop-input-preserved-in_ok-answer-in-Line g c =
-    let given = rw c.in-Line.is at c.in_ok-line.ensures in
+    let given = rw c.in-Line.is at c.in_ok-line.ensures.given in
     record { served = serves_line _ _ _ _ _ _ _ _ _ _ _ _ _ _ _ _ _ c.args.limit c.in-Line.line c.loop-input.invariant.served given c.in_ok-answer-in-Line.ensures; room = omega arith }
 
 pub loop-input-preserved : goal.loop-input-preserved
 loop-input-preserved g c =
-    let given = rw c.in-Line.is at c.in_ok-line.ensures in
+    let given = rw c.in-Line.is at c.in_ok-line.ensures.given in
     record { served = serves_line _ _ _ _ _ _ _ _ _ _ _ _ _ _ _ _ _ c.args.limit c.in-Line.line c.loop-input.invariant.served given c.in_ok-answer-in-Line.ensures; room = omega arith }
 
 pub returns-in-Last : goal.returns-in-Last
 returns-in-Last g c =
-    let given = rw c.in-Last.is at c.in_ok-line.ensures in
+    let given = rw c.in-Last.is at c.in_ok-line.ensures.given in
     ends_at_last _ _ _ _ _ _ _ _ _ _ _ _ _ _ _ _ _ c.args.limit c.in-Last.line c.answer-in-Last.result c.loop-input.invariant.served given c.answer-in-Last.ensures
 
 pub returns-in-End : goal.returns-in-End
 returns-in-End g c =
-    let given = rw c.in-End.is at c.in_ok-line.ensures in
+    let given = rw c.in-End.is at c.in_ok-line.ensures.given in
     ends_done _ _ _ _ _ _ _ _ _ _ _ _ _ _ c.args.limit c.loop-input.invariant.served given

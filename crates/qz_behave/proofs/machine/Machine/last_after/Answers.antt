@@ -1,7 +1,7 @@
 use Rattle.std.proofs.Common.{◌≡◌, true, false, None, ap, sym, ◌∙◌, refl}
 use Rattle.qz_grading.specs.Steps.{has_finish, response_of}
 use Rattle.qz_behave.specs.Machines.{Progress}
-use Rattle.qz_behave.proofs.OneMore.{or-true}
+use Rattle.qz_grading.proofs.StepLemmas.{or-true}
 use Rattle.qz_behave.proofs.MachineLemmas.{place-kept, place-answered}
 use Rattle.qz_behave.proofs.machine.Machine.last_after.Goals as goal
 

@@ -1,0 +1,3 @@
+mod BankLemmas
+mod VersionLemmas
+pub mod FollowingLemmas

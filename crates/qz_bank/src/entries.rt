@@ -1,0 +1,170 @@
+//! All entries.
+
+ghost use Rattle.std.specs.Prelude.{◌≡◌, ◌⊎◌, ◌+◌, ◌<◌, ◌≤◌, [], length, Some, None, OnOk, OnErr, IfOk, IfErr, option_copied, IfSome};
+ghost use Rattle.qz_grading.specs.declared.refusal.Refusal.TheVariants as refusal;
+ghost use Rattle.qz_grading.specs.Grading.{at_place};
+ghost use Rattle.qz_terms.specs.declared.request.Request.TheVariants as request;
+ghost use Rattle.qz_bank.specs.Banks.{IsBank, IsEntry, change_cause, changed, entry_cause, first_of_import, grown, import_cause, imported, latest, newest, size_cause, version};
+
+use crate::Entry;
+use crate::entry::{edited, first_versions, tuned};
+use qz_decimal::Fraction;
+use qz_grading::{Bank, Question, Refusal, Thing, canonical_size_is_at_most};
+use qz_text::{Listed, Text};
+use std::alloc::Global;
+use std::marker::Model;
+
+/// So many entries a bank has at most.
+const MOST_ENTRIES: usize = 20_000;
+
+/// So many versions an entry has at most.
+const MOST_VERSIONS: usize = 1_000;
+
+/// So many bytes the canonical text of a version and its hints have together at most.
+const MOST_BYTES: usize = 262_144;
+
+/// The entries of a bank, seen as their list. They count from 1, and none is ever taken away.
+#[derive(Drop)]
+pub struct Entries {
+    entries: Vec<Entry>,
+}
+
+impl Model for Entries {
+    ghost use Rattle.std.specs.Prelude.{List};
+    ghost use Rattle.qz_bank.specs.declared.entry.Entry.{Entry};
+    ghost use Rattle.qz_bank.specs.Banks.{IsBank};
+
+    ghost Value = { List Entry };
+
+    ghost view = { λ e. e.entries.items };
+
+    ghost invariant = { λ e. IsBank e.entries.items };
+}
+
+impl Entries {
+    /// A bank without an entry. It takes no memory.
+    pub fn new(alloc: Global) -> Entries
+        ensures { result ≡ [] }
+    {
+        Entries {
+            entries: Vec::new(alloc),
+        }
+    }
+
+    /// Each question of a bank becomes the first version of a new entry. The number of the first of them is told (0 where there is
+    /// none), and how many there are.
+    ///
+    /// More than 20,000 entries are `TooMany`. After a refusal the entries are as before.
+    pub fn import(&mut self, alloc: Global, bank: Bank) -> Result<(u32, u32), Refusal>
+        ensures imported { OnOk result (self.new ≡ imported self.old bank) }
+        ensures told { IfOk result (λ told. told ≡ (first_of_import self.old bank, length bank.items)) }
+        ensures free { OnOk result (import_cause self.old bank ≡ None) }
+        ensures refused { IfErr result (λ r. (r ≡ Refusal.Memory) ⊎ (import_cause self.old bank ≡ Some r)) }
+        ensures unchanged { OnErr result (self.new ≡ self.old) }
+    {
+        let before = self.entries.len();
+        let count = bank.items.as_slice().len();
+        if count > MOST_ENTRIES - before {
+            return Err(Refusal::TooMany {
+                limit: MOST_ENTRIES as u32,
+            });
+        }
+        let mut made = first_versions(alloc, bank)?;
+        self.entries.append(&mut made)?;
+        let first = if count == 0 { 0 } else { before + 1 };
+        Ok((first as u32, count as u32))
+    }
+
+    /// The question of a version of an entry, if it is there.
+    pub fn version(&self, entry: u32, number: u32) -> Option<&Question>
+        ensures { option_copied result ≡ version self.now entry number }
+    {
+        let versions = self.entry(entry)?.versions.as_slice();
+        versions.get((number as usize).checked_sub(1)?)
+    }
+
+    /// The number of an entry's latest version, if the entry is there.
+    pub fn latest(&self, entry: u32) -> Option<u32>
+        ensures { result ≡ latest self.now entry }
+    {
+        Some(self.entry(entry)?.versions.as_slice().len() as u32)
+    }
+
+    /// An entry gets a new version, which keeps the penalty and the hints of the one before. Its number is told.
+    ///
+    /// An entry that isn't there is `Unknown`. More than 1,000 versions are `TooMany`, and then a version whose canonical text and
+    /// hints have together more than 262,144 bytes. After a refusal the entries are as before.
+    pub fn edit(&mut self, alloc: Global, entry: u32, gift: Question) -> Result<u32, Refusal>
+        ensures changed { OnOk result (self.new ≡ changed self.old entry (request.Edit entry gift)) }
+        ensures told { IfOk result (λ number. latest self.new entry ≡ Some number) }
+        ensures free { OnOk result (change_cause self.old entry (request.Edit entry gift) ≡ None) }
+        ensures refused { IfErr result (λ r. (r ≡ Refusal.Memory) ⊎ (change_cause self.old entry (request.Edit entry gift) ≡ Some r)) }
+        ensures unchanged { OnErr result (self.new ≡ self.old) }
+    {
+        let newer = edited(alloc, self.newest(entry)?, gift)?;
+        self.add(entry, newer)
+    }
+
+    /// An entry gets a new version, which is the one before with this penalty (in 10^-7) and these hints. Its number is told, and
+    /// it is refused as an edit is.
+    pub fn tune(
+        &mut self,
+        alloc: Global,
+        entry: u32,
+        penalty: Fraction,
+        hints: Listed<Text>,
+    ) -> Result<u32, Refusal>
+        ensures changed { OnOk result (self.new ≡ changed self.old entry (request.Tune entry penalty hints)) }
+        ensures told { IfOk result (λ number. latest self.new entry ≡ Some number) }
+        ensures free { OnOk result (change_cause self.old entry (request.Tune entry penalty hints) ≡ None) }
+        ensures refused { IfErr result (λ r. (r ≡ Refusal.Memory) ⊎ (change_cause self.old entry (request.Tune entry penalty hints) ≡ Some r)) }
+        ensures unchanged { OnErr result (self.new ≡ self.old) }
+    {
+        let newer = tuned(alloc, self.newest(entry)?, penalty, hints)?;
+        self.add(entry, newer)
+    }
+
+    fn entry(&self, number: u32) -> Option<&Entry>
+        ensures place { option_copied result ≡ at_place self.now number }
+        ensures kept { IfSome result (λ entry. IsEntry entry.now) }
+    {
+        self.entries.get((number as usize).checked_sub(1)?)
+    }
+
+    /// The latest version of an entry that may have one more.
+    fn newest(&self, entry: u32) -> Result<&Question, Refusal>
+        ensures there { IfOk result (λ question. newest self.now entry ≡ Some question.now) }
+        ensures free { OnOk result (entry_cause self.now entry ≡ None) }
+        ensures refused { IfErr result (λ r. entry_cause self.now entry ≡ Some r) }
+    {
+        let Some(entry) = self.entry(entry) else {
+            return Err(Refusal::Unknown { what: Thing::Entry });
+        };
+        let versions = entry.versions.as_slice();
+        if versions.len() >= MOST_VERSIONS {
+            return Err(Refusal::TooMany {
+                limit: MOST_VERSIONS as u32,
+            });
+        }
+        Ok(&versions[versions.len() - 1])
+    }
+
+    /// An entry gets this version more.
+    fn add(&mut self, entry: u32, newer: Question) -> Result<u32, Refusal>
+        requires { entry_cause self.old entry ≡ None }
+        ensures grown { OnOk result (self.new ≡ grown self.old entry newer) }
+        ensures told { IfOk result (λ number. latest self.new entry ≡ Some number) }
+        ensures free { OnOk result (size_cause newer ≡ None) }
+        ensures refused { IfErr result (λ r. (r ≡ Refusal.Memory) ⊎ (size_cause newer ≡ Some r)) }
+        ensures unchanged { OnErr result (self.new ≡ self.old) }
+    {
+        if !canonical_size_is_at_most(&newer, MOST_BYTES) {
+            return Err(Refusal::TooMany {
+                limit: MOST_BYTES as u32,
+            });
+        }
+        let entry = &mut self.entries[entry as usize - 1];
+        entry.add(newer)?;
+        Ok(entry.versions.as_slice().len() as u32)
+    }
+}

@@ -1,0 +1,12 @@
+//! The bank: entries, each with its category and the versions of its question.
+#![tactic(auto)]
+
+mod entries;
+mod entry;
+pub mod laws;
+
+pub use entries::Entries;
+pub use entry::Entry;
+
+#[cfg(test)]
+mod tests;

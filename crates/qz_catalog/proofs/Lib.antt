@@ -1,0 +1,17 @@
+pub mod Telling
+pub mod Users
+pub mod Slots
+pub mod Groups
+pub mod Accepted
+pub mod Marks
+pub mod Keeping
+pub mod Plans
+pub mod Granting
+pub mod OverrideLemmas
+pub mod Counting
+pub mod Bounds
+pub mod KeyLemmas
+pub mod Deciding
+pub mod Versions
+pub mod Kept
+pub mod Answering

@@ -1,0 +1,37 @@
+-- What a catalogue keeps, and the plan that it gives.
+use Rattle.std.specs.List.{list_all}
+use Rattle.std.specs.Prelude.{◌≡◌, ℕ, ◌<◌, ◌≤◌, ◌-◌, ◌^◌, Bool, true, false, List, [], ◌∷◌, length, None, option_map, unwrap_or, All}
+use Rattle.qz_bank.specs.declared.entry.Entry.{Entry}
+use Rattle.qz_bank.specs.Laws.{IsBankOf}
+use Rattle.qz_terms.specs.declared.plan.Plan.{Plan}
+use Rattle.qz_terms.specs.declared.record.Event.TheVariants as event
+use Rattle.qz_terms.specs.declared.record.Record.{Record}
+use Rattle.qz_terms.specs.Catalog.{asked}
+use Rattle.qz_terms.specs.Kept.{IsKept, asks_described}
+use Rattle.qz_terms.specs.Legal.{IsLegalCatalog}
+
+-- ---- what every catalogue keeps
+
+-- no description that a record brings has a general feedback
+abbrev pub keeps_described : Record → Bool
+keeps_described r = unwrap_or (option_map asks_described (asked r)) true
+
+-- its records, and the bank that they make
+pub record IsHeld (c : List Record) (es : List Entry) : Type 0 where
+  pub legal : IsLegalCatalog c
+  pub kept : All IsKept c
+  pub described : list_all keeps_described c ≡ true
+  pub some : 1 ≤ length c
+  pub few : length c < 2 ^ 32 - 1
+  pub bank : IsBankOf c es
+
+-- the records of a school that was founded with so many shards and its manager's token
+abbrev pub founded : ℕ → List ℕ → List Record
+founded shards token = record { moment = 0; caller = 0; owner = 0; key = None; terms = None; event = event.Founded shards token } ∷ []
+
+-- ---- plans
+
+-- a plan that isn't whole has no questions
+abbrev pub lean : Bool → Plan → Plan
+lean true p = p
+lean false p = record p { questions = [] }

@@ -1,0 +1,4 @@
+pub mod Holdings
+pub mod Readings
+pub mod Applying
+pub mod Overrides

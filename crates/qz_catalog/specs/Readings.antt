@@ -1,0 +1,33 @@
+-- What the parts of a catalogue's list are read as.
+use Rattle.std.specs.Prelude.{ℕ, ℤ, List, Option, None, if◌then◌else◌, filter_map, unwrap_or}
+use Rattle.qz_grading.specs.declared.outcome.Behaviour.{Behaviour}
+use Rattle.qz_grading.specs.Steps.{last_of}
+use Rattle.qz_terms.specs.declared.access.Override.{Override}
+use Rattle.qz_terms.specs.declared.grades.Method.{Method}
+use Rattle.qz_terms.specs.declared.people.User.{User}
+use Rattle.qz_terms.specs.declared.plan.Planned.{Planned}
+use Rattle.qz_terms.specs.declared.record.Record.{Record}
+use Rattle.qz_terms.specs.declared.request.Whom.TheVariants as whom
+use Rattle.qz_terms.specs.Catalog as catalog
+use Rattle.qz_catalog.specs.declared.people.Made.{Made}
+use Rattle.qz_catalog.specs.declared.quizzes.Named.{Named}
+
+-- a user, as its record made it
+abbrev pub user_in : Made → User
+user_in m = record { number = m.number; name = m.name.now; role = m.role; token = m.token.now }
+
+-- the name and behaviour of a quiz
+abbrev pub named_in : Named → List ℕ × Behaviour
+named_in n = (n.name.now, n.behaviour)
+
+-- what is set otherwise for a group, if the user is a member of it
+abbrev pub group_override : List Record → ℕ → ℕ → ℕ → Option Override
+group_override c q u g = if catalog.is_member c g u then catalog.override c q whom.Group g else None
+
+-- the last method and grade that are set, or those of a new quiz
+abbrev pub policy_terms : List Record → ℕ → Method × ℤ
+policy_terms c q = unwrap_or (last_of (filter_map (λ r. catalog.policy_by q (catalog.asked r)) c)) catalog.default_policy
+
+-- a slot with its number, as all the records give it
+abbrev pub slot_over : List Record → ℕ → ℕ × (ℕ × ℤ) → Planned
+slot_over c q s = catalog.planned c q s.0 s.1.0 s.1.1

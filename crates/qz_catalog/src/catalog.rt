@@ -1,0 +1,196 @@
+//! The catalogue and what is asked of it.
+
+ghost use Rattle.std.specs.Prelude.{◌≡◌, ◌⊎◌, ◌≤◌, [], ◌∷◌, true, false, length, Some, None, option_map, IfOk, IfErr, OnErr, OnOk};
+ghost use Rattle.qz_grading.specs.declared.refusal.Refusal.TheVariants as refusal;
+ghost use Rattle.qz_grading.specs.Behaviours.{first_some};
+ghost use Rattle.qz_terms.specs.Catalog.{plan, user_of_token};
+ghost use Rattle.qz_terms.specs.CatalogAnswer.{asks_catalog, catalog_after, catalog_answer, catalog_verdict, is_look_in};
+ghost use Rattle.qz_terms.specs.Cause.{Denied, missing_quiz, missing_user};
+ghost use Rattle.qz_terms.specs.Kept.{IsKeptPlan};
+ghost use Rattle.qz_terms.specs.Legal.{IsLegalCatalog};
+ghost use Rattle.qz_catalog.specs.Applying.{Answers, IsAsked, IsDecision, IsFree, IsLooked};
+ghost use Rattle.qz_catalog.specs.declared.decision.Decision.TheVariants as decision;
+ghost use Rattle.qz_catalog.specs.Holdings.{founded, lean};
+
+use crate::decision::{Decision, decide};
+use crate::people::{user, user_of_token};
+use crate::planning::plan;
+use crate::putting::put;
+use crate::replies::{look, said};
+use qz_bank::Entries;
+use qz_grading::Refusal;
+use qz_terms::{Ask, Event, Plan, Record, Reply, Request, User};
+use qz_text::{Listed, NoMemory, Text, TryCopy};
+use std::alloc::Global;
+use std::marker::Model;
+
+/// The records of a school's users, bank and quizzes, seen as their list.
+///
+/// Beside the list it keeps the bank that the records make. Each call reads the whole list, a fixed number of times for each slot
+/// or group that it is about.
+#[derive(Drop)]
+pub struct Catalog {
+    records: Listed<Record>,
+    entries: Entries,
+}
+
+impl Model for Catalog {
+    ghost use Rattle.std.specs.Prelude.{List};
+    ghost use Rattle.qz_terms.specs.declared.record.Record.{Record};
+    ghost use Rattle.qz_catalog.specs.Holdings.{IsHeld};
+
+    ghost Value = { List Record };
+
+    ghost view = { λ c. c.records };
+
+    ghost invariant = { λ c. IsHeld c.records c.entries };
+}
+
+/// The records of a school that is founded.
+fn founded(alloc: Global, shards: u8, token: &Text) -> Result<Listed<Record>, NoMemory>
+    ensures { IfOk result (λ records. records ≡ founded shards token.now) }
+{
+    let mut items = Vec::new(alloc);
+    items.push(Record {
+        moment: 0,
+        caller: 0,
+        owner: 0,
+        key: None,
+        terms: None,
+        event: Event::Founded {
+            shards,
+            token: token.try_copy(alloc)?,
+        },
+    })?;
+    Ok(Listed { items })
+}
+
+impl Catalog {
+    /// The catalogue of a school that is founded with so many shards, from 1 to 64, and its manager's token. The manager is the first
+    /// user.
+    pub fn new(alloc: Global, shards: u8, token: &Text) -> Result<Catalog, NoMemory>
+        requires some { 1 ≤ shards }
+        requires few { shards ≤ 64 }
+        ensures { IfOk result (λ catalog. catalog ≡ founded shards token.now) }
+    {
+        Ok(Catalog {
+            records: founded(alloc, shards, token)?,
+            entries: Entries::new(alloc),
+        })
+    }
+
+    /// The number of records.
+    pub fn len(&self) -> u64
+        ensures count { result ≡ length self.now }
+        ensures legal { IsLegalCatalog self.now }
+    {
+        self.records.as_slice().len() as u64
+    }
+
+    /// A copy of the user who is known by a token. Where there is none it is `UnknownToken`.
+    pub fn user(&self, alloc: Global, token: &Text) -> Result<User, Refusal>
+        ensures there { IfOk result (λ user. user_of_token self.now token.now ≡ Some user) }
+        ensures refused { IfErr result (λ r. (r ≡ Refusal.Memory) ⊎ ((r ≡ Refusal.UnknownToken) × (user_of_token self.now token.now ≡ None))) }
+    {
+        match user_of_token(self.records.as_slice(), token) {
+            Some(made) => Ok(user(alloc, &made)?),
+            None => Err(Refusal::UnknownToken),
+        }
+    }
+
+    /// The plan of a quiz for a user, over all the records. It has the questions of its slots, in order, where it is to be whole, and
+    /// else none. All its numbers are in range, and its questions keep what every question keeps.
+    ///
+    /// A quiz that isn't there is `Unknown`, and then a user who isn't there.
+    pub fn plan(&self, alloc: Global, quiz: u32, user: u32, whole: bool) -> Result<Plan, Refusal>
+        ensures plan { IfOk result (λ p. option_map (lean whole) (plan self.now quiz user) ≡ Some p) }
+        ensures kept { IfOk result IsKeptPlan }
+        ensures each { IfOk result (λ p. whole ≡ true → length p.questions ≡ length p.slots) }
+        ensures free { OnOk result (first_some (missing_quiz self.now quiz ∷ missing_user self.now user ∷ []) ≡ None) }
+        ensures refused { IfErr result (λ r. (r ≡ Refusal.Memory) ⊎ (first_some (missing_quiz self.now quiz ∷ missing_user self.now user ∷ []) ≡ Some r)) }
+    {
+        let records = self.records.as_slice();
+        plan(alloc, records, &self.entries, quiz, user, whole)
+    }
+}
+
+/// Whether a request only looks.
+fn is_look(request: &Request) -> bool
+    ensures { result ≡ is_look_in request.now }
+{
+    matches!(request, Request::Jobs | Request::Bank { .. })
+}
+
+impl Catalog {
+    /// Answers a request to the catalogue, at this moment by the clock, in seconds since 1970: the fourteen that put a record, and
+    /// the looks at the jobs and at a version of an entry. No description that it brings has a general feedback.
+    ///
+    /// The user is the one whom the request's caller stands for. The reply is the answer over the list before, and the list afterwards
+    /// has the request's record at its end where the answer puts one. A refusal adds nothing, and neither does a request whose
+    /// caller and key stand with the same request already: it gets the reply of that one. Where memory is wanting the reply is
+    /// `Memory` and the list is as before.
+    pub fn apply(&mut self, alloc: Global, user: &User, ask: &Ask, moment: u64) -> Reply
+        requires { IsAsked self.old user.now ask.now moment }
+        ensures { Answers self.old moment user.now ask.now result self.new }
+    {
+        match self.answer(alloc, user, ask, moment) {
+            Ok(reply) => reply,
+            Err(refusal) => Reply::Refused(refusal),
+        }
+    }
+
+    /// Answers a request, and puts the record that it makes. Where it is refused or memory is wanting the list is as before.
+    fn answer(&mut self, alloc: Global, user: &User, ask: &Ask, now: u64) -> Result<Reply, Refusal>
+        requires { IsAsked self.old user.now ask.now now }
+        ensures reply { IfOk result (λ told. told ≡ catalog_answer self.old now user.now ask.now) }
+        ensures list { OnOk result (self.new ≡ catalog_after self.old now user.now ask.now) }
+        ensures refused { IfErr result (λ r. (r ≡ Refusal.Memory) ⊎ (catalog_verdict self.old now user.now ask.now ≡ Denied r)) }
+        ensures unchanged { OnErr result (self.new ≡ self.old) }
+    {
+        match self.decide(user, ask) {
+            Decision::Refused(refusal) => Err(refusal),
+            Decision::Repeated(at) => Ok(self.said_again(user, ask, at)),
+            Decision::Free if is_look(&ask.request) => Ok(self.look(alloc, user, ask)?),
+            Decision::Free => self.put(alloc, user, ask, now),
+        }
+    }
+
+    /// What is done with a request.
+    fn decide(&self, user: &User, ask: &Ask) -> Decision
+        requires { asks_catalog ask.now.request ≡ true }
+        ensures { IsDecision self.now user.now ask.now result }
+    {
+        decide(self.records.as_slice(), &self.entries, user, ask)
+    }
+
+    /// What is said of a record that a request repeats.
+    fn said_again(&self, user: &User, ask: &Ask, at: usize) -> Reply
+        requires { IsDecision self.now user.now ask.now (decision.Repeated at) }
+        ensures { IsLooked self.now user.now ask.now result }
+    {
+        let records = self.records.as_slice();
+        said(&records[..at + 1], &records[at])
+    }
+
+    /// The reply to a request that only looks.
+    fn look(&self, alloc: Global, user: &User, ask: &Ask) -> Result<Reply, NoMemory>
+        requires free { IsFree self.now user.now ask.now }
+        requires look { is_look_in ask.now.request ≡ true }
+        ensures { IfOk result (λ told. IsLooked self.now user.now ask.now told) }
+    {
+        look(alloc, self.records.as_slice(), &self.entries, &ask.request)
+    }
+
+    /// Puts the record that a request makes.
+    fn put(&mut self, alloc: Global, user: &User, ask: &Ask, now: u64) -> Result<Reply, Refusal>
+        requires asked { IsAsked self.old user.now ask.now now }
+        requires keeps { is_look_in ask.now.request ≡ false }
+        requires free { IsFree self.old user.now ask.now }
+        ensures reply { IfOk result (λ told. told ≡ catalog_answer self.old now user.now ask.now) }
+        ensures list { OnOk result (self.new ≡ catalog_after self.old now user.now ask.now) }
+        ensures refused { IfErr result (λ r. (r ≡ Refusal.Memory) ⊎ (catalog_verdict self.old now user.now ask.now ≡ Denied r)) }
+        ensures unchanged { OnErr result (self.new ≡ self.old) }
+    {
+        put(alloc, &mut self.records, &mut self.entries, now, user, ask)
+    }
+}

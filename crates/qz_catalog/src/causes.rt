@@ -1,0 +1,179 @@
+//! Why a request is refused, behind the test of its key.
+
+ghost use Rattle.std.specs.Prelude.{◌≡◌, ◌≤◌, [], ◌∷◌, not, length, option_map};
+ghost use Rattle.qz_grading.specs.declared.refusal.Refusal.TheVariants as refusal;
+ghost use Rattle.qz_grading.specs.Behaviours.{first_some, when};
+ghost use Rattle.qz_terms.specs.declared.request.Request.TheVariants as request;
+ghost use Rattle.qz_terms.specs.Catalog.{is_ready, jobs, slots, token_place, users};
+ghost use Rattle.qz_terms.specs.Catalog as catalog;
+ghost use Rattle.qz_terms.specs.Cause.{already_ready, bad_max, import_cause, slot_entry, too_many};
+ghost use Rattle.qz_bank.specs.Laws.{IsBankOf};
+ghost use Rattle.qz_catalog.specs.Applying.{bad_for, early_cause, greatest_of, stand_in};
+
+use crate::counts::entry_count;
+use crate::jobs::job_count;
+use crate::overrides::override_count;
+use crate::people::{group_count, token_place, user_count};
+use crate::quizzes::{is_ready, quiz_count, ready_at, slot_count, slot_entry};
+use crate::sizes::{MOST_BYTES, import_fits};
+use qz_bank::Entries;
+use qz_decimal::{Mark, ONE};
+use qz_grading::{Bank, Kind, Refusal};
+use qz_terms::{Record, Request};
+use qz_text::Text;
+
+/// So many there are at most of each thing.
+const MOST_USERS: u32 = 65_535;
+
+const MOST_GROUPS: u32 = 1_000;
+
+const MOST_ENTRIES: u32 = 20_000;
+
+const MOST_QUIZZES: u32 = 10_000;
+
+const MOST_SLOTS: u32 = 200;
+
+const MOST_OVERRIDES: u32 = 100_000;
+
+const MOST_JOBS: u32 = 100_000;
+
+/// The greatest max mark for a question that isn't a description.
+const GREATEST_MAX: Mark = Mark(10_000 * ONE);
+
+/// The refusal of one more where there are so many.
+fn too_many(most: u32, count: usize) -> Option<Refusal>
+    ensures { result ≡ too_many most count }
+{
+    if count < most as usize {
+        return None;
+    }
+    Some(Refusal::TooMany { limit: most })
+}
+
+/// A user's token isn't another's.
+fn user_cause(records: &[Record], token: &Text) -> Option<Refusal>
+    ensures { result ≡ first_some (option_map refusal.KeyReused (token_place records.now token.now) ∷ too_many 65535 (length (users records.now)) ∷ []) }
+{
+    if let Some(place) = token_place(records, token) {
+        return Some(Refusal::KeyReused { place });
+    }
+    too_many(MOST_USERS, user_count(records))
+}
+
+fn import_cause(records: &[Record], key: &Option<Text>, gift: &Bank) -> Option<Refusal>
+    requires { length (catalog.entries records.now) ≤ 20000 }
+    ensures { result ≡ import_cause records.now gift.now (stand_in key.now (request.Import gift.now)) }
+{
+    let room = MOST_ENTRIES as usize - entry_count(records);
+    if gift.items.as_slice().len() > room {
+        return Some(Refusal::TooMany {
+            limit: MOST_ENTRIES,
+        });
+    }
+    if !import_fits(key, gift) {
+        return Some(Refusal::TooMany {
+            limit: MOST_BYTES as u32,
+        });
+    }
+    None
+}
+
+/// The greatest max mark for an entry's latest version, and 0 for a description or where there is no such entry.
+fn greatest_max(entries: &Entries, entry: u32) -> Mark
+    ensures { result ≡ greatest_of entries.now entry }
+{
+    let Some(latest) = entries.latest(entry) else {
+        return Mark(0);
+    };
+    match entries.version(entry, latest) {
+        Some(question) => match question.kind {
+            Kind::Description => Mark(0),
+            _ => GREATEST_MAX,
+        },
+        None => Mark(0),
+    }
+}
+
+/// The refusal of a max mark below 0 or above the greatest.
+fn bad_max(entries: &Entries, entry: u32, max: Mark) -> Option<Refusal>
+    ensures { result ≡ bad_for entries.now entry max }
+{
+    let greatest = greatest_max(entries, entry);
+    if max.0 < 0 || greatest.0 < max.0 {
+        return Some(Refusal::OutOfRange { max: greatest });
+    }
+    None
+}
+
+/// The slots of a quiz that is ready stay.
+fn already_ready(records: &[Record], quiz: u32) -> Option<Refusal>
+    ensures { result ≡ already_ready records.now quiz }
+{
+    match ready_at(records, quiz) {
+        Some(place) => Some(Refusal::Closed { place }),
+        None => None,
+    }
+}
+
+fn slot_cause(
+    records: &[Record],
+    entries: &Entries,
+    quiz: u32,
+    entry: u32,
+    max: Mark,
+) -> Option<Refusal>
+    requires { IsBankOf records.now entries.now }
+    ensures { result ≡ first_some (already_ready records.now quiz ∷ bad_max records.now entry max ∷ too_many 200 (length (slots records.now quiz)) ∷ []) }
+{
+    already_ready(records, quiz)
+        .or(bad_max(entries, entry, max))
+        .or(too_many(MOST_SLOTS, slot_count(records, quiz)))
+}
+
+fn remax_cause(
+    records: &[Record],
+    entries: &Entries,
+    quiz: u32,
+    slot: u16,
+    max: Mark,
+) -> Option<Refusal>
+    requires { IsBankOf records.now entries.now }
+    ensures { result ≡ bad_max records.now (slot_entry records.now quiz slot) max }
+{
+    bad_max(entries, slot_entry(records, quiz, slot), max)
+}
+
+/// A quiz that isn't ready has nothing to bind anew.
+fn regrade_cause(records: &[Record], quiz: u32) -> Option<Refusal>
+    ensures { result ≡ first_some (when (not (is_ready records.now quiz)) (refusal.NotOpen 0) ∷ too_many 100000 (length (jobs records.now)) ∷ []) }
+{
+    if !is_ready(records, quiz) {
+        return Some(Refusal::NotOpen { opens: 0 });
+    }
+    too_many(MOST_JOBS, job_count(records))
+}
+
+/// The first cause for which a request is refused under this key, but for those of an entry's new version.
+pub(crate) fn early_cause(
+    records: &[Record],
+    entries: &Entries,
+    key: &Option<Text>,
+    request: &Request,
+) -> Option<Refusal>
+    requires bank { IsBankOf records.now entries.now }
+    requires few { length (catalog.entries records.now) ≤ 20000 }
+    ensures { result ≡ early_cause records.now key.now request.now }
+{
+    match request {
+        Request::User { token, .. } => user_cause(records, token),
+        Request::Group { .. } => too_many(MOST_GROUPS, group_count(records)),
+        Request::Import { gift } => import_cause(records, key, gift),
+        Request::Quiz { .. } => too_many(MOST_QUIZZES, quiz_count(records)),
+        Request::Slot { quiz, entry, max } => slot_cause(records, entries, *quiz, *entry, *max),
+        Request::Ready { quiz } => already_ready(records, *quiz),
+        Request::Remax { quiz, slot, max } => remax_cause(records, entries, *quiz, *slot, *max),
+        Request::Override { .. } => too_many(MOST_OVERRIDES, override_count(records)),
+        Request::Regrade { quiz } => regrade_cause(records, *quiz),
+        _ => None,
+    }
+}

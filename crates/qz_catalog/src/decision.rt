@@ -1,0 +1,46 @@
+//! What is done with a request: it is refused, it is answered again, or nothing stands against it.
+
+ghost use Rattle.std.specs.Prelude.{◌≡◌, true};
+ghost use Rattle.qz_terms.specs.CatalogAnswer.{asks_catalog};
+ghost use Rattle.qz_catalog.specs.Applying.{IsDecision};
+ghost use Rattle.qz_catalog.specs.Holdings.{IsHeld};
+
+use crate::absent::missing_in;
+use crate::causes::early_cause;
+use crate::keys::{Found, by_key};
+use qz_bank::Entries;
+use qz_grading::Refusal;
+use qz_terms::{Ask, Record, User, forbidden};
+
+/// What is done with a request.
+pub(crate) enum Decision {
+    Refused(Refusal),
+    /// It is answered as the record at this place, from 0, was.
+    Repeated(usize),
+    /// Nothing stands against it but what may lie in an entry's new version.
+    Free,
+}
+
+/// What is done with a request. The causes for which it may be refused are tested in their order: the rule of callers, what isn't
+/// there, the key, and what the records tell.
+pub(crate) fn decide(records: &[Record], entries: &Entries, user: &User, ask: &Ask) -> Decision
+    requires held { IsHeld records.now entries.now }
+    requires here { asks_catalog ask.now.request ≡ true }
+    ensures { IsDecision records.now user.now ask.now result }
+{
+    if let Some(refusal) = forbidden(user, &ask.request) {
+        return Decision::Refused(refusal);
+    }
+    if let Some(refusal) = missing_in(records, entries, &ask.request) {
+        return Decision::Refused(refusal);
+    }
+    match by_key(records, user.number, ask) {
+        Some(Found::Same(at)) => return Decision::Repeated(at),
+        Some(Found::Other(place)) => return Decision::Refused(Refusal::KeyReused { place }),
+        None => {}
+    }
+    match early_cause(records, entries, &ask.key, &ask.request) {
+        Some(refusal) => Decision::Refused(refusal),
+        None => Decision::Free,
+    }
+}

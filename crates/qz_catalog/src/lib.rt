@@ -1,0 +1,24 @@
+//! The catalogue: the records of a school's users, bank and quizzes, and what they tell.
+#![tactic(auto)]
+
+mod absent;
+mod catalog;
+mod causes;
+mod counts;
+mod decision;
+mod jobs;
+mod keys;
+mod missing;
+mod overrides;
+mod people;
+mod planning;
+mod putting;
+mod quizzes;
+mod replies;
+mod settings;
+mod sizes;
+
+pub use catalog::Catalog;
+
+#[cfg(test)]
+mod tests;

@@ -1,0 +1,209 @@
+//! The plan of a quiz for a user.
+
+ghost use Rattle.std.specs.Prelude.{option_copied, if◌then◌else◌, ◌≡◌, ◌⊎◌, ◌≤◌, ◌*◌, List, [], ◌∷◌, filter_map, length, map, true, Some, None, option_map, unwrap_or, IfOk, IfErr, OnOk};
+ghost use Rattle.std.specs.List.{list_all};
+ghost use Rattle.qz_grading.specs.Behaviours.{first_some};
+ghost use Rattle.qz_grading.specs.declared.refusal.Refusal.TheVariants as refusal;
+ghost use Rattle.qz_terms.specs.declared.plan.Planned.{Planned};
+ghost use Rattle.qz_terms.specs.declared.record.Record.{Record};
+ghost use Rattle.qz_bank.specs.Laws.{IsBankOf};
+ghost use Rattle.qz_terms.specs.Catalog.{asked, latest, plan, policy, questions, remax_by, remaxed, slots, version};
+ghost use Rattle.qz_terms.specs.Cause.{missing_quiz, missing_user};
+ghost use Rattle.qz_terms.specs.Kept.{is_planned};
+ghost use Rattle.qz_terms.specs.Rows.{sum_of};
+ghost use Rattle.qz_catalog.specs.Holdings.{IsHeld, lean};
+ghost use Rattle.qz_catalog.specs.Readings.{slot_over};
+
+use crate::missing::missing_user;
+use crate::quizzes::{is_ready, quiz, slot_by};
+use crate::settings::{policy_terms, settings};
+use qz_bank::Entries;
+use qz_bank::laws::follows_the_records;
+use qz_decimal::Mark;
+use qz_grading::{Question, Refusal, Thing};
+use qz_terms::{Event, Plan, Planned, Policy, Record, Request};
+use qz_text::{Listed, NoMemory, TryCopy};
+use std::alloc::Global;
+
+/// The max mark (in 10^-7) that a record gives anew to a slot, if it does.
+fn remax_by(quiz: u32, slot: u16, record: &Record) -> Option<Mark>
+    ensures { result ≡ remax_by quiz slot (asked «record».now) }
+{
+    match &record.event {
+        Event::Asked {
+            request: Request::Remax {
+                quiz: other,
+                slot: place,
+                max,
+            },
+        } if *other == quiz && *place == slot => Some(*max),
+        _ => None,
+    }
+}
+
+/// The max mark (in 10^-7) that a slot got anew last.
+fn remaxed(records: &[Record], quiz: u32, slot: u16) -> Option<Mark>
+    ensures { result ≡ remaxed records.now quiz slot }
+{
+    let mut last = None;
+    for record in records {
+        last = remax_by(quiz, slot, record).or(last);
+    }
+    last
+}
+
+/// The number of an entry's latest version, or 0 where the entry isn't there.
+fn latest(entries: &Entries, entry: u32) -> u32
+    ensures { (c : List Record) → IsBankOf c entries.now → result ≡ latest c entry }
+{
+    follows_the_records();
+    entries.latest(entry).unwrap_or(0)
+}
+
+/// A slot with its entry, that entry's latest version, and the last max mark.
+fn planned(
+    records: &[Record],
+    entries: &Entries,
+    quiz: u32,
+    slot: u16,
+    made: (u32, Mark),
+) -> Planned
+    requires { IsBankOf records.now entries.now }
+    ensures { result ≡ slot_over records.now quiz (slot, made) }
+{
+    let (entry, max) = made;
+    Planned {
+        entry,
+        version: latest(entries, entry),
+        max: remaxed(records, quiz, slot).unwrap_or(max),
+    }
+}
+
+/// The slots of a quiz, in order.
+fn slots(
+    alloc: Global,
+    records: &[Record],
+    entries: &Entries,
+    quiz: u32,
+) -> Result<Listed<Planned>, NoMemory>
+    requires { IsHeld records.now entries.now }
+    ensures value { IfOk result (λ found. found ≡ slots records.now quiz) }
+    ensures few { IfOk result (λ found. length found ≤ 200) }
+    ensures marks { IfOk result (λ found. list_all is_planned found ≡ true) }
+{
+    let mut items = Vec::new(alloc);
+    for record in records {
+        if let Some(made) = slot_by(quiz, record) {
+            let slot = items.len() as u16 + 1;
+            items.push(planned(records, entries, quiz, slot, made))?;
+        }
+    }
+    Ok(Listed { items })
+}
+
+/// The sum of the slots' max marks.
+fn sum_of(slots: &[Planned]) -> Mark
+    requires few { length slots.now ≤ 200 }
+    requires marks { list_all is_planned slots.now ≡ true }
+    ensures { result ≡ sum_of (map (λ (s : Planned). s.max) slots.now) }
+{
+    let mut sum = 0;
+    for slot in slots {
+        sum += slot.max.0.unsigned_abs();
+    }
+    Mark(sum as i64)
+}
+
+/// How a quiz with these slots is graded.
+fn policy(records: &[Record], quiz: u32, laid: &[Planned]) -> Policy
+    requires few { length laid.now ≤ 200 }
+    requires marks { list_all is_planned laid.now ≡ true }
+    requires slots { laid.now ≡ slots records.now quiz }
+    ensures { result ≡ policy records.now quiz }
+{
+    let (method, grade) = policy_terms(records, quiz);
+    Policy {
+        method,
+        grade,
+        sum: sum_of(laid),
+    }
+}
+
+/// The question of a slot, if it is there.
+fn question<'a>(entries: &'a Entries, slot: &Planned) -> Option<&'a Question>
+    ensures { (c : List Record) → IsBankOf c entries.now → option_copied result ≡ version c slot.now.entry slot.now.version }
+{
+    follows_the_records();
+    entries.version(slot.entry, slot.version)
+}
+
+/// The questions of the slots, in order.
+fn questions(
+    alloc: Global,
+    records: &[Record],
+    entries: &Entries,
+    slots: &[Planned],
+) -> Result<Listed<Question>, NoMemory>
+    requires { IsBankOf records.now entries.now }
+    ensures { IfOk result (λ found. found ≡ questions records.now slots.now) }
+{
+    let mut items = Vec::new(alloc);
+    for slot in slots {
+        if let Some(question) = question(entries, slot) {
+            items.push(question.try_copy(alloc)?)?;
+        }
+    }
+    Ok(Listed { items })
+}
+
+/// The questions of a plan, which has none where it isn't whole.
+fn questions_if(
+    alloc: Global,
+    records: &[Record],
+    entries: &Entries,
+    slots: &[Planned],
+    whole: bool,
+) -> Result<Listed<Question>, NoMemory>
+    requires { IsBankOf records.now entries.now }
+    ensures { IfOk result (λ found. found ≡ if whole then questions records.now slots.now else []) }
+{
+    if whole {
+        questions(alloc, records, entries, slots)
+    } else {
+        Ok(Listed::empty(alloc))
+    }
+}
+
+/// The plan of a quiz for a user, with its questions where it is whole. A quiz that isn't there is `Unknown`, and then a user.
+pub(crate) fn plan(
+    alloc: Global,
+    records: &[Record],
+    entries: &Entries,
+    number: u32,
+    user: u32,
+    whole: bool,
+) -> Result<Plan, Refusal>
+    requires { IsHeld records.now entries.now }
+    ensures value { IfOk result (λ p. option_map (lean whole) (plan records.now number user) ≡ Some p) }
+    ensures free { OnOk result (first_some (missing_quiz records.now number ∷ missing_user records.now user ∷ []) ≡ None) }
+    ensures refused { IfErr result (λ r. (r ≡ Refusal.Memory) ⊎ (first_some (missing_quiz records.now number ∷ missing_user records.now user ∷ []) ≡ Some r)) }
+{
+    let Some(named) = quiz(records, number) else {
+        return Err(Refusal::Unknown { what: Thing::Quiz });
+    };
+    if let Some(refusal) = missing_user(records, user) {
+        return Err(refusal);
+    }
+    let slots = slots(alloc, records, entries, number)?;
+    Ok(Plan {
+        at: records.len() as u64,
+        quiz: number,
+        name: named.name.try_copy(alloc)?,
+        ready: is_ready(records, number),
+        behaviour: named.behaviour,
+        settings: settings(alloc, records, number, user)?,
+        policy: policy(records, number, slots.as_slice()),
+        questions: questions_if(alloc, records, entries, slots.as_slice(), whole)?,
+        slots,
+    })
+}

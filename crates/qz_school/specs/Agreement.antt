@@ -1,0 +1,78 @@
+-- What stays true while a catalogue and the shards under it grow: what the catalogue tells, and that a shard's records agree with it.
+use Rattle.std.specs.Prelude.{◌≡◌, ℕ, ◌≤◌, Bool, true, false, List, [], ◌∷◌, ◌++◌, ℤ, length, take, is_some, Some, None}
+use Rattle.qz_grading.specs.declared.outcome.Behaviour.{Behaviour}
+use Rattle.qz_grading.specs.declared.question.Item.{Item}
+use Rattle.qz_grading.specs.declared.question.Question.{Question}
+use Rattle.qz_grading.specs.declared.refusal.AttemptId.{AttemptId}
+use Rattle.qz_grading.specs.Grading.{at_place}
+use Rattle.qz_terms.specs.declared.ask.Ask.{Ask}
+use Rattle.qz_terms.specs.declared.people.Caller.{Caller}
+use Rattle.qz_terms.specs.declared.people.User.{User}
+use Rattle.qz_terms.specs.declared.plan.Job.{Job}
+use Rattle.qz_terms.specs.declared.plan.Plan.{Plan}
+use Rattle.qz_terms.specs.declared.record.Record.{Record}
+use Rattle.qz_terms.specs.declared.request.Request.{Request}
+use Rattle.qz_terms.specs.declared.request.Request.TheVariants as request
+use Rattle.qz_terms.specs.Answer.{answer_here, list_after, put_here}
+use Rattle.qz_terms.specs.Catalog as catalog
+use Rattle.qz_terms.specs.Cause.{Granted, missing_in, verdict_here}
+use Rattle.qz_terms.specs.History as history
+use Rattle.qz_terms.specs.Legal.{AllAgree, IsLegalCatalog}
+use Rattle.qz_terms.specs.SchoolAnswer.{first_refusal, plan_for}
+
+-- ---- what stands in a catalogue
+
+-- It stands there whatever comes behind it.
+pub record StaysThere : Type 0 where
+  pub front : (c rest : List Record) (n : ℕ) → n ≤ length c → take n (c ++ rest) ≡ take n c
+  pub user : (c rest : List Record) (n : ℕ) (u : User) → at_place (catalog.users c) n ≡ Some u → at_place (catalog.users (c ++ rest)) n ≡ Some u
+  pub caller : (c rest : List Record) (who : Caller) (u : User) → catalog.user_of c who ≡ Some u → catalog.user_of (c ++ rest) who ≡ Some u
+  pub group : (c rest : List Record) (n : ℕ) (name : List ℕ) → at_place (catalog.groups c) n ≡ Some name → at_place (catalog.groups (c ++ rest)) n ≡ Some name
+  pub entry : (c rest : List Record) (n : ℕ) (i : Item) → at_place (catalog.entries c) n ≡ Some i → at_place (catalog.entries (c ++ rest)) n ≡ Some i
+  pub version : (c rest : List Record) (entry n : ℕ) (q : Question) → catalog.version c entry n ≡ Some q → catalog.version (c ++ rest) entry n ≡ Some q
+  pub quiz : (c rest : List Record) (n : ℕ) (named : List ℕ × Behaviour) → at_place (catalog.quizzes c) n ≡ Some named → at_place (catalog.quizzes (c ++ rest)) n ≡ Some named
+  pub slot : (c rest : List Record) (quiz k : ℕ) (s : ℕ × ℤ) → at_place (catalog.slots_made c quiz) k ≡ Some s → at_place (catalog.slots_made (c ++ rest) quiz) k ≡ Some s
+  pub ready : (c rest : List Record) (quiz : ℕ) → catalog.is_ready c quiz ≡ true → catalog.is_ready (c ++ rest) quiz ≡ true
+  pub job : (c rest : List Record) (n : ℕ) (j : Job) → catalog.job c n ≡ Some j → catalog.job (c ++ rest) n ≡ Some j
+  pub found : (c rest : List Record) (x : Request) → missing_in c x ≡ None → missing_in (c ++ rest) x ≡ None
+  pub free : (c rest : List Record) (user : User) (x : Request) → first_refusal c user x ≡ None → first_refusal (c ++ rest) user x ≡ None
+  pub planned : (c rest h : List Record) (user : User) (x : Request) → is_some (plan_for c h user x) ≡ true → is_some (plan_for (c ++ rest) h user x) ≡ true
+
+-- Users are numbered by their place, and in a legal catalogue no two have the same token.
+pub record UsersHaveTokens : Type 0 where
+  pub place : (c : List Record) (token : List ℕ) (u : User) → catalog.user_of_token c token ≡ Some u → at_place (catalog.users c) u.number ≡ Some u
+  pub token : (c : List Record) (n : ℕ) (u : User) → IsLegalCatalog c → at_place (catalog.users c) n ≡ Some u → catalog.user_of_token c u.token ≡ Some u
+
+-- ---- agreement
+
+-- The records of a shard that agree with a catalogue agree with a longer one. What a request puts under the plan that the catalogue
+-- gives agrees too.
+pub record GoesOnAgreeing : Type 0 where
+  pub empty : (c : List Record) → AllAgree c []
+  pub longer : (c rest h : List Record) → AllAgree c h → AllAgree (c ++ rest) h
+  pub put : (c h : List Record) (moment : ℕ) (user : User) (plan : Plan) (ask : Ask) (r : Record)
+      → IsLegalCatalog c → AllAgree c h → catalog.user_of c ask.caller ≡ Some user → plan_for c h user ask.request ≡ Some plan
+      → verdict_here h moment user plan ask ≡ Granted → put_here h moment user plan ask ≡ Some r → AllAgree c (h ++ r ∷ [])
+  pub answered : (c h : List Record) (now : ℕ) (user : User) (plan : Plan) (ask : Ask)
+      → IsLegalCatalog c → AllAgree c h → catalog.user_of c ask.caller ≡ Some user → plan_for c h user ask.request ≡ Some plan
+      → AllAgree c (list_after h now user plan ask)
+
+-- An attempt of a shard that agrees has its quiz and its user in the catalogue.
+pub record AttemptsAreKnown : Type 0 where
+  pub quiz : (c h : List Record) (a : AttemptId) (q : ℕ) → AllAgree c h → history.quiz h a ≡ Some q → is_some (at_place (catalog.quizzes c) q) ≡ true
+  pub user : (c h : List Record) (a : AttemptId) (q : ℕ) → AllAgree c h → history.quiz h a ≡ Some q → is_some (at_place (catalog.users c) a.user) ≡ true
+
+-- ---- a plan without its questions
+
+abbrev pub without_questions : Plan → Plan
+without_questions plan = record plan { questions = [] }
+
+abbrev pub is_start : Request → Bool
+is_start (request.Start quiz) = true
+is_start x = false
+
+-- Every request but a start is answered alike under it.
+pub record NeedsNoQuestions : Type 0 where
+  pub verdict : (h : List Record) (moment : ℕ) (user : User) (plan : Plan) (ask : Ask) → is_start ask.request ≡ false → verdict_here h moment user (without_questions plan) ask ≡ verdict_here h moment user plan ask
+  pub reply : (h : List Record) (now : ℕ) (user : User) (plan : Plan) (ask : Ask) → is_start ask.request ≡ false → answer_here h now user (without_questions plan) ask ≡ answer_here h now user plan ask
+  pub list : (h : List Record) (now : ℕ) (user : User) (plan : Plan) (ask : Ask) → is_start ask.request ≡ false → list_after h now user (without_questions plan) ask ≡ list_after h now user plan ask

@@ -1,0 +1,4 @@
+//! What ties a catalogue and the shards that were made under it.
+#![tactic(auto)]
+
+pub mod laws;

@@ -1,0 +1,70 @@
+-- What a look is answered, and how many steps of a slot are a student's.
+use Rattle.std.proofs.Common.{◌≡◌, ℕ, suc, Bool, true, false, List, [], ◌∷◌, Option, Some, None, append-nil, refl, sym, ap, option_map}
+use Rattle.std.specs.Prelude.{filter_map, is_none, unwrap_or}
+use Rattle.qz_grading.specs.declared.refusal.AttemptId.{AttemptId}
+use Rattle.qz_grading.specs.declared.refusal.Refusal.{Refusal}
+use Rattle.qz_grading.specs.Steps.{is_answering}
+use Rattle.qz_terms.specs.declared.ask.Ask.{Ask}
+use Rattle.qz_terms.specs.declared.people.User.{User}
+use Rattle.qz_terms.specs.declared.plan.Plan.{Plan}
+use Rattle.qz_terms.specs.declared.record.Record.{Record}
+use Rattle.qz_terms.specs.declared.reply.Reply.TheVariants as reply
+use Rattle.qz_terms.specs.declared.request.Request.{Request}
+use Rattle.qz_terms.specs.declared.request.Request.TheVariants as request
+use Rattle.qz_terms.specs.Answer.{answering_steps, event_here, looked, moment_of}
+use Rattle.qz_terms.specs.Cause.{cause_here, forbidden, is_keyed, is_keyless, missing_here}
+use Rattle.qz_terms.specs.History.{step_in}
+use Rattle.qz_terms.specs.Lists.{how_many}
+use Rattle.qz_shard.specs.Answering.{IsAnswered}
+use Rattle.qz_shard.specs.Holdings.{is_look}
+use Rattle.qz_shard.specs.Readings.{answers_in}
+
+-- ---- the answer
+
+pub refused-caller : (h : List Record) (now : ℕ) (user : User) (plan : Plan) (ask : Ask) (r : Refusal) → forbidden user ask.request ≡ Some r → IsAnswered h now user plan ask (reply.Refused r) h
+refused-caller h now user plan ask r is = record { reply = rw is refl; list = rw is refl }
+
+pub refused-missing : (h : List Record) (now : ℕ) (user : User) (plan : Plan) (ask : Ask) (r : Refusal) → forbidden user ask.request ≡ None → missing_here h user ask.request ≡ Some r → IsAnswered h now user plan ask (reply.Refused r) h
+refused-missing h now user plan ask r allowed is = record { reply = rw (allowed, is) refl; list = rw (allowed, is) refl }
+
+-- a look has no key, no cause behind it, and makes no event
+record IsPlain (h : List Record) (m : ℕ) (user : User) (plan : Plan) (x : Request) : Type 0 where
+  keyless : is_keyless x ≡ true
+  causeless : cause_here h m user plan x ≡ None
+  makes : event_here h m user plan x ≡ None
+
+plain : (h : List Record) (m : ℕ) (user : User) (plan : Plan) (x : Request) → is_look x ≡ true → IsPlain h m user plan x
+plain h m user plan (request.View a k) look = record { keyless = refl; causeless = refl; makes = refl }
+plain h m user plan (request.Total a) look = record { keyless = refl; causeless = refl; makes = refl }
+plain h m user plan (request.Page a) look = record { keyless = refl; causeless = refl; makes = refl }
+plain h m user plan (request.Grade q u) look = record { keyless = refl; causeless = refl; makes = refl }
+plain h m user plan x look = absurd cc
+
+none-is : (key : Option (List ℕ)) → is_none key ≡ true → key ≡ None
+none-is None is = refl
+none-is (Some k) is = absurd cc
+
+pub look-answered : (h : List Record) (now : ℕ) (user : User) (plan : Plan) (ask : Ask) → is_look ask.request ≡ true → is_keyed ask ≡ true → forbidden user ask.request ≡ None → missing_here h user ask.request ≡ None
+    → IsAnswered h now user plan ask (looked h (moment_of h now user ask.request) user plan ask.request) h
+look-answered h now user plan ask look keyed allowed there =
+    let p = plain h (moment_of h now user ask.request) user plan ask.request look in
+    let key : ask.key ≡ None = none-is ask.key (rw p.keyless at keyed) in
+    record { reply = rw (allowed, there, key, p.causeless, p.makes) refl; list = rw (allowed, there, key, p.causeless, p.makes) (sym (append-nil h)) }
+
+-- ---- how many steps are a student's
+
+-- an item that tells nothing fails the test of what is told
+abbrev tells : {A B : Type 0} → (A → Option B) → (B → Bool) → A → Bool
+tells f p x = unwrap_or (option_map p (f x)) false
+
+tells-more : {A B : Type 0} (f : A → Option B) (p : B → Bool) (x : A) (xs : List A) (o : Option B) (b : Bool) → f x ≡ o → unwrap_or (option_map p o) false ≡ b → how_many (tells f p) xs ≡ how_many p (filter_map f xs) → how_many (tells f p) (x ∷ xs) ≡ how_many p (filter_map f (x ∷ xs))
+tells-more f p x xs None b is by rest = rw is rest
+tells-more f p x xs (Some y) true is by rest = rw (is, by) (ap suc rest)
+tells-more f p x xs (Some y) false is by rest = rw (is, by) rest
+
+how_many-told : {A B : Type 0} (f : A → Option B) (p : B → Bool) (xs : List A) → how_many (tells f p) xs ≡ how_many p (filter_map f xs)
+how_many-told f p [] = refl
+how_many-told f p (x ∷ xs) = tells-more f p x xs (f x) (tells f p x) refl refl (how_many-told f p xs)
+
+pub answers_counted : (h : List Record) (a : AttemptId) (k : ℕ) → how_many (answers_in a k) h ≡ answering_steps h a k
+answers_counted h a k = how_many-told (step_in a k) is_answering h

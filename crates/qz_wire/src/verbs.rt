@@ -1,0 +1,95 @@
+//! The commands of lines.
+
+ghost use Rattle.std.specs.Prelude.{◌≡◌};
+ghost use Rattle.qz_wire.specs.Asking.{verb_of, takes_key};
+
+use qz_text::Text;
+
+/// The requests that are read so far.
+#[derive(Clone, Copy, PartialEq, Eq)]
+pub enum Verb {
+    User,
+    Group,
+    Member,
+    Import,
+    Edit,
+    Tune,
+    Quiz,
+    Slot,
+    Ready,
+    Remax,
+    Start,
+    Save,
+    Submit,
+    Again,
+    Finish,
+    Grade,
+    Bank,
+}
+
+/// The command that a word is.
+pub fn verb_in(word: &[u8]) -> Option<Verb>
+    ensures { result ≡ verb_of word.now }
+{
+    if word == b"user".as_slice() {
+        Some(Verb::User)
+    } else if word == b"group".as_slice() {
+        Some(Verb::Group)
+    } else if word == b"member".as_slice() {
+        Some(Verb::Member)
+    } else if word == b"import".as_slice() {
+        Some(Verb::Import)
+    } else if word == b"edit".as_slice() {
+        Some(Verb::Edit)
+    } else if word == b"tune".as_slice() {
+        Some(Verb::Tune)
+    } else if word == b"quiz".as_slice() {
+        Some(Verb::Quiz)
+    } else if word == b"slot".as_slice() {
+        Some(Verb::Slot)
+    } else if word == b"ready".as_slice() {
+        Some(Verb::Ready)
+    } else if word == b"remax".as_slice() {
+        Some(Verb::Remax)
+    } else if word == b"start".as_slice() {
+        Some(Verb::Start)
+    } else if word == b"save".as_slice() {
+        Some(Verb::Save)
+    } else if word == b"submit".as_slice() {
+        Some(Verb::Submit)
+    } else if word == b"again".as_slice() {
+        Some(Verb::Again)
+    } else if word == b"finish".as_slice() {
+        Some(Verb::Finish)
+    } else if word == b"grade".as_slice() {
+        Some(Verb::Grade)
+    } else if word == b"bank".as_slice() {
+        Some(Verb::Bank)
+    } else {
+        None
+    }
+}
+
+/// Whether a request takes this key, or none.
+pub fn takes_key(verb: Verb, key: &Option<Text>) -> bool
+    ensures { result ≡ takes_key verb key.now }
+{
+    match verb {
+        Verb::Grade | Verb::Bank => key.is_none(),
+        Verb::User
+        | Verb::Group
+        | Verb::Member
+        | Verb::Import
+        | Verb::Edit
+        | Verb::Tune
+        | Verb::Quiz
+        | Verb::Slot
+        | Verb::Ready
+        | Verb::Remax
+        | Verb::Start
+        | Verb::Save
+        | Verb::Submit
+        | Verb::Again
+        | Verb::Finish => key.is_some(),
+    }
+}
