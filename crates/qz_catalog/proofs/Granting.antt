@@ -18,23 +18,10 @@ use Rattle.qz_terms.specs.Cause.{Granted, forbidden, is_keyless, verdict_in}
 use Rattle.qz_terms.specs.Kept.{IsKept, KeepsAsked, KeepsRequest, is_moment}
 use Rattle.qz_terms.specs.Legal.{IsAllowedInCatalog, IsLegalCatalog}
 use Rattle.qz_terms.specs.Lists.{first_of}
+use Rattle.qz_terms.proofs.Walks.{split-push}
 use Rattle.qz_catalog.specs.Applying.{IsAsked}
 
 -- ---- one more record of a legal list
-
--- one item at the end is the one that stands after a part, or stands behind it
-split-push : {A : Type 0} (l k : List A) (x y : A) (rest : List A) → l ++ x ∷ [] ≡ k ++ y ∷ rest → ((l ≡ k) × (x ≡ y)) ⊎ ((more : List A) × (l ≡ k ++ y ∷ more))
-split-push [] [] x y rest e = inl (refl, cc)
-split-push [] (z ∷ []) x y rest e = absurd cc
-split-push [] (z ∷ w ∷ k) x y rest e = absurd cc
-split-push (z ∷ l) [] x y rest e = inr (l, let same : z ≡ y = cc in ap (λ t. t ∷ l) same)
-split-push (z ∷ l) (w ∷ k) x y rest e =
-    let head : z ≡ w = cc in
-    let tail : l ++ x ∷ [] ≡ k ++ y ∷ rest = cc in
-    elim (split-push l k x y rest tail) [
-      | inl same ↦ inl (let lists : l ≡ k = same.0 in cc, same.1)
-      | inr behind ↦ inr (behind.0, let lists : l ≡ k ++ y ∷ behind.0 = behind.1 in cc)
-    ]
 
 pub legal-push : (l : List Record) (r : Record) → IsLegalCatalog l → IsAllowedInCatalog l r → IsLegalCatalog (l ++ r ∷ [])
 legal-push l r legal allowed = record {

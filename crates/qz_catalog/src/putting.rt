@@ -1,6 +1,6 @@
 //! How a record is made and put at the end of the list.
 
-ghost use Rattle.std.specs.Prelude.{◌≡◌, ◌+◌, ◌-◌, ◌<◌, ◌^◌, ◌++◌, ◌∷◌, [], length, ◌⊎◌, None, Some, IfOk, IfErr, OnErr, OnOk, vec_len, vec_capacity};
+ghost use Rattle.std.specs.Prelude.{◌≡◌, ◌<◌, ◌++◌, ◌∷◌, [], ◌⊎◌, None, Some, IfOk, IfErr, OnErr, OnOk, vec_len, vec_capacity};
 ghost use Rattle.qz_terms.specs.Answer.{said};
 ghost use Rattle.qz_terms.specs.CatalogAnswer.{catalog_verdict, moment_in, record_in};
 ghost use Rattle.qz_terms.specs.Cause.{Denied};
@@ -9,12 +9,9 @@ ghost use Rattle.qz_catalog.specs.Applying.{IsAnswered, IsPosed, IsToldOver, ban
 use crate::replies::said;
 use qz_bank::Entries;
 use qz_grading::Refusal;
-use qz_terms::{Ask, Event, Record, Reply, Request, User};
-use qz_text::{Listed, NoMemory, Text, TryCopy};
+use qz_terms::{Ask, Event, Record, Reply, Request, User, copy_of_text, make_room};
+use qz_text::{Listed, NoMemory, TryCopy};
 use std::alloc::Global;
-
-/// So many records a list holds, since what they make is numbered in 32 bits.
-const MOST_RECORDS: usize = 4_294_967_293;
 
 /// The moment of a request: the clock's, but not before that of the last record.
 fn moment_of(records: &[Record], now: u64) -> u64
@@ -23,16 +20,6 @@ fn moment_of(records: &[Record], now: u64) -> u64
     match records.last() {
         Some(record) => now.max(record.moment),
         None => now,
-    }
-}
-
-/// A key of its own.
-fn copy_of(alloc: Global, key: &Option<Text>) -> Result<Option<Text>, NoMemory>
-    ensures { IfOk result (λ copy. copy ≡ key.now) }
-{
-    match key {
-        Some(key) => Ok(Some(key.try_copy(alloc)?)),
-        None => Ok(None),
     }
 }
 
@@ -50,24 +37,12 @@ fn record_of(
         moment: moment_of(records, now),
         caller: user.number,
         owner: 0,
-        key: copy_of(alloc, &ask.key)?,
+        key: copy_of_text(&ask.key, alloc)?,
         terms: None,
         event: Event::Asked {
             request: ask.request.try_copy(alloc)?,
         },
     })
-}
-
-/// Makes room for one more record. A list that has its greatest number of records grows no more, and that is a want of memory.
-fn make_room(records: &mut Vec<Record>) -> Result<(), NoMemory>
-    ensures few { OnOk result (length records.old.items + 1 < 2 ^ 32 - 1) }
-    ensures room { OnOk result (vec_len records.new < vec_capacity records.new) }
-    ensures unchanged { records.new.items ≡ records.old.items }
-{
-    if records.len() >= MOST_RECORDS {
-        return Err(NoMemory);
-    }
-    Ok(records.reserve(1)?)
 }
 
 /// Changes the bank as a request asks. Where that is refused or memory is wanting the bank is as before.

@@ -15,11 +15,11 @@ pub struct Ask {
     pub request: Request,
 }
 
-/// A copy of a text, if there is one.
-pub(crate) fn copy_of_text(key: &Option<Text>, alloc: Global) -> Result<Option<Text>, NoMemory>
-    ensures { IfOk result (λ copy. copy ≡ key.now) }
+/// A copy of a text, such as a key, if there is one.
+pub fn copy_of_text(text: &Option<Text>, alloc: Global) -> Result<Option<Text>, NoMemory>
+    ensures { IfOk result (λ copy. copy ≡ text.now) }
 {
-    match key {
+    match text {
         None => Ok(None),
         Some(text) => Ok(Some(text.try_copy(alloc)?)),
     }

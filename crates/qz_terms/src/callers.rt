@@ -12,6 +12,20 @@ fn rule_of(request: &Request) -> u8
 {
     match request {
         Request::User { .. } | Request::Group { .. } | Request::Member { .. } => 1,
+        Request::Import { .. }
+        | Request::Edit { .. }
+        | Request::Tune { .. }
+        | Request::Quiz { .. }
+        | Request::Slot { .. }
+        | Request::Ready { .. }
+        | Request::Remax { .. }
+        | Request::Policy { .. }
+        | Request::Times { .. }
+        | Request::Override { .. }
+        | Request::Regrade { .. }
+        | Request::Mark { .. }
+        | Request::Report { .. }
+        | Request::Bank { .. } => 2,
         Request::Start { .. }
         | Request::Save { .. }
         | Request::Submit { .. }
@@ -22,7 +36,6 @@ fn rule_of(request: &Request) -> u8
         | Request::Total { .. }
         | Request::Page { .. }
         | Request::Grade { .. } => 5,
-        _ => 2,
     }
 }
 

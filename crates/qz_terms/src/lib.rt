@@ -12,12 +12,14 @@ mod plan;
 mod record;
 mod reply;
 mod request;
+mod room;
+mod routes;
 mod sameness;
 #[cfg(test)]
 mod tests;
 
 pub use access::{Handling, Override, Review, Settings};
-pub use ask::Ask;
+pub use ask::{Ask, copy_of_text};
 pub use callers::{forbidden, is_anothers, is_student};
 pub use grades::{Method, Policy};
 pub use keys::place_of;
@@ -26,4 +28,6 @@ pub use plan::{Bound, Job, Plan, Planned};
 pub use record::{Event, How, Learned, Record, Terms};
 pub use reply::{Done, Part, Reply, Row, Shown, Status};
 pub use request::{Request, Whom};
+pub use room::make_room;
+pub use routes::{asks_catalog, attempt_named, named_user};
 pub use sameness::same_request;
