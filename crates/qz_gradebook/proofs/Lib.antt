@@ -1,0 +1,3 @@
+pub mod GradeLemmas
+pub mod OrderLemmas
+pub mod TotalLemmas

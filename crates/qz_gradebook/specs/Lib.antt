@@ -1,0 +1,4 @@
+pub mod Totals
+pub mod Orders
+pub mod Grades
+pub mod Examples
