@@ -8,3 +8,4 @@ pub mod Tokens
 pub mod Same
 pub mod Repeating
 pub mod Leaning
+pub mod AlikeInSchool

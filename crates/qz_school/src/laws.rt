@@ -1,6 +1,7 @@
 //! What stays true while the catalogue and the shards of a school grow.
 
 ghost use Rattle.qz_school.specs.Agreement.{AttemptsAreKnown, GoesOnAgreeing, NeedsNoQuestions, StaysThere, UsersHaveTokens};
+ghost use Rattle.qz_school.specs.Alike.{AlikeInASchool};
 ghost use Rattle.qz_school.specs.Repeating.{CatalogActsOnce};
 
 /// What stands in a catalogue stands there whatever comes behind it: users, groups, entries, versions, quizzes, slots, jobs, and that a
@@ -35,4 +36,10 @@ pub fn needs_no_questions()
 /// the reply that it had, and adds nothing.
 pub fn catalog_acts_once()
     ensures { CatalogActsOnce }
+{}
+
+/// Two lists of a shard that agree with one catalogue are alike for a user who asked only of own attempts, once they have the same records
+/// of this user but for what was learned: the catalogue has one question for each version.
+pub fn alike_in_a_school()
+    ensures { AlikeInASchool }
 {}

@@ -1,0 +1,11 @@
+pub mod Own
+pub mod Versions
+pub mod Alike
+pub mod Attempts
+pub mod Causes
+pub mod Telling
+pub mod Keys
+pub mod Looking
+pub mod Putting
+pub mod Answering
+pub mod Asking

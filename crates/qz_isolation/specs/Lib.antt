@@ -1,0 +1,3 @@
+pub mod Isolation
+pub mod Asked
+pub mod Examples

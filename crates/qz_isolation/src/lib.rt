@@ -1,0 +1,4 @@
+//! That the answers of one student depend on nobody else.
+#![tactic(auto)]
+
+pub mod laws;
