@@ -14,7 +14,7 @@ use Rattle.qz_grading.specs.declared.refusal.Thing.TheVariants as thing
 use Rattle.qz_grading.specs.declared.response.Step.{Step}
 use Rattle.qz_grading.specs.declared.response.Step.TheVariants as step
 use Rattle.qz_grading.specs.Behaviours.{first_some, moved, when}
-use Rattle.qz_grading.specs.Grading.{at_place, is_place, shape}
+use Rattle.qz_grading.specs.Grading.{at_place, shape}
 use Rattle.qz_grading.specs.Shapes.{same_shape}
 use Rattle.qz_grading.specs.Slots.{step_cause}
 use Rattle.qz_grading.specs.Steps.{given, is_finish}
@@ -29,11 +29,11 @@ use Rattle.qz_terms.specs.declared.record.Learned.{Learned}
 use Rattle.qz_terms.specs.declared.record.Record.{Record}
 use Rattle.qz_terms.specs.declared.request.Request.{Request}
 use Rattle.qz_terms.specs.declared.request.Request.TheVariants as request
-use Rattle.qz_terms.specs.Access.{closed_at, expired, finish_cause, late, settled_by}
-use Rattle.qz_terms.specs.Answer.{acted_or_noted, event_here, is_overdue, max_now, started_by, stepped_by}
-use Rattle.qz_terms.specs.Cause.{answering_cause, cause_here, is_anothers, missing_attempt, missing_here, missing_slot, refusal_shown, sees_marks, slot_cause, time_cause}
+use Rattle.qz_terms.specs.Access.{closed_at, expired, finish_cause, settled_by}
+use Rattle.qz_terms.specs.Answer.{acted_or_noted, event_here, is_overdue, max_now}
+use Rattle.qz_terms.specs.Cause.{answering_cause, cause_here, is_anothers, missing_attempt, missing_here, missing_slot, refusal_shown, sees_marks, slot_cause}
 use Rattle.qz_terms.specs.Legal.{EventIsAllowed, IsLegal, IsPut, LearnsNew, RebindIsAllowed, StartIsAllowed}
-use Rattle.qz_terms.specs.History.{Slot, Start, binds, bound, ended, ended_at, ends, is_ended, learned_by, question, quiz, same_attempt, slot, slot_count, slot_with, start, starts, step_in, steps, version}
+use Rattle.qz_terms.specs.History.{Slot, Start, binds, bound, ended, ended_at, ends, is_ended, learned_by, question, quiz, same_attempt, slot, slot_with, start, starts, step_in, steps, version}
 use Rattle.qz_terms.proofs.Standing.{unmapped}
 use Rattle.qz_shard.proofs.Keeping.{and-left, and-right, start-record}
 use Rattle.qz_shard.proofs.Legality.{event-put, free-put, started-number, told_event, told-pair}

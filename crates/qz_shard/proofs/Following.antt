@@ -1,6 +1,6 @@
 -- The steps of a slot can be followed again under the version that is bound now, though it would refuse some of them.
-use Rattle.std.proofs.Common.{◌≡◌, ℕ, ◌+◌, ◌≤◌, eqb, Bool, true, false, not, ◌||◌, List, [], ◌∷◌, ◌++◌, Option, Some, None, length, length-append, refl, sym, ap, subst, ◌∙◌, arith, append_assoc, take, drop, All, option_map}
-use Rattle.std.specs.Prelude.{◌==◌, IfSome, ℤ, filter, is_none, is_some, option_and_then, option_to_list}
+use Rattle.std.proofs.Common.{◌≡◌, ℕ, ◌+◌, ◌≤◌, eqb, Bool, true, false, not, ◌||◌, List, [], ◌∷◌, ◌++◌, Option, Some, None, length, length-append, refl, sym, ap, subst, ◌∙◌, arith, append_assoc, take, drop, All}
+use Rattle.std.specs.Prelude.{IfSome, ℤ, filter, is_none, is_some, option_and_then}
 use Rattle.std.specs.Option.{option_or}
 use Rattle.std.proofs.Math.Seq.{take-append_seam}
 use Rattle.std.proofs.lemmas.Bool.{eqb-true}
@@ -18,8 +18,7 @@ use Rattle.qz_grading.specs.declared.refusal.Thing.TheVariants as thing
 use Rattle.qz_grading.specs.declared.response.Step.{Step}
 use Rattle.qz_grading.specs.declared.response.Step.TheVariants as step
 use Rattle.qz_grading.specs.Behaviours.{behaviour_for, when}
-use Rattle.qz_grading.specs.Grading.{counts, is_place, kind_number, shape}
-use Rattle.qz_grading.specs.Shapes.{same_shape}
+use Rattle.qz_grading.specs.Grading.{is_place, kind_number}
 use Rattle.qz_grading.specs.Slots.{is_misfit, step_cause}
 use Rattle.qz_grading.specs.Steps.{given, has_finish, is_answering, is_finish, is_mark}
 use Rattle.qz_terms.specs.declared.people.User.{User}
@@ -27,11 +26,10 @@ use Rattle.qz_terms.specs.declared.plan.Bound.{Bound}
 use Rattle.qz_terms.specs.declared.record.How.{How}
 use Rattle.qz_terms.specs.declared.record.How.TheVariants as how
 use Rattle.qz_terms.specs.declared.record.Record.{Record}
-use Rattle.qz_terms.specs.Answer.{max_now}
 use Rattle.qz_terms.specs.Cause.{missing_attempt, missing_slot}
 use Rattle.qz_terms.specs.Kept.{IsKept}
 use Rattle.qz_terms.specs.Legal.{IsLegal}
-use Rattle.qz_terms.specs.History.{Slot, Start, binds, bound, ended, ends, is_ended, question, slot, slot_count, slot_with, start, starts, step_in, steps, version}
+use Rattle.qz_terms.specs.History.{Start, binds, bound, ended, ends, is_ended, slot, slot_count, slot_with, start, starts, step_in, steps, version}
 use Rattle.qz_terms.proofs.Walks.{first_of-push}
 use Rattle.qz_usage.specs.Runs.{IsGiven, IsWithinLimits, has_misfit}
 use Rattle.qz_usage.proofs.RunLemmas.{given_taken, limits_kept, taken}
@@ -39,10 +37,10 @@ use Rattle.qz_usage.proofs.Shapes.{fits-alike}
 use Rattle.qz_usage.proofs.StepCounts.{has_misfit-push, limits_more}
 use Rattle.qz_shard.specs.Decisions.{IsSound}
 use Rattle.qz_shard.specs.Replays.{CanAdd, CanFollow, IsMarked}
-use Rattle.qz_shard.proofs.Effects.{Acts, Begins, Does, Finishes, IsActed, IsEnding, Leaves, Rebinds, acts, begins, begun, does, finishes, first-two, leaves, rebinds, slot-max}
-use Rattle.qz_shard.proofs.Keeping.{All-seam, and-left, and-right, bound-kept}
+use Rattle.qz_shard.proofs.Effects.{Acts, Begins, Does, Finishes, Leaves, Rebinds, acts, begins, begun, does, finishes, first-two, leaves, rebinds, slot-max}
+use Rattle.qz_shard.proofs.Keeping.{All-seam, and-left, bound-kept}
 use Rattle.qz_shard.proofs.Legality.{by-prefixes, legal-before}
-use Rattle.qz_shard.proofs.Placing.{IsPlaced, bound-more, placed, start-more, start-same, steps-more, steps-same, version-more}
+use Rattle.qz_shard.proofs.Placing.{IsPlaced, bound-more, placed, start-same, steps-more, steps-same, version-more}
 use Rattle.qz_shard.proofs.ReadingLemmas.{max-mark}
 
 -- ---- a slot that is there

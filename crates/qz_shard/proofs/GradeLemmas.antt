@@ -1,104 +1,93 @@
--- Totals that are taken for a grade, one more at a time, and those of finished attempts.
-use Rattle.std.proofs.Common.{◌≡◌, ℕ, ◌+◌, ◌-◌, ◌*◌, ◌^◌, ◌<◌, ◌≤◌, Bool, true, false, not, List, [], ◌∷◌, ◌++◌, Option, Some, None, length, take, get_or, map, append-nil, length-append, refl, sym, ap, ◌∙◌, arith, to_z, of_z}
-use Rattle.std.specs.Prelude.{ℤ, pos, negsuc, neg_ℤ, ◌+ℤ◌, ◌≤ℤ◌, filter, filter_map, fold, if◌then◌else◌, IfSome, is_some, option_to_list, unsigned_abs, unwrap_or}
-use Rattle.std.specs.Int.{from_bool, int_max, w128}
-use Rattle.std.proofs.lemmas.Grind.{fold-append}
-use Rattle.std.proofs.lemmas.Int.{ints, to_z-of_z, fits_signed_from_abs}
-use Rattle.std.proofs.lemmas.List.{length-map}
-use Rattle.std.proofs.lemmas.List.Filters.{length-filter_both}
-use Rattle.qz_decimal.specs.Numbers.{one}
+-- The finished attempts of a user at a quiz, one more at a time, and the totals that a grade is made of.
+use Rattle.std.proofs.Common.{◌≡◌, ℕ, ◌+◌, ◌<◌, Bool, true, false, ◌&&◌, ◌||◌, List, [], ◌∷◌, ◌++◌, Option, length, length-take, take, get_or, map, append-nil, refl, sym, ap, subst, ◌∙◌, arith, eq-eqb, eqb, ltb, All}
+use Rattle.std.specs.List.{AllPairs}
+use Rattle.std.specs.Prelude.{ℤ, filter, nat_lt, ◌==◌}
+use Rattle.std.proofs.lemmas.Bool.{or_right}
+use Rattle.std.proofs.lemmas.Bool.Decides.{nat_tests}
+use Rattle.std.proofs.lemmas.List.{get_or-take, get_or_default, map-append}
+use Rattle.std.proofs.lemmas.List.Elements.{All-filter, All-head, All-map, All-nil, All-tail, All-weaker, filter-append}
+use Rattle.std.proofs.lemmas.List.Kept.{AllPairs-cons, AllPairs-filter}
+use Rattle.qz_gradebook.specs.declared.finished.Finished.{Finished}
+use Rattle.qz_gradebook.specs.Totals.{is_by, numbered_before, totals_of, with_total}
+use Rattle.qz_gradebook.specs.Totals as totals
+use Rattle.qz_gradebook.proofs.OrderLemmas.{filter-all, in_order-same, pairs-between, pairs-first, pairs-rest}
+use Rattle.qz_gradebook.proofs.TotalLemmas.{Ordered, put-last}
+use Rattle.qz_grading.specs.declared.refusal.AttemptId.{AttemptId}
 use Rattle.qz_terms.specs.declared.record.Record.{Record}
-use Rattle.qz_terms.specs.History.{attempts, is_finished, starts_at, total}
-use Rattle.qz_terms.specs.Rows.{greatest_total, sum_of}
-use Rattle.qz_terms.proofs.Walks.{all_kept}
-use Rattle.qz_usage.specs.Usages.{IsTotal}
-use Rattle.qz_shard.specs.Decisions.{IsSound}
-use Rattle.qz_shard.specs.Grades.{IsAdded, greater}
-use Rattle.qz_shard.proofs.Numbered.{attempts-in_order}
+use Rattle.qz_terms.specs.History.{attempt_before, is_finished, total}
+use Rattle.qz_terms.specs.Lists.{in_order}
+use Rattle.qz_terms.proofs.Walks.{take-one_more}
+use Rattle.qz_shard.specs.Grades.{finished_at}
 
--- those that are there
-abbrev there : List (Option ℤ) → List ℤ
-there totals = filter_map (λ (t : Option ℤ). t) totals
+-- ---- one attempt more
 
--- ---- the greatest
+-- the finished attempts among these are put, in order
+pub record ArePut (h : List Record) (q : ℕ) (xs : List AttemptId) (rows : List Finished) : Type 0 where
+  pub is : rows ≡ map (finished_at h q) (filter (is_finished h) xs)
+  pub order : AllPairs Ordered rows
 
-greatest-more : (ts : List ℤ) (o : Option ℤ) → greatest_total (ts ++ option_to_list o) ≡ greater (greatest_total ts) o
-greatest-more [] None = refl
-greatest-more [] (Some t) = refl
-greatest-more (s ∷ ts) None = let same : ts ++ [] ≡ ts = append-nil ts in ap (λ (xs : List ℤ). Some (fold int_max s xs)) same
-greatest-more (s ∷ ts) (Some t) = ap (λ (m : ℤ). Some m) (fold-append int_max s ts (t ∷ []))
+module _ (h : List Record) (q : ℕ) where
+  finished-before : (a b : AttemptId) → attempt_before a b ≡ true → Ordered (finished_at h q a) (finished_at h q b)
+  finished-before a b is = or_right (ltb q q) (eqb q q && attempt_before a b) (rw (eq-eqb q q refl) is)
 
--- of the totals up to one at a place
-pub greatest_more : (xs : List (Option ℤ)) (i : ℕ) (x best : Option ℤ) → i < length xs → x ≡ get_or xs i x → best ≡ greatest_total (there (take i xs)) → greater best x ≡ greatest_total (there (take (i + 1) xs))
-greatest_more xs i x best inside is so_far =
-    ap (λ (o : Option ℤ). greater o x) so_far ∙ sym (ap greatest_total (all_kept (λ (t : Option ℤ). t) xs i x inside is) ∙ greatest-more (there (take i xs)) x)
+  pub put-none : ArePut h q [] []
+  put-none = record { is = refl; order = λ i j d less within. absurd (omega arith) }
 
--- ---- the sum
+  module _ (xs : List AttemptId) (i : ℕ) (x : AttemptId) (inside : i < length xs) (is : x ≡ get_or xs i x) where
+    before-it : AllPairs (λ a b. attempt_before a b ≡ true) xs → All (λ a. attempt_before a x ≡ true) (take i xs)
+    before-it order k d within =
+        let long = length-take i xs in
+        let less : k < i = omega arith in
+        rw (get_or-take i xs k d less) (subst (λ (y : AttemptId). attempt_before (get_or xs k d) y ≡ true) (get_or_default xs i d x inside ∙ sym is) (order k i d less inside))
 
-pub size-total : (t : ℤ) → IsTotal t → unsigned_abs t ≤ 1 * (12000000 * one)
-size-total (pos n) within = let most : pos n ≤ℤ pos (12000000 * one) = within.1 in omega (arith, ints)
-size-total (negsuc n) within = let least : neg_ℤ (pos (12000000 * one)) ≤ℤ negsuc n = within.0 in omega (arith, ints)
+    one-more : (b : Bool) → is_finished h x ≡ b → filter (is_finished h) (take (i + 1) xs) ≡ filter (is_finished h) (take i xs) ++ filter (is_finished h) (x ∷ [])
+    one-more b told = ap (filter (is_finished h)) (take-one_more xs i x inside is) ∙ filter-append (is_finished h) (take i xs) (x ∷ [])
 
-sum-more : (ts : List ℤ) (o : Option ℤ) → sum_of (ts ++ option_to_list o) ≡ sum_of ts +ℤ unwrap_or o (pos 0)
-sum-more ts None = let same : ts ++ [] ≡ ts = append-nil ts in ap sum_of same ∙ omega (arith, ints)
-sum-more ts (Some t) = fold-append ◌+ℤ◌ (pos 0) ts (t ∷ [])
+    pub put-finished : (rows longer : List Finished) → AllPairs (λ a b. attempt_before a b ≡ true) xs → is_finished h x ≡ true → ArePut h q (take i xs) rows → longer ≡ with_total q x (total h x) rows → ArePut h q (take (i + 1) xs) longer
+    put-finished rows longer order told so_far put =
+        let so_many = filter (is_finished h) (take i xs) in
+        let earlier : All (λ a. Ordered (finished_at h q a) (finished_at h q x)) so_many = All-filter (is_finished h) (λ a. Ordered (finished_at h q a) (finished_at h q x)) (take i xs) (All-weaker (λ a. attempt_before a x ≡ true) (λ a. Ordered (finished_at h q a) (finished_at h q x)) (λ a less. finished-before a x less) (take i xs) (before-it order)) in
+        let front : All (λ f. Ordered f (finished_at h q x)) rows = subst (All (λ f. Ordered f (finished_at h q x))) (sym so_far.is) (All-map (λ f. Ordered f (finished_at h q x)) (finished_at h q) so_many earlier) in
+        let last : longer ≡ rows ++ finished_at h q x ∷ [] = put ∙ put-last q x (total h x) rows so_far.order front in
+        let all : filter (is_finished h) (take (i + 1) xs) ≡ so_many ++ x ∷ [] = one-more true told ∙ rw told refl in
+        record {
+          is = last ∙ rw (all, map-append (finished_at h q) so_many (x ∷ [])) (ap (λ (fs : List Finished). fs ++ finished_at h q x ∷ []) so_far.is);
+          order = rw last (pairs-between Ordered (finished_at h q x) rows [] (rw (append-nil rows) so_far.order) front (All-nil (Ordered (finished_at h q x))));
+        }
 
-count-more : (ts : List ℤ) (o : Option ℤ) → length (ts ++ option_to_list o) ≡ length ts + (if is_some o then 1 else 0)
-count-more ts None = let same : ts ++ [] ≡ ts = append-nil ts in ap length same ∙ omega arith
-count-more ts (Some t) = length-append ts (t ∷ [])
+    pub put-other : (rows : List Finished) → is_finished h x ≡ false → ArePut h q (take i xs) rows → ArePut h q (take (i + 1) xs) rows
+    put-other rows told so_far =
+        let all : filter (is_finished h) (take (i + 1) xs) ≡ filter (is_finished h) (take i xs) = one-more false told ∙ rw (told, append-nil (filter (is_finished h) (take i xs))) refl in
+        record { is = so_far.is ∙ sym (ap (map (finished_at h q)) all); order = so_far.order }
 
-size-more : (sum : ℤ) (count : ℕ) (o : Option ℤ) → IfSome o IsTotal → unsigned_abs sum ≤ count * (12000000 * one) → unsigned_abs (sum +ℤ unwrap_or o (pos 0)) ≤ (count + (if is_some o then 1 else 0)) * (12000000 * one)
-size-more sum count None within few = omega (arith, ints)
-size-more sum count (Some t) within few = let one_more = size-total t within in omega (arith, ints)
+-- ---- the totals that a grade is made of
 
-pub one-if : (b : Bool) → from_bool b ≡ (if b then 1 else 0)
-one-if true = refl
-one-if false = refl
+by-number : (u n v m k : ℕ) → nat_lt u v || ((u == v) && nat_lt n m) ≡ true → u ≡ k → v ≡ k → nat_lt n m ≡ true
+by-number u n v m k is first second = grind (arith, nat_tests)
 
-pub few-more : (count i n : ℕ) (b : Bool) → count ≤ i → n ≡ from_bool b → count + n ≤ i + 1
-few-more count i n true few is = omega (arith, is)
-few-more count i n false few is = omega (arith, is)
+module _ (h : List Record) (q u : ℕ) where
+  put-by : (a : AttemptId) → a.user ≡ u → is_by q u (finished_at h q a) ≡ true
+  put-by a is = rw (eq-eqb q q refl, eq-eqb a.user u is) refl
 
-pub added-none : IsAdded [] (pos 0) 0
-added-none = record { sum_is = refl; count_is = refl; range = omega arith }
+  numbered-all : (xs : List AttemptId) → AllPairs (λ a b. attempt_before a b ≡ true) xs → All (λ a. a.user ≡ u) xs → AllPairs (λ a b. numbered_before a b ≡ true) (map (finished_at h q) xs)
+  numbered-all [] order users = λ i j d less within. absurd (omega arith)
+  numbered-all (x ∷ xs) order users =
+      let first : x.user ≡ u = All-head (λ a. a.user ≡ u) x xs users in
+      let rest = All-tail (λ a. a.user ≡ u) x xs users in
+      let behind = pairs-first (λ a b. attempt_before a b ≡ true) x xs order in
+      AllPairs-cons (λ a b. numbered_before a b ≡ true) (finished_at h q x) (map (finished_at h q) xs)
+      (All-map (λ b. numbered_before (finished_at h q x) b ≡ true) (finished_at h q) xs (λ k d within. by-number x.user x.nth _ _ u (behind k d within) first (rest k d within)))
+      (numbered-all xs (pairs-rest (λ a b. attempt_before a b ≡ true) x xs order) rest)
 
-pub added_more : (xs : List (Option ℤ)) (i : ℕ) (x : Option ℤ) (sum : ℤ) (count : ℕ) → i < length xs → x ≡ get_or xs i x → IfSome x IsTotal → IsAdded (take i xs) sum count → IsAdded (take (i + 1) xs) (sum +ℤ unwrap_or x (pos 0)) (count + (if is_some x then 1 else 0))
-added_more xs i x sum count inside is within so_far = record {
-  sum_is = ap (λ (s : ℤ). s +ℤ unwrap_or x (pos 0)) so_far.sum_is ∙ sym (ap sum_of (all_kept (λ (t : Option ℤ). t) xs i x inside is) ∙ sum-more (there (take i xs)) x);
-  count_is = ap (λ (n : ℕ). n + (if is_some x then 1 else 0)) so_far.count_is ∙ sym (ap length (all_kept (λ (t : Option ℤ). t) xs i x inside is) ∙ count-more (there (take i xs)) x);
-  range = size-more sum count x within so_far.range;
-}
+  totals-all : (xs : List AttemptId) → map totals.total (map (finished_at h q) xs) ≡ map (total h) xs
+  totals-all [] = refl
+  totals-all (x ∷ xs) = ap (λ (ts : List (Option ℤ)). total h x ∷ ts) (totals-all xs)
 
-size-alone : (o : Option ℤ) → IfSome o IsTotal → unsigned_abs (unwrap_or o (pos 0)) ≤ 12000000 * one
-size-alone None within = omega arith
-size-alone (Some t) within = let small = size-total t within in omega arith
-
--- the sum stays in range
-pub sum-kept : (sum : ℤ) (count : ℕ) (x : Option ℤ) (m : ℤ) → IfSome x IsTotal → m ≡ unwrap_or x (pos 0) → unsigned_abs sum ≤ count * (12000000 * one) → count < 2 ^ 32 → to_z w128 (of_z w128 (sum +ℤ to_z w128 (of_z w128 m))) ≡ sum +ℤ unwrap_or x (pos 0)
-sum-kept sum count x m within is few small =
-    let alone = size-alone x within in
-    let size : unsigned_abs m ≤ 12000000 * one = rw is alone in
-    let kept : to_z w128 (of_z w128 m) ≡ m = to_z-of_z w128 m (fits_signed_from_abs w128 m (omega (arith, ints))) in
-    rw kept (to_z-of_z w128 (sum +ℤ m) (fits_signed_from_abs w128 (sum +ℤ m) (omega (arith, ints))) ∙ ap (λ (n : ℤ). sum +ℤ n) is)
-
--- ---- finished attempts
-
-filter_map-few-by : {A B : Type 0} (f : A → Option B) (x : A) (xs : List A) (o : Option B) → f x ≡ o → length (filter_map f xs) ≤ length xs → length (filter_map f (x ∷ xs)) ≤ length (x ∷ xs)
-filter_map-few-by f x xs None is rest = rw is (omega arith)
-filter_map-few-by f x xs (Some y) is rest = rw is (omega arith)
-
-filter_map-few : {A B : Type 0} (f : A → Option B) (xs : List A) → length (filter_map f xs) ≤ length xs
-filter_map-few f [] = omega arith
-filter_map-few f (x ∷ xs) = filter_map-few-by f x xs (f x) refl (filter_map-few f xs)
-
-filter-few : {A : Type 0} (p : A → Bool) (xs : List A) → length (filter p xs) ≤ length xs
-filter-few p xs = omega (arith, length-filter_both p (λ y. not (p y)) (λ y. refl) xs)
-
-pub few_totals : (h : List Record) (q u : ℕ) → IsSound h → length (map (total h) (filter (is_finished h) (attempts h q u))) < 4294967296
-few_totals h q u sound =
-    let all : attempts h q u ≡ filter_map (starts_at q u) h = attempts-in_order sound.index sound.count h q u sound.held.legal in
-    let some : length (attempts h q u) ≤ length h = rw all (filter_map-few (starts_at q u) h) in
-    let finished = filter-few (is_finished h) (attempts h q u) in
-    let each = length-map (filter (is_finished h) (attempts h q u)) (total h) in
-    let few : length h < 2 ^ 32 - 1 = sound.held.few in
-    omega arith
+  pub totals-put : (xs : List AttemptId) → AllPairs (λ a b. attempt_before a b ≡ true) xs → All (λ a. a.user ≡ u) xs → totals_of (map (finished_at h q) (filter (is_finished h) xs)) q u ≡ map (total h) (filter (is_finished h) xs)
+  totals-put xs order users =
+      let finished = filter (is_finished h) xs in
+      let rows = map (finished_at h q) finished in
+      let their = All-filter (is_finished h) (λ a. a.user ≡ u) xs users in
+      let all : filter (is_by q u) rows ≡ rows = filter-all (is_by q u) rows (All-map (λ f. is_by q u f ≡ true) (finished_at h q) finished (All-weaker (λ a. a.user ≡ u) (λ a. is_by q u (finished_at h q a) ≡ true) put-by finished their)) in
+      let ordered = numbered-all finished (AllPairs-filter (λ a b. attempt_before a b ≡ true) (is_finished h) xs order) their in
+      ap (map totals.total) (ap (in_order numbered_before) all ∙ in_order-same numbered_before rows ordered) ∙ totals-all finished

@@ -1,12 +1,10 @@
 -- What a legal list tells, of each record and of the lists before it.
-use Rattle.std.proofs.Common.{◌≡◌, ℕ, ◌⊎◌, inl, inr, Bool, true, false, List, [], ◌∷◌, ◌++◌, Option, Some, None, refl, sym, ap, subst, ◌∙◌, append_assoc, append-nil, option_map}
-use Rattle.std.specs.Prelude.{if◌then◌else◌, unwrap_or}
+use Rattle.std.proofs.Common.{◌≡◌, ℕ, inl, inr, Bool, true, false, List, [], ◌∷◌, ◌++◌, Option, Some, None, refl, sym, ap, subst, ◌∙◌, append_assoc, append-nil, option_map}
+use Rattle.std.specs.Prelude.{if◌then◌else◌}
 use Rattle.qz_grading.specs.declared.outcome.Moved.{Moved}
 use Rattle.qz_grading.specs.declared.outcome.Moved.TheVariants as moved
 use Rattle.qz_grading.specs.declared.refusal.AttemptId.{AttemptId}
-use Rattle.qz_grading.specs.declared.refusal.Refusal.{Refusal}
 use Rattle.qz_grading.specs.declared.response.Step.{Step}
-use Rattle.qz_grading.specs.Behaviours.{first_some}
 use Rattle.qz_terms.specs.declared.plan.Plan.{Plan}
 use Rattle.qz_terms.specs.declared.people.User.{User}
 use Rattle.qz_terms.specs.declared.plan.Bound.{Bound}
@@ -20,7 +18,7 @@ use Rattle.qz_terms.specs.declared.request.Request.TheVariants as request
 use Rattle.qz_grading.specs.declared.outcome.Behaviour.{Behaviour}
 use Rattle.qz_terms.specs.Answer.{acted_or_noted, event_here, record_under, is_overdue, started_by}
 use Rattle.qz_terms.specs.Access.{settled_by}
-use Rattle.qz_terms.specs.Cause.{Verdict, Granted, by_key, cause_here, denied, forbidden, missing_here, spells}
+use Rattle.qz_terms.specs.Cause.{by_key, cause_here, forbidden, missing_here, spells}
 use Rattle.qz_terms.specs.Legal.{IsAllowed, IsLegal, IsPut}
 use Rattle.qz_terms.specs.History.{next_attempt}
 use Rattle.qz_terms.proofs.Standing.{free-by, never-granted}

@@ -1,6 +1,7 @@
 pub mod HistoryLemmas
 pub mod DecisionLemmas
 pub mod Legality
+pub mod Orders
 pub mod Numbered
 pub mod Keeping
 pub mod ReadingLemmas
@@ -13,7 +14,7 @@ pub mod GradeLemmas
 pub mod LookLemmas
 pub mod PageLemmas
 pub mod Again
-pub mod Versions
+pub mod Alone
 pub mod Effects
 pub mod Placing
 pub mod Following

@@ -1,5 +1,5 @@
 -- The record that a decision makes may be put next, and what is then answered.
-use Rattle.std.proofs.Common.{◌≡◌, ℕ, suc, ℤ, ◌+◌, ◌-◌, ◌<◌, ◌≤◌, ◌^◌, max, Bool, true, false, List, [], ◌∷◌, ◌++◌, Option, Some, None, Result, Ok, Err, length, length-append, append-nil, map, take, drop, get_or, refl, sym, ap, subst, ◌∙◌, arith, option_map, All}
+use Rattle.std.proofs.Common.{◌≡◌, ℕ, suc, ◌+◌, ◌-◌, ◌<◌, ◌≤◌, ◌^◌, max, Bool, true, false, List, [], ◌∷◌, ◌++◌, Option, Some, None, Result, Ok, Err, length, length-append, append-nil, map, take, drop, get_or, refl, sym, ap, subst, ◌∙◌, arith, option_map, All}
 use Rattle.std.specs.Prelude.{IfOk, OnErr, OnOk, ◌==◌, filter_map, is_none, if◌then◌else◌, unwrap_or}
 use Rattle.std.specs.List.{list_all, last_or}
 use Rattle.std.proofs.lemmas.Bool.{le-leb, leb-true}

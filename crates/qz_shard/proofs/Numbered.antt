@@ -1,26 +1,23 @@
 -- A user's attempts in a legal list stand in order, and each start stands in a record of its own.
-use Rattle.std.proofs.Common.{◌≡◌, ℕ, ◌+◌, ◌<◌, ◌≤◌, eqb, ltb, Bool, true, false, ◌&&◌, ◌||◌, List, [], ◌∷◌, ◌++◌, Option, Some, None, refl, sym, ap, subst, ◌∙◌, append-nil, arith, option_map, eq-eqb}
+use Rattle.std.proofs.Common.{◌≡◌, ℕ, ◌+◌, ◌<◌, ◌≤◌, Bool, true, false, ◌&&◌, List, [], ◌∷◌, ◌++◌, Option, Some, None, refl, sym, ap, subst, ◌∙◌, append-nil, arith, option_map, eq-eqb, All}
 use Rattle.std.specs.Prelude.{filter_map, option_to_list, is_some, if◌then◌else◌, ◌==◌}
-use Rattle.std.proofs.lemmas.Bool.{eqb-true, lt-ltb}
+use Rattle.std.specs.List.{AllPairs}
+use Rattle.std.proofs.lemmas.List.Elements.{All-cons, All-nil, All-push}
+use Rattle.std.proofs.lemmas.List.Kept.{AllPairs-cons}
+use Rattle.std.proofs.lemmas.Bool.{eqb-true}
 use Rattle.qz_grading.specs.declared.refusal.AttemptId.{AttemptId}
 use Rattle.qz_terms.specs.declared.record.Event.{Event}
 use Rattle.qz_terms.specs.declared.record.Event.TheVariants as event
 use Rattle.qz_terms.specs.declared.record.Record.{Record}
 use Rattle.qz_terms.specs.Legal.{EventIsAllowed, IsLegal}
-use Rattle.qz_terms.specs.Lists.{how_many, in_order, placed}
+use Rattle.qz_terms.specs.Lists.{how_many}
 use Rattle.qz_terms.specs.History.{Start, attempt_before, attempts, is_owned, next_attempt, started, starts_at}
 use Rattle.qz_terms.proofs.Walks.{all_of-push, how_many-push}
+use Rattle.qz_shard.specs.Grades.{AreNumbered}
 use Rattle.qz_shard.proofs.Legality.{by-prefixes, started-number}
+use Rattle.qz_shard.proofs.Orders.{Before, Rising, by-number, in_order-rising}
 
 -- ---- lists in order
-
-Before : AttemptId → List AttemptId → Type 0
-Before x [] = Unit {0}
-Before x (y ∷ ys) = (attempt_before x y ≡ true) × Before x ys
-
-Rising : List AttemptId → Type 0
-Rising [] = Unit {0}
-Rising (x ∷ xs) = Before x xs × Rising xs
 
 AllBefore : List AttemptId → AttemptId → Type 0
 AllBefore [] y = Unit {0}
@@ -30,16 +27,6 @@ AllBefore (x ∷ xs) y = (attempt_before x y ≡ true) × AllBefore xs y
 Below : ℕ → ℕ → List AttemptId → Type 0
 Below u n [] = Unit {0}
 Below u n (x ∷ xs) = (x.user ≡ u) × (x.nth ≤ n) × Below u n xs
-
-placed-first : (x : AttemptId) (xs : List AttemptId) → Before x xs → placed attempt_before x xs ≡ x ∷ xs
-unfolding Before
-placed-first x [] b = refl
-placed-first x (y ∷ ys) b = rw b.0 refl
-
-in_order-rising : (xs : List AttemptId) → Rising xs → in_order attempt_before xs ≡ xs
-unfolding Rising
-in_order-rising [] r = refl
-in_order-rising (x ∷ xs) r = ap (placed attempt_before x) (in_order-rising xs r.1) ∙ placed-first x xs r.0
 
 before-push : (x : AttemptId) (xs : List AttemptId) (y : AttemptId) → Before x xs → attempt_before x y ≡ true → Before x (xs ++ y ∷ [])
 unfolding Before
@@ -51,20 +38,10 @@ unfolding Rising AllBefore Before
 rising-push [] y r a = (tt, tt)
 rising-push (x ∷ xs) y r a = (before-push x xs y r.0 a.0, rising-push xs y r.1 a.1)
 
-or-right : (b c : Bool) → c ≡ true → b || c ≡ true
-or-right true c is = refl
-or-right false c is = is
-
-earlier : (x y : AttemptId) → x.user ≡ y.user → x.nth < y.nth → attempt_before x y ≡ true
-earlier x y same less =
-    let user : eqb x.user y.user ≡ true = eq-eqb x.user y.user same in
-    let number : ltb x.nth y.nth ≡ true = lt-ltb x.nth y.nth less in
-    or-right (ltb x.user y.user) (eqb x.user y.user && ltb x.nth y.nth) (rw (user, number) refl)
-
 all-before : (u n : ℕ) (xs : List AttemptId) (y : AttemptId) → Below u n xs → y.user ≡ u → n < y.nth → AllBefore xs y
 unfolding Below AllBefore
 all-before u n [] y b same more = tt
-all-before u n (x ∷ xs) y b same more = (earlier x y (b.0 ∙ sym same) (let few : x.nth ≤ n = b.1 in omega arith), all-before u n xs y b.2 same more)
+all-before u n (x ∷ xs) y b same more = (by-number x y (b.0 ∙ sym same) (let few : x.nth ≤ n = b.1 in omega arith), all-before u n xs y b.2 same more)
 
 below-more : (u n m : ℕ) (xs : List AttemptId) → n ≤ m → Below u n xs → Below u m xs
 unfolding Below
@@ -138,7 +115,51 @@ rising-none : (q u : ℕ) → AreRising q u []
 unfolding Rising Below
 rising-none q u = (tt, tt)
 
+rising-attempts : (index count : ℕ) (h : List Record) (q u : ℕ) → IsLegal index count h → AreRising q u h
+rising-attempts index count h q u legal = by-prefixes (AreRising q u) h (rising-none q u) (λ l r rest e so_far. rising-by l r q u (starts_at q u r) refl (λ a is. numbered l r q u a r.event refl (legal.each l r rest e).event is) so_far)
+
 pub attempts-in_order : (index count : ℕ) (h : List Record) (q u : ℕ) → IsLegal index count h → attempts h q u ≡ filter_map (starts_at q u) h
-attempts-in_order index count h q u legal =
-    in_order-rising (filter_map (starts_at q u) h)
-    (by-prefixes (AreRising q u) h (rising-none q u) (λ l r rest e so_far. rising-by l r q u (starts_at q u r) refl (λ a is. numbered l r q u a r.event refl (legal.each l r rest e).event is) so_far)).0
+attempts-in_order index count h q u legal = in_order-rising (filter_map (starts_at q u) h) (rising-attempts index count h q u legal).0
+
+-- ---- each is one of the user's, numbered from 1
+
+behind-all : (x : AttemptId) (xs : List AttemptId) → Before x xs → All (λ y. attempt_before x y ≡ true) xs
+unfolding Before
+behind-all x [] b = All-nil (λ y. attempt_before x y ≡ true)
+behind-all x (y ∷ ys) b = All-cons (λ z. attempt_before x z ≡ true) y ys b.0 (behind-all x ys b.1)
+
+pairs-rising : (xs : List AttemptId) → Rising xs → AllPairs (λ x y. attempt_before x y ≡ true) xs
+unfolding Rising
+pairs-rising [] r = λ i j d less within. absurd (omega arith)
+pairs-rising (x ∷ xs) r = AllPairs-cons (λ x y. attempt_before x y ≡ true) x xs (behind-all x xs r.0) (pairs-rising xs r.1)
+
+users-below : (u n : ℕ) (xs : List AttemptId) → Below u n xs → All (λ a. a.user ≡ u) xs
+unfolding Below
+users-below u n [] b = All-nil (λ (a : AttemptId). a.user ≡ u)
+users-below u n (x ∷ xs) b = All-cons (λ (a : AttemptId). a.user ≡ u) x xs b.0 (users-below u n xs b.2)
+
+-- so far they are numbered from 1
+AreFromOne : ℕ → ℕ → List Record → Type 0
+AreFromOne q u l = All (λ (a : AttemptId). 0 < a.nth) (filter_map (starts_at q u) l)
+
+from_one-by : (l : List Record) (r : Record) (q u : ℕ) (o : Option AttemptId) → starts_at q u r ≡ o → ((a : AttemptId) → starts_at q u r ≡ Some a → IsNumbered l r u a) → AreFromOne q u l → AreFromOne q u (l ++ r ∷ [])
+unfolding AreFromOne
+from_one-by l r q u None is numbered_it so_far = rw (all_of-push (starts_at q u) l r, is, append-nil (filter_map (starts_at q u) l)) so_far
+from_one-by l r q u (Some a) is numbered_it so_far =
+    let number : a.nth ≡ made l u + 1 = (numbered_it a is).number in
+    rw (all_of-push (starts_at q u) l r, is) (All-push (λ (a : AttemptId). 0 < a.nth) (filter_map (starts_at q u) l) a so_far (omega arith))
+
+from_one-none : (q u : ℕ) → AreFromOne q u []
+unfolding AreFromOne
+from_one-none q u = All-nil (λ (a : AttemptId). 0 < a.nth)
+
+from_one : (index count : ℕ) (h : List Record) (q u : ℕ) → IsLegal index count h → All (λ (a : AttemptId). 0 < a.nth) (filter_map (starts_at q u) h)
+unfolding AreFromOne
+from_one index count h q u legal = by-prefixes (AreFromOne q u) h (from_one-none q u) (λ l r rest e so_far. from_one-by l r q u (starts_at q u r) refl (λ a is. numbered l r q u a r.event refl (legal.each l r rest e).event is) so_far)
+
+-- a user's attempts of a quiz
+pub attempts-numbered : (index count : ℕ) (h : List Record) (q u : ℕ) → IsLegal index count h → AreNumbered (attempts h q u)
+attempts-numbered index count h q u legal = rw (attempts-in_order index count h q u legal) (record { order = pairs-rising _ (rising-attempts index count h q u legal).0; numbers = from_one index count h q u legal })
+
+pub attempts-users : (index count : ℕ) (h : List Record) (q u : ℕ) → IsLegal index count h → All (λ (a : AttemptId). a.user ≡ u) (attempts h q u)
+attempts-users index count h q u legal = rw (attempts-in_order index count h q u legal) (users-below u (made h u) _ (rising-attempts index count h q u legal).1)

@@ -1,5 +1,5 @@
 -- A place of an attempt that is started has a version bound, which the list has learned; before the start there is nothing of it.
-use Rattle.std.proofs.Common.{◌≡◌, ℕ, ◌-◌, eqb, Bool, true, false, List, [], ◌∷◌, ◌++◌, Option, Some, None, length, refl, sym, ap, subst, ◌∙◌, append-nil, inl, inr, arith, ◌≤◌, ◌<◌}
+use Rattle.std.proofs.Common.{◌≡◌, ℕ, ◌-◌, Bool, true, false, List, [], ◌∷◌, ◌++◌, Option, Some, None, length, refl, sym, ap, subst, ◌∙◌, append-nil, inl, inr, arith, ◌≤◌}
 use Rattle.std.specs.Prelude.{◌==◌, is_none, if◌then◌else◌, nat_le, option_to_list, slice_get}
 use Rattle.std.specs.Option.{option_or}
 use Rattle.std.proofs.lemmas.Bool.{eqb-true, leb-true}
@@ -15,10 +15,10 @@ use Rattle.qz_terms.specs.Cause.{missing_attempt, missing_slot}
 use Rattle.qz_terms.specs.Legal.{IsLegal}
 use Rattle.qz_terms.specs.History.{Start, binds, bound, learns, start, starts, step_in, steps, version}
 use Rattle.qz_terms.proofs.Walks.{all_of-push, first_of-push, last_of-push}
-use Rattle.qz_shard.proofs.Effects.{Acts, Begins, Does, Finishes, IsActed, IsEnding, Leaves, Rebinds, acts, begins, begun, does, finishes, first-two, leaves, rebinds}
+use Rattle.qz_shard.proofs.Effects.{Begins, Does, IsActed, Rebinds, acts, begins, begun, does, finishes, first-two, leaves, rebinds}
 use Rattle.qz_shard.proofs.Keeping.{and-left, and-right}
 use Rattle.qz_shard.proofs.Legality.{by-prefixes, legal-before}
-use Rattle.qz_shard.proofs.Versions.{learned-after}
+use Rattle.qz_isolation.proofs.Versions.{learned-after}
 
 -- ---- readings of a list with one record more
 

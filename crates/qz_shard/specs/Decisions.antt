@@ -1,5 +1,5 @@
 -- What the parts of a shard that decide a request promise each other.
-use Rattle.std.specs.Prelude.{◌≡◌, ℕ, ◌+◌, true, List, take, length, slice_get, Option, Some, None, option_map, Result, MatchResult}
+use Rattle.std.specs.Prelude.{◌≡◌, ℕ, ◌+◌, List, take, length, slice_get, Option, Some, None, option_map, Result, MatchResult}
 use Rattle.qz_grading.specs.declared.refusal.Refusal.TheVariants as refusal
 use Rattle.qz_grading.specs.declared.refusal.Refusal.{Refusal}
 use Rattle.qz_terms.specs.declared.ask.Ask.{Ask}

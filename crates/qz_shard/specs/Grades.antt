@@ -1,17 +1,16 @@
--- Totals that are taken for a grade, one more at a time.
-use Rattle.std.specs.Int.{int_max}
-use Rattle.std.specs.Prelude.{◌≡◌, ℕ, ◌≤◌, ◌*◌, List, length, Option, Some, None, ℤ, filter_map, unsigned_abs}
-use Rattle.qz_decimal.specs.Numbers.{one}
-use Rattle.qz_terms.specs.Rows.{sum_of}
+-- The finished attempts of a user at a quiz, from which a grade is made.
+use Rattle.std.specs.List.{AllPairs}
+use Rattle.std.specs.Prelude.{◌≡◌, ℕ, ◌<◌, true, List, All}
+use Rattle.qz_gradebook.specs.declared.finished.Finished.{Finished}
+use Rattle.qz_grading.specs.declared.refusal.AttemptId.{AttemptId}
+use Rattle.qz_terms.specs.declared.record.Record.{Record}
+use Rattle.qz_terms.specs.History.{attempt_before, total}
 
--- the greater of two, of those that are there
-abbrev pub greater : Option ℤ → Option ℤ → Option ℤ
-greater None t = t
-greater (Some b) None = Some b
-greater (Some b) (Some t) = Some (int_max b t)
+-- an attempt of a quiz, with its total
+abbrev pub finished_at : List Record → ℕ → AttemptId → Finished
+finished_at h q a = record { quiz = q; attempt = a; total = total h a }
 
--- what the totals that are there add up to, and how many they are
-pub record IsAdded (totals : List (Option ℤ)) (sum : ℤ) (count : ℕ) : Type 0 where
-  pub sum_is : sum ≡ sum_of (filter_map (λ t. t) totals)
-  pub count_is : count ≡ length (filter_map (λ t. t) totals)
-  pub range : unsigned_abs sum ≤ count * (12000000 * one)
+-- attempts in order, numbered from 1
+pub record AreNumbered (attempts : List AttemptId) : Type 0 where
+  pub order : AllPairs (λ a b. attempt_before a b ≡ true) attempts
+  pub numbers : All (λ a. 0 < a.nth) attempts

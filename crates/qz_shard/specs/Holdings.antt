@@ -13,10 +13,11 @@ use Rattle.qz_terms.specs.declared.reply.Reply.TheVariants as reply
 use Rattle.qz_terms.specs.declared.request.Request.{Request}
 use Rattle.qz_terms.specs.declared.request.Request.TheVariants as request
 use Rattle.qz_terms.specs.Answer.{answer_here, list_after, said}
-use Rattle.qz_terms.specs.Cause.{forbidden, is_keyed, missing_here, spells}
+use Rattle.qz_terms.specs.Cause.{forbidden, is_keyed, is_student, missing_here, spells}
 use Rattle.qz_terms.specs.History as history
 use Rattle.qz_terms.specs.Kept.{IsKept, IsKeptPlan, KeepsAsked, is_moment}
 use Rattle.qz_terms.specs.Legal.{IsLegal, is_here, is_plan_for}
+use Rattle.qz_isolation.specs.Isolation.{AreAlike}
 
 -- a shard with this index, of so many, and its records
 pub record Holding : Type 0 where
@@ -94,6 +95,14 @@ abbrev pub Answers : List Record → ℕ → User → Plan → Ask → Reply →
 Answers h now user plan ask told g =
     ((told ≡ answer_here h now user plan ask) × (g ≡ list_after h now user plan ask))
     ⊎ ((told ≡ reply.Refused refusal.Memory) × (g ≡ h))
+
+-- ---- what a student's reply depends on
+
+-- Whatever the records of others are: of a student the reply is the answer over each list too that is alike for this student, or
+-- memory was wanting.
+pub record IsAlone (s : Holding) (now : ℕ) (user : User) (plan : Plan) (ask : Ask) (told : Reply) : Type 0 where
+  pub alone : (g : List Record) → is_student user ≡ true → AreAlike s.index s.count user.number s.records g
+      → (told ≡ answer_here g now user plan ask) ⊎ (told ≡ reply.Refused refusal.Memory)
 
 -- ---- a request that is asked again
 

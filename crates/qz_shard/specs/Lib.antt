@@ -7,3 +7,4 @@ pub mod Nexts
 pub mod Answering
 pub mod Grades
 pub mod Pages
+pub mod Lives

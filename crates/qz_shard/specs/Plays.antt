@@ -1,5 +1,5 @@
 -- What a slot that is played again promises.
-use Rattle.std.specs.Prelude.{◌≡◌, ℕ, true, List, map, zip, filter_map, Option, Some, None, Result, MatchResult}
+use Rattle.std.specs.Prelude.{◌≡◌, ℕ, List, map, zip, filter_map, Option, Some, None, Result, MatchResult}
 use Rattle.qz_grading.specs.declared.outcome.Moved.{Moved}
 use Rattle.qz_grading.specs.declared.question.Question.{Question}
 use Rattle.qz_grading.specs.declared.refusal.AttemptId.{AttemptId}

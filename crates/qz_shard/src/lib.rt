@@ -5,11 +5,11 @@ mod attempts;
 mod decision;
 mod fates;
 mod feedback;
-mod gradebook;
 mod grades;
 mod history;
 mod keys;
 pub mod laws;
+mod lives;
 mod looking;
 mod missing;
 mod pages;
@@ -24,3 +24,6 @@ mod totals;
 mod viewing;
 
 pub use shard::{Older, Shard};
+
+#[cfg(test)]
+mod tests;

@@ -11,12 +11,14 @@ use crate::grades::row;
 use crate::history::place;
 use crate::missing::missing_here;
 use crate::pages::page;
-use crate::putting::{moment_of, named_user};
+use crate::putting::moment_of;
 use crate::review::{shown_grade, shows_grade};
 use crate::stepping::sees_marks;
 use crate::viewing::{standing_of, viewed};
 use qz_grading::Steps;
-use qz_terms::{Ask, Done, Plan, Record, Reply, Request, Settings, User, forbidden, is_student};
+use qz_terms::{
+    Ask, Done, Plan, Record, Reply, Request, Settings, User, forbidden, is_student, named_user,
+};
 use qz_text::NoMemory;
 use std::alloc::Global;
 use std::sync::ledger::Ledger;

@@ -5,18 +5,19 @@ ghost use Rattle.qz_grading.specs.declared.refusal.Refusal.TheVariants as refusa
 ghost use Rattle.qz_terms.specs.declared.reply.Done.TheVariants as done;
 ghost use Rattle.qz_terms.specs.declared.reply.Reply.TheVariants as reply;
 ghost use Rattle.qz_terms.specs.Answer.{named_user};
-ghost use Rattle.qz_terms.specs.History.{place, quiz};
+ghost use Rattle.qz_terms.specs.History.{live_after, place, quiz};
 ghost use Rattle.qz_terms.specs.Legal.{IsLegal};
 ghost use Rattle.qz_shard.specs.Answering.{IsAnswered, IsPosed};
-ghost use Rattle.qz_shard.specs.Holdings.{is_shard, is_change, is_look, IsAsked, StartsHere, older, Answers, IsAnsweredAgain};
+ghost use Rattle.qz_shard.specs.Holdings.{is_shard, is_change, is_look, IsAsked, StartsHere, older, Answers, IsAlone, IsAnsweredAgain};
 
 use crate::decision::{Decision, decide};
 use crate::history::{floor, place, start};
+use crate::lives::live_after;
 use crate::looking::seen;
-use crate::putting::{moment_of, named_user, put};
+use crate::putting::{moment_of, put};
 use crate::replies::said;
 use qz_grading::{AttemptId, Refusal, Steps, Thing};
-use qz_terms::{Ask, Done, Plan, Record, Reply, Request, User};
+use qz_terms::{Ask, Done, Plan, Record, Reply, Request, User, named_user};
 use qz_text::{Listed, NoMemory};
 use std::alloc::Global;
 use std::marker::Model;
@@ -95,6 +96,19 @@ impl Shard {
         }
     }
 
+    /// The first attempt after this one that hasn't ended, in order of user and then of number, over all quizzes. An attempt that
+    /// is overdue and isn't settled yet is among them.
+    ///
+    /// `after` is only a bound and needn't be there: 0 and 0 come before all. Where each attempt after it has ended the answer is
+    /// `None`. `Memory` is the only error, and no walk over a list that is kept in memory has it.
+    pub fn live(&mut self, after: AttemptId) -> Result<Option<AttemptId>, Refusal>
+        ensures there { IfOk result (λ a. a ≡ live_after self.old.records after) }
+        ensures wants { IfErr result (λ r. r ≡ refusal.Memory) }
+        ensures unchanged { self.new ≡ self.old }
+    {
+        Ok(live_after(self.records.as_slice(), after))
+    }
+
     /// Answers a request that may change the list: a start, a save, a submit, an again, a finish, a mark or a settling, at this
     /// moment by the clock, in seconds since 1970.
     ///
@@ -102,7 +116,8 @@ impl Shard {
     /// the answer over the list before, and the list afterwards has the answer's record at its end where the answer puts one. A
     /// refusal adds nothing, and neither does a request whose caller and key stand with the same request already: it gets the
     /// reply of that one. Where memory is wanting the reply is `Memory` and the list is as before. A start whose plan is older
-    /// than a job that is done here is `Older`, and changes nothing.
+    /// than a job that is done here is `Older`, and changes nothing. What a student is told depends on nobody else: it is
+    /// the answer over each list that is alike for this student.
     pub fn apply<L: Ledger>(
         &mut self,
         alloc: Global,
@@ -116,6 +131,7 @@ impl Shard {
         requires asked { IsAsked self.old.records plan.now ask.now moment }
         requires here { StartsHere self.old user.now plan.now ask.now.request }
         ensures answer { IfOk result (λ told. Answers self.old.records moment user.now plan.now ask.now told self.new.records) }
+        ensures alone { IfOk result (λ told. IsAlone self.old moment user.now plan.now ask.now told) }
         ensures newer { OnOk result (older self.old.records plan.now ask.now.request ≡ None) }
         ensures older { IfErr result (λ o. older self.old.records plan.now ask.now.request ≡ Some o.floor) }
         ensures unchanged { OnErr result (self.new ≡ self.old) }
@@ -131,7 +147,7 @@ impl Shard {
     }
 
     /// Answers a request that only looks: a view, a total, a page or a grade. The list stays as it is, and where memory is wanting
-    /// the reply is `Memory`.
+    /// the reply is `Memory`. What a student is told depends on nobody else here too.
     pub fn look<L: Ledger>(
         &mut self,
         alloc: Global,
@@ -144,6 +160,7 @@ impl Shard {
         requires look { is_look ask.now.request ≡ true }
         requires asked { IsAsked self.old.records plan.now ask.now moment }
         ensures answer { Answers self.old.records moment user.now plan.now ask.now result self.old.records }
+        ensures alone { IsAlone self.old moment user.now plan.now ask.now result }
         ensures unchanged { self.new ≡ self.old }
     {
         let records = self.records.as_slice();

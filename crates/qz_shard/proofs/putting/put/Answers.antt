@@ -1,4 +1,4 @@
-use Rattle.std.proofs.Common.{◌∷◌, ◌++◌, [], List, sym, ap, subst, ◌∙◌}
+use Rattle.std.proofs.Common.{◌+◌, ◌-◌, ◌<◌, ◌^◌, ◌∷◌, ◌++◌, [], List, length, sym, ap, subst, ◌∙◌}
 use Rattle.qz_terms.specs.declared.record.Record.{Record}
 use Rattle.qz_terms.specs.Kept.{IsKept}
 use Rattle.qz_shard.specs.Decisions.{IsSound}
@@ -8,8 +8,9 @@ use Rattle.qz_shard.proofs.putting.put.Goals as goal
 
 pub append-requires-clause-sound : goal.append-requires-clause-sound
 append-requires-clause-sound g c =
-    subst (λ (t : List Record). IsSound (t ++ c.in_ok-made.made ∷ [])) (sym c.make_room.ensures.unchanged)
-    (grown-sound c.args.records.now c.in_ok-made.made _ c.requires c.in_ok-made.ensures c.in_ok-make_room.ensures.few)
+    subst (λ (t : List Record). IsSound (t ++ c.in_ok-made.made ∷ [])) (sym (c.make_room.ensures.unchanged ∙ c.records.view_is))
+    (grown-sound c.args.records.now c.in_ok-made.made _ c.requires c.in_ok-made.ensures
+    (subst (λ (l : List Record). length l + 1 < 2 ^ 32 - 1) c.records.view_is c.in_ok-make_room.ensures.few))
 
 pub append-requires-clause-kept : goal.append-requires-clause-kept
 append-requires-clause-kept g c = subst IsKept (sym c.in_ok-made.ensures) c.requires.next.kept
@@ -18,4 +19,5 @@ pub append-requires-clause-asked : goal.append-requires-clause-asked
 append-requires-clause-asked g c = ap is_asked c.in_ok-made.ensures ∙ c.requires.next.asked
 
 pub returns-clause-put : goal.returns-clause-put
-returns-clause-put g c = put-with c.append.result c.args.records.now c.make_room.new.records c.append.new.records c.in_ok-made.made _ c.make_room.ensures.unchanged c.in_ok-made.ensures c.in_ok-make_room.ensures.few c.append.ensures.said c.append.ensures.put
+returns-clause-put g c = put-with c.append.result c.args.records.now c.make_room.new.records.items c.append.new.records c.in_ok-made.made _ (c.make_room.ensures.unchanged ∙ c.records.view_is) c.in_ok-made.ensures
+    (subst (λ (l : List Record). length l + 1 < 2 ^ 32 - 1) c.records.view_is c.in_ok-make_room.ensures.few) c.append.ensures.said c.append.ensures.put
