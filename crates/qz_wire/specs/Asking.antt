@@ -14,7 +14,22 @@ use Rattle.qz_wire.specs.Numbered.{◌>>=◌, line_at as word_at, or_line as or_
 use Rattle.qz_wire.specs.Requests.{request_of}
 use Rattle.qz_wire.specs.Words.{moment_of, token_of, key_of}
 
--- the requests that are read so far
+-- the requests about attempts and grades that are read so far
+abbrev pub attempt_verb_of : List ℕ → Option Verb
+attempt_verb_of word =
+    if bytes_eq word (codes "start") then Some verb.Start
+    else (if bytes_eq word (codes "save") then Some verb.Save
+    else (if bytes_eq word (codes "submit") then Some verb.Submit
+    else (if bytes_eq word (codes "again") then Some verb.Again
+    else (if bytes_eq word (codes "finish") then Some verb.Finish
+    else (if bytes_eq word (codes "mark") then Some verb.Mark
+    else (if bytes_eq word (codes "settle") then Some verb.Settle
+    else (if bytes_eq word (codes "live") then Some verb.Live
+    else (if bytes_eq word (codes "view") then Some verb.View
+    else (if bytes_eq word (codes "total") then Some verb.Total
+    else (if bytes_eq word (codes "grade") then Some verb.Grade else None))))))))))
+
+-- all requests that are read so far
 abbrev pub verb_of : List ℕ → Option Verb
 verb_of word =
     if bytes_eq word (codes "user") then Some verb.User
@@ -27,16 +42,17 @@ verb_of word =
     else (if bytes_eq word (codes "slot") then Some verb.Slot
     else (if bytes_eq word (codes "ready") then Some verb.Ready
     else (if bytes_eq word (codes "remax") then Some verb.Remax
-    else (if bytes_eq word (codes "start") then Some verb.Start
-    else (if bytes_eq word (codes "save") then Some verb.Save
-    else (if bytes_eq word (codes "submit") then Some verb.Submit
-    else (if bytes_eq word (codes "again") then Some verb.Again
-    else (if bytes_eq word (codes "finish") then Some verb.Finish
-    else (if bytes_eq word (codes "grade") then Some verb.Grade
-    else (if bytes_eq word (codes "bank") then Some verb.Bank else None))))))))))))))))
+    else (if bytes_eq word (codes "policy") then Some verb.Policy
+    else (if bytes_eq word (codes "times") then Some verb.Times
+    else (if bytes_eq word (codes "override") then Some verb.Override
+    else (if bytes_eq word (codes "bank") then Some verb.Bank else attempt_verb_of word)))))))))))))
 
--- a request that only looks has no key, and any other has one
+-- a request that only looks has no key, nor has one that ends an attempt whose time is over, and any other has one
 abbrev pub wants_key : Verb → Bool
+wants_key verb.Settle = false
+wants_key verb.Live = false
+wants_key verb.View = false
+wants_key verb.Total = false
 wants_key verb.Grade = false
 wants_key verb.Bank = false
 wants_key v = true
@@ -73,11 +89,19 @@ IsRead (request.Quiz name behaviour) = Unit {0}
 IsRead (request.Slot quiz entry max) = Unit {0}
 IsRead (request.Ready quiz) = Unit {0}
 IsRead (request.Remax quiz slot max) = Unit {0}
+IsRead (request.Policy quiz method grade) = Unit {0}
+IsRead (request.Times quiz opens closes limit allowed handling grace review) = Unit {0}
+IsRead (request.Override quiz whom number opens closes limit allowed) = Unit {0}
 IsRead (request.Start quiz) = Unit {0}
 IsRead (request.Save attempt slot certainty response) = Unit {0}
 IsRead (request.Submit attempt slot certainty response) = Unit {0}
 IsRead (request.Again attempt slot) = Unit {0}
 IsRead (request.Finish attempt) = Unit {0}
+IsRead (request.Mark attempt slot mark) = Unit {0}
+IsRead (request.Settle attempt) = Unit {0}
+IsRead (request.Live shard attempt) = Unit {0}
+IsRead (request.View attempt slot) = Unit {0}
+IsRead (request.Total attempt) = Unit {0}
 IsRead (request.Grade quiz owner) = Unit {0}
 IsRead (request.Bank entry version) = Unit {0}
 IsRead x = ⊥

@@ -1,15 +1,23 @@
--- The words of users, quizzes and the bank: names, roles, behaviours, marks, hints and GIFT texts.
+-- The words of users, quizzes and the bank: names, roles, behaviours, settings, marks, hints and GIFT texts.
 use Rattle.std.specs.List.{list_all, list_any}
 use Rattle.std.specs.Prelude.{ℕ, Bool, not, ◌&&◌, ◌||◌, ◌==◌, nat_lt, nat_le, if◌then◌else◌, List, [], ◌∷◌, length, Option, Some, None, is_some, option_and_then, Result, Ok, Err, ℤ, bytes_eq, codes}
 use Rattle.std.specs.Result.{result_ok}
-use Rattle.qz_decimal.specs.Reading.{mark_in, fraction_in}
+use Rattle.qz_decimal.specs.Reading.{mark_in, fraction_in, grade_in}
 use Rattle.qz_grading.specs.declared.outcome.Behaviour.{Behaviour}
 use Rattle.qz_grading.specs.declared.outcome.Behaviour.TheVariants as behaviour
 use Rattle.qz_grading.specs.declared.question.Bank.{Bank}
 use Rattle.qz_grading.specs.declared.question.Item.{Item}
 use Rattle.qz_grading.specs.declared.question.Question.{Question}
+use Rattle.qz_terms.specs.declared.access.Handling.{Handling}
+use Rattle.qz_terms.specs.declared.access.Handling.TheVariants as handling
+use Rattle.qz_terms.specs.declared.access.Review.{Review}
+use Rattle.qz_terms.specs.declared.access.Review.TheVariants as review
+use Rattle.qz_terms.specs.declared.grades.Method.{Method}
+use Rattle.qz_terms.specs.declared.grades.Method.TheVariants as method
 use Rattle.qz_terms.specs.declared.people.Role.{Role}
 use Rattle.qz_terms.specs.declared.people.Role.TheVariants as role
+use Rattle.qz_terms.specs.declared.request.Whom.{Whom}
+use Rattle.qz_terms.specs.declared.request.Whom.TheVariants as whom
 use Rattle.gift_read.specs.Gift.{reading}
 use Rattle.qz_wire.specs.Faults.{Fault, at_line}
 use Rattle.qz_wire.specs.Numbered.{◌>>=◌}
@@ -42,6 +50,32 @@ behaviour_of word =
     else (if bytes_eq word (codes "immediatecbm") then Some behaviour.ImmediateCbm
     else (if bytes_eq word (codes "manualgraded") then Some behaviour.Manual else None)))))))
 
+-- ---- how a quiz is taken and graded
+
+abbrev pub handling_of : List ℕ → Option Handling
+handling_of word =
+    if bytes_eq word (codes "autosubmit") then Some handling.AutoSubmit
+    else (if bytes_eq word (codes "graceperiod") then Some handling.GracePeriod
+    else (if bytes_eq word (codes "autoabandon") then Some handling.AutoAbandon else None))
+
+abbrev pub review_of : List ℕ → Option Review
+review_of word =
+    if bytes_eq word (codes "always") then Some review.Always
+    else (if bytes_eq word (codes "finish") then Some review.Finish
+    else (if bytes_eq word (codes "close") then Some review.Close else None))
+
+abbrev pub whom_of : List ℕ → Option Whom
+whom_of word =
+    if bytes_eq word (codes "user") then Some whom.User
+    else (if bytes_eq word (codes "group") then Some whom.Group else None)
+
+abbrev pub method_of : List ℕ → Option Method
+method_of word =
+    if bytes_eq word (codes "highest") then Some method.Highest
+    else (if bytes_eq word (codes "average") then Some method.Average
+    else (if bytes_eq word (codes "first") then Some method.First
+    else (if bytes_eq word (codes "last") then Some method.Last else None)))
+
 -- ---- numbers
 
 abbrev pub mark_of : List ℕ → Option ℤ
@@ -49,6 +83,10 @@ mark_of word = result_ok (mark_in word)
 
 abbrev pub penalty_of : List ℕ → Option ℤ
 penalty_of word = result_ok (fraction_in word)
+
+-- the grade that a whole total has
+abbrev pub quiz_grade_of : List ℕ → Option ℤ
+quiz_grade_of word = result_ok (grade_in word)
 
 -- ---- hints
 

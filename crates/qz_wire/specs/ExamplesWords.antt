@@ -1,13 +1,30 @@
--- Worked words: the texts, the answers and the hints that they spell.
-use Rattle.std.specs.Prelude.{◌≡◌, [], ◌∷◌, Some, None, codes, refl}
+-- Worked words: the texts, the answers, the hints and the requests that they spell, and those of replies.
+use Rattle.std.specs.Fmt.{digits}
+use Rattle.std.specs.Prelude.{◌≡◌, [], ◌∷◌, Some, None, Ok, Err, pos, negsuc, codes, refl}
 use Rattle.std.specs.Char.{encode_utf8}
 use Rattle.std.specs.Str.{chars, is_utf8}
 use Rattle.std.specs.Str.Lossy.{utf8_valid_len}
+use Rattle.qz_decimal.specs.Reading.{units_within, units_in, size_at, rest_at, decimals_at}
+use Rattle.qz_grading.specs.declared.outcome.State.TheVariants as state
 use Rattle.qz_grading.specs.declared.response.Answer.TheVariants as answer
+use Rattle.qz_terms.specs.declared.access.Handling.TheVariants as handling
+use Rattle.qz_terms.specs.declared.access.Review.TheVariants as review
+use Rattle.qz_terms.specs.declared.grades.Method.TheVariants as method
+use Rattle.qz_terms.specs.declared.people.Caller.TheVariants as caller
+use Rattle.qz_terms.specs.declared.record.How.TheVariants as how
+use Rattle.qz_terms.specs.declared.reply.Done.TheVariants as done
+use Rattle.qz_terms.specs.declared.reply.Reply.TheVariants as reply
+use Rattle.qz_terms.specs.declared.reply.Shown.TheVariants as shown
+use Rattle.qz_terms.specs.declared.reply.Status.TheVariants as status
+use Rattle.qz_terms.specs.declared.request.Request.TheVariants as request
+use Rattle.qz_terms.specs.declared.request.Whom.TheVariants as whom
 use Rattle.qz_wire.specs.Answers.{answer_of}
+use Rattle.qz_wire.specs.Asking.{ask_of}
 use Rattle.qz_wire.specs.BankWords.{hints_of, name_of}
 use Rattle.qz_wire.specs.Escapes.{text_word}
-use Rattle.qz_wire.specs.Words.{text_of}
+use Rattle.qz_wire.specs.Replies.{reply_words}
+use Rattle.qz_wire.specs.Requests.{policy_of, times_of, override_of, mark_request_of, settle_of, live_of, view_of, total_of}
+use Rattle.qz_wire.specs.Words.{text_of, words_of}
 
 pub escapes : text_of (codes "a\\sb\\n\\\\s") ≡ Some (codes "a b\n\\s")
 escapes = refl
@@ -59,3 +76,160 @@ written = refl
 
 pub nothing_written : text_word [] ≡ codes "\\e"
 nothing_written = refl
+
+-- ---- how a quiz is taken and graded
+
+pub all_settings : times_of (words_of (codes "1 100 86400 3600 2 graceperiod 600 finish")) ≡ Ok (request.Times 1 100 86400 3600 2 handling.GracePeriod 600 review.Finish)
+unfolding times_of
+all_settings = refl
+
+pub the_longest_times : times_of (words_of (codes "1 0 0 31536000 0 autoabandon 31536000 always")) ≡ Ok (request.Times 1 0 0 31536000 0 handling.AutoAbandon 31536000 review.Always)
+unfolding times_of
+the_longest_times = refl
+
+-- one second more than 365 days
+pub a_limit_too_long : times_of (words_of (codes "1 0 0 31536001 0 autosubmit 0 always")) ≡ Err 8
+unfolding times_of
+a_limit_too_long = refl
+
+pub too_many_allowed : times_of (words_of (codes "1 0 0 0 1001 autosubmit 0 close")) ≡ Err 9
+unfolding times_of
+too_many_allowed = refl
+
+pub a_misspelt_handling : times_of (words_of (codes "1 0 0 0 0 autosubmitted 0 always")) ≡ Err 10
+unfolding times_of
+a_misspelt_handling = refl
+
+-- a missing word has the number behind the last one
+pub no_review : times_of (words_of (codes "1 0 0 0 0 autosubmit 0")) ≡ Err 12
+unfolding times_of
+no_review = refl
+
+-- a dash leaves a setting unset in an override alone
+pub nothing_is_unset_for_all : times_of (words_of (codes "1 - 0 0 0 autosubmit 0 always")) ≡ Err 6
+unfolding times_of
+nothing_is_unset_for_all = refl
+
+pub some_set_otherwise : override_of (words_of (codes "1 user 2 - 90000 - 3")) ≡ Ok (request.Override 1 whom.User 2 None (Some 90000) None (Some 3))
+unfolding override_of
+some_set_otherwise = refl
+
+pub none_set_otherwise : override_of (words_of (codes "1 group 4 - - - -")) ≡ Ok (request.Override 1 whom.Group 4 None None None None)
+unfolding override_of
+none_set_otherwise = refl
+
+-- 0 is a setting of its own
+pub set_to_nothing : override_of (words_of (codes "1 user 2 0 0 0 0")) ≡ Ok (request.Override 1 whom.User 2 (Some 0) (Some 0) (Some 0) (Some 0))
+unfolding override_of
+set_to_nothing = refl
+
+pub neither_user_nor_group : override_of (words_of (codes "1 users 2 - - - -")) ≡ Err 6
+unfolding override_of
+neither_user_nor_group = refl
+
+pub past_the_last_moment : override_of (words_of (codes "1 user 2 - 4102444800 - -")) ≡ Err 9
+unfolding override_of
+past_the_last_moment = refl
+
+pub a_policy : policy_of (words_of (codes "1 average 12.5")) ≡ Ok (request.Policy 1 method.Average (pos 1250000))
+unfolding policy_of units_within units_in size_at rest_at decimals_at
+a_policy = refl
+
+pub a_grade_too_great : policy_of (words_of (codes "1 last 10000.00001")) ≡ Err 7
+unfolding policy_of units_within units_in size_at rest_at decimals_at
+a_grade_too_great = refl
+
+pub an_unknown_method : policy_of (words_of (codes "1 lowest 10")) ≡ Err 6
+unfolding policy_of
+an_unknown_method = refl
+
+-- ---- attempts
+
+-- it is below 0, which is refused later
+pub a_mark : mark_request_of (words_of (codes "2.1 3 -0.5")) ≡ Ok (request.Mark (record { user = 2; nth = 1 }) 3 (negsuc 4999999))
+unfolding mark_request_of units_within units_in size_at rest_at decimals_at
+a_mark = refl
+
+pub settling : settle_of (words_of (codes "2.1")) ≡ Ok (request.Settle (record { user = 2; nth = 1 }))
+unfolding settle_of
+settling = refl
+
+pub settling_two : settle_of (words_of (codes "2.1 2.2")) ≡ Err 6
+unfolding settle_of
+settling_two = refl
+
+pub the_first_live : live_of (words_of (codes "255 0.0")) ≡ Ok (request.Live 255 (record { user = 0; nth = 0 }))
+unfolding live_of
+the_first_live = refl
+
+pub no_such_shard_number : live_of (words_of (codes "256 0.0")) ≡ Err 5
+unfolding live_of
+no_such_shard_number = refl
+
+pub a_view : view_of (words_of (codes "2.1 3")) ≡ Ok (request.View (record { user = 2; nth = 1 }) 3)
+unfolding view_of
+a_view = refl
+
+pub a_total : total_of (words_of (codes "2.1")) ≡ Ok (request.Total (record { user = 2; nth = 1 }))
+unfolding total_of
+a_total = refl
+
+-- ---- whole lines
+
+pub asked_without_a_key : ask_of (words_of (codes "5 root - live 0 2.1")) ≡ Ok (5, record { caller = caller.Token (codes "root"); key = None; request = request.Live 0 (record { user = 2; nth = 1 }) })
+unfolding ask_of live_of
+asked_without_a_key = refl
+
+pub a_key_where_none_is_taken : ask_of (words_of (codes "5 root k live 0 2.1")) ≡ Err (record { place = 3; rule = 0 })
+unfolding ask_of
+a_key_where_none_is_taken = refl
+
+pub a_key_is_missing : ask_of (words_of (codes "5 root - mark 2.1 3 1")) ≡ Err (record { place = 3; rule = 0 })
+unfolding ask_of
+a_key_is_missing = refl
+
+pub not_read_yet : ask_of (words_of (codes "5 root k regrade 1")) ≡ Err (record { place = 4; rule = 0 })
+unfolding ask_of
+not_read_yet = refl
+
+-- ---- replies
+
+pub settled : reply_words (reply.Ok 7 (done.Settled (record { user = 2; nth = 1 }) how.Abandoned)) ≡ codes "ok 7 settled 2.1 abandoned"
+unfolding digits
+settled = refl
+
+pub idle : reply_words (reply.Ok 7 done.Idle) ≡ codes "ok 7 idle"
+unfolding digits
+idle = refl
+
+pub live : reply_words (reply.Ok 7 (done.Live (Some (record { user = 2; nth = 1 })))) ≡ codes "ok 7 live 2.1"
+unfolding digits
+live = refl
+
+pub none_live : reply_words (reply.Ok 7 (done.Live None)) ≡ codes "ok 7 live -"
+unfolding digits
+none_live = refl
+
+pub marked : reply_words (reply.Ok 7 (done.Marked state.MangrPartial (shown.Value (pos 5000000)))) ≡ codes "ok 7 marked mangrpartial 0.5000000"
+unfolding digits
+marked = refl
+
+pub a_slot : reply_words (reply.Ok 7 (done.SlotView state.GradedRight (shown.Value (pos 20000000)) 1 4)) ≡ codes "ok 7 slot gradedright 2.0000000 1 4"
+unfolding digits
+a_slot = refl
+
+pub a_hidden_mark : reply_words (reply.Ok 7 (done.SlotView state.Complete shown.Hidden 2 1)) ≡ codes "ok 7 slot complete hidden 2 1"
+unfolding digits
+a_hidden_mark = refl
+
+pub a_live_attempt : reply_words (reply.Ok 7 (done.Attempt status.Live shown.Hidden (Some 86400))) ≡ codes "ok 7 attempt live hidden 86400"
+unfolding digits
+a_live_attempt = refl
+
+pub a_finished_attempt : reply_words (reply.Ok 7 (done.Attempt status.Finished (shown.Value (pos 15000000)) None)) ≡ codes "ok 7 attempt finished 1.5000000 -"
+unfolding digits
+a_finished_attempt = refl
+
+pub an_abandoned_attempt : reply_words (reply.Ok 7 (done.Attempt status.Abandoned shown.None None)) ≡ codes "ok 7 attempt abandoned - -"
+unfolding digits
+an_abandoned_attempt = refl

@@ -7,10 +7,10 @@ use Rattle.qz_terms.specs.declared.request.Request.TheVariants as request
 use Rattle.qz_wire.specs.declared.verbs.Verb.{Verb}
 use Rattle.qz_wire.specs.declared.verbs.Verb.TheVariants as verb
 use Rattle.qz_wire.specs.Answers.{answer_of}
-use Rattle.qz_wire.specs.BankWords.{name_of, role_of, behaviour_of, mark_of, penalty_of, hints_of, gift_of, question_of}
+use Rattle.qz_wire.specs.BankWords.{name_of, role_of, behaviour_of, handling_of, review_of, whom_of, method_of, mark_of, penalty_of, quiz_grade_of, hints_of, gift_of, question_of}
 use Rattle.qz_wire.specs.Faults.{Fault, at_word}
 use Rattle.qz_wire.specs.Numbered.{◌>>=◌, end_at, line_at as word_at}
-use Rattle.qz_wire.specs.Words.{number_of, slot_of, certainty_of, attempt_of, text_of, token_of}
+use Rattle.qz_wire.specs.Words.{moment_of, number_of, slot_of, shard_of, certainty_of, duration_of, allowed_of, attempt_of, text_of, token_of, or_dash}
 
 -- ---- users and groups
 
@@ -100,6 +100,37 @@ remax_of words = do
   max ← word_at mark_of 7 slot.1
   end_at 8 (request.Remax quiz.0 slot.0 max.0) max.1
 
+unfoldable pub policy_of : List (List ℕ) → Result Request ℕ
+policy_of words = do
+  quiz ← word_at number_of 5 words
+  method ← word_at method_of 6 quiz.1
+  grade ← word_at quiz_grade_of 7 method.1
+  end_at 8 (request.Policy quiz.0 method.0 grade.0) grade.1
+
+unfoldable pub times_of : List (List ℕ) → Result Request ℕ
+times_of words = do
+  quiz ← word_at number_of 5 words
+  opens ← word_at moment_of 6 quiz.1
+  closes ← word_at moment_of 7 opens.1
+  limit ← word_at duration_of 8 closes.1
+  allowed ← word_at allowed_of 9 limit.1
+  handling ← word_at handling_of 10 allowed.1
+  grace ← word_at duration_of 11 handling.1
+  review ← word_at review_of 12 grace.1
+  end_at 13 (request.Times quiz.0 opens.0 closes.0 limit.0 allowed.0 handling.0 grace.0 review.0) review.1
+
+-- a dash leaves a setting unset
+unfoldable pub override_of : List (List ℕ) → Result Request ℕ
+override_of words = do
+  quiz ← word_at number_of 5 words
+  whom ← word_at whom_of 6 quiz.1
+  number ← word_at number_of 7 whom.1
+  opens ← word_at (or_dash moment_of) 8 number.1
+  closes ← word_at (or_dash moment_of) 9 opens.1
+  limit ← word_at (or_dash duration_of) 10 closes.1
+  allowed ← word_at (or_dash allowed_of) 11 limit.1
+  end_at 12 (request.Override quiz.0 whom.0 number.0 opens.0 closes.0 limit.0 allowed.0) allowed.1
+
 -- ---- attempts
 
 unfoldable pub start_of : List (List ℕ) → Result Request ℕ
@@ -134,6 +165,36 @@ finish_of words = do
   attempt ← word_at attempt_of 5 words
   end_at 6 (request.Finish attempt.0) attempt.1
 
+-- a mark is read as any mark, and judged later
+unfoldable pub mark_request_of : List (List ℕ) → Result Request ℕ
+mark_request_of words = do
+  attempt ← word_at attempt_of 5 words
+  slot ← word_at slot_of 6 attempt.1
+  mark ← word_at mark_of 7 slot.1
+  end_at 8 (request.Mark attempt.0 slot.0 mark.0) mark.1
+
+unfoldable pub settle_of : List (List ℕ) → Result Request ℕ
+settle_of words = do
+  attempt ← word_at attempt_of 5 words
+  end_at 6 (request.Settle attempt.0) attempt.1
+
+unfoldable pub live_of : List (List ℕ) → Result Request ℕ
+live_of words = do
+  shard ← word_at shard_of 5 words
+  attempt ← word_at attempt_of 6 shard.1
+  end_at 7 (request.Live shard.0 attempt.0) attempt.1
+
+unfoldable pub view_of : List (List ℕ) → Result Request ℕ
+view_of words = do
+  attempt ← word_at attempt_of 5 words
+  slot ← word_at slot_of 6 attempt.1
+  end_at 7 (request.View attempt.0 slot.0) slot.1
+
+unfoldable pub total_of : List (List ℕ) → Result Request ℕ
+total_of words = do
+  attempt ← word_at attempt_of 5 words
+  end_at 6 (request.Total attempt.0) attempt.1
+
 unfoldable pub grade_of : List (List ℕ) → Result Request ℕ
 grade_of words = do
   quiz ← word_at number_of 5 words
@@ -153,10 +214,18 @@ request_of verb.Quiz words = at_word (quiz_of words)
 request_of verb.Slot words = at_word (slot_request_of words)
 request_of verb.Ready words = at_word (ready_of words)
 request_of verb.Remax words = at_word (remax_of words)
+request_of verb.Policy words = at_word (policy_of words)
+request_of verb.Times words = at_word (times_of words)
+request_of verb.Override words = at_word (override_of words)
 request_of verb.Start words = at_word (start_of words)
 request_of verb.Save words = at_word (save_of words)
 request_of verb.Submit words = at_word (submit_of words)
 request_of verb.Again words = at_word (again_of words)
 request_of verb.Finish words = at_word (finish_of words)
+request_of verb.Mark words = at_word (mark_request_of words)
+request_of verb.Settle words = at_word (settle_of words)
+request_of verb.Live words = at_word (live_of words)
+request_of verb.View words = at_word (view_of words)
+request_of verb.Total words = at_word (total_of words)
 request_of verb.Grade words = at_word (grade_of words)
 request_of verb.Bank words = at_word (bank_of words)

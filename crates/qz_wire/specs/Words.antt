@@ -84,8 +84,19 @@ number_of word = number_within 0 4294967295 word
 abbrev pub slot_of : List ℕ → Option ℕ
 slot_of word = number_within 0 65535 word
 
+abbrev pub shard_of : List ℕ → Option ℕ
+shard_of word = number_within 0 255 word
+
 abbrev pub certainty_of : List ℕ → Option ℕ
 certainty_of word = number_within 0 3 word
+
+-- seconds, up to 365 days
+abbrev pub duration_of : List ℕ → Option ℕ
+duration_of word = number_within 0 31536000 word
+
+-- how many attempts there may be
+abbrev pub allowed_of : List ℕ → Option ℕ
+allowed_of word = number_within 0 1000 word
 
 -- `USER.NTH`
 abbrev pub attempt_by : List (List ℕ) → Option AttemptId
@@ -111,9 +122,12 @@ is_token word = nat_le 1 (length word) && (nat_le (length word) 64 && (list_all 
 abbrev pub token_of : List ℕ → Option (List ℕ)
 token_of word = if is_token word then Some word else None
 
--- a dash stands for no key
+-- a dash stands for none, and any other word for what it spells
+abbrev pub or_dash : {A : Type 0} → (List ℕ → Option A) → List ℕ → Option (Option A)
+or_dash reading word = if is_dash word then Some None else option_map (λ x. Some x) (reading word)
+
 abbrev pub key_of : List ℕ → Option (Option (List ℕ))
-key_of word = if is_dash word then Some None else option_map (λ k. Some k) (token_of word)
+key_of word = or_dash token_of word
 
 -- a text is cut at the first of these bytes
 pub record IsCutAt (c : ℕ) (text front behind : List ℕ) : Type 0 where

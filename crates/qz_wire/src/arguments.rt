@@ -6,23 +6,27 @@ ghost use Rattle.std.specs.Prelude.{◌≡◌, ◌≤◌, true, All, map, IfOk};
 ghost use Rattle.qz_decimal.specs.Reading.{IsWrittenFraction};
 ghost use Rattle.qz_grading.specs.declared.question.Item.{Item};
 ghost use Rattle.qz_grading.specs.Questions.{IsQuestion};
-ghost use Rattle.qz_terms.specs.Kept.{is_answer, are_hints, is_described};
+ghost use Rattle.qz_terms.specs.Kept.{is_answer, are_hints, is_described, is_moment, is_duration, is_allowed, if_there, is_quiz_grade};
 ghost use Rattle.qz_wire.specs.Answers.{answer_of};
-ghost use Rattle.qz_wire.specs.BankWords.{name_of, role_of, behaviour_of, mark_of, penalty_of, hints_of};
+ghost use Rattle.qz_wire.specs.BankWords.{name_of, role_of, behaviour_of, handling_of, review_of, whom_of, method_of, mark_of, penalty_of, quiz_grade_of, hints_of};
 ghost use Rattle.qz_wire.specs.Faults.{ReadsOr};
 ghost use Rattle.qz_wire.specs.Requests.{bank_at, question_at};
 ghost use Rattle.qz_wire.specs.Numbered.{end_at, line_at as word_at};
-ghost use Rattle.qz_wire.specs.Words.{words_after, number_of, slot_of, certainty_of, attempt_of, text_of, token_of, Reads};
+ghost use Rattle.qz_wire.specs.Words.{words_after, moment_of, number_of, slot_of, shard_of, certainty_of, duration_of, allowed_of, attempt_of, text_of, token_of, or_dash, Reads};
 
 use crate::answers::answer_in;
 use crate::bank_words::{
-    behaviour_in, gift_in, hints_in, mark_in, name_in, penalty_in, question_in, role_in,
+    behaviour_in, gift_in, handling_in, hints_in, mark_in, method_in, name_in, penalty_in,
+    question_in, quiz_grade_in, review_in, role_in, whom_in,
 };
 use crate::escapes::text_in;
-use crate::words::{WordFault, attempt_in, certainty_in, next_word, number_in, slot_in, token_in};
-use qz_decimal::{Fraction, Mark};
+use crate::words::{
+    WordFault, allowed_in, attempt_in, certainty_in, duration_in, moment_in, next_word, number_in,
+    own_allowed_in, own_duration_in, own_moment_in, shard_in, slot_in, token_in,
+};
+use qz_decimal::{Fraction, Grade, Mark};
 use qz_grading::{Answer, AttemptId, Bank, Behaviour, Question, Refusal};
-use qz_terms::Role;
+use qz_terms::{Handling, Method, Review, Role, Whom};
 use qz_text::{Bytes, Listed, Text};
 use std::alloc::Global;
 
@@ -64,6 +68,12 @@ pub fn slot_at(rest: &mut &[u8], place: u32) -> Result<u16, WordFault>
     slot_in(next_word(rest, place)?).ok_or(WordFault::Malformed { place })
 }
 
+pub fn shard_at(rest: &mut &[u8], place: u32) -> Result<u8, WordFault>
+    ensures { Reads (λ x. (x, words_after rest.new.now)) result (word_at shard_of place (words_after rest.old.now)) }
+{
+    shard_in(next_word(rest, place)?).ok_or(WordFault::Malformed { place })
+}
+
 /// The certainty that the next word gives.
 pub fn certainty_at(rest: &mut &[u8], place: u32) -> Result<u8, WordFault>
     ensures value { Reads (λ x. (x, words_after rest.new.now)) result (word_at certainty_of place (words_after rest.old.now)) }
@@ -85,6 +95,60 @@ pub fn penalty_at(rest: &mut &[u8], place: u32) -> Result<Fraction, WordFault>
     penalty_in(next_word(rest, place)?).ok_or(WordFault::Malformed { place })
 }
 
+pub fn quiz_grade_at(rest: &mut &[u8], place: u32) -> Result<Grade, WordFault>
+    ensures value { Reads (λ x. (x, words_after rest.new.now)) result (word_at quiz_grade_of place (words_after rest.old.now)) }
+    ensures range { IfOk result (λ grade. is_quiz_grade grade ≡ true) }
+{
+    quiz_grade_in(next_word(rest, place)?).ok_or(WordFault::Malformed { place })
+}
+
+// ---- settings
+
+pub fn moment_at(rest: &mut &[u8], place: u32) -> Result<u64, WordFault>
+    ensures value { Reads (λ x. (x, words_after rest.new.now)) result (word_at moment_of place (words_after rest.old.now)) }
+    ensures range { IfOk result (λ moment. is_moment moment ≡ true) }
+{
+    moment_in(next_word(rest, place)?).ok_or(WordFault::Malformed { place })
+}
+
+pub fn duration_at(rest: &mut &[u8], place: u32) -> Result<u32, WordFault>
+    ensures value { Reads (λ x. (x, words_after rest.new.now)) result (word_at duration_of place (words_after rest.old.now)) }
+    ensures range { IfOk result (λ seconds. is_duration seconds ≡ true) }
+{
+    duration_in(next_word(rest, place)?).ok_or(WordFault::Malformed { place })
+}
+
+pub fn allowed_at(rest: &mut &[u8], place: u32) -> Result<u32, WordFault>
+    ensures value { Reads (λ x. (x, words_after rest.new.now)) result (word_at allowed_of place (words_after rest.old.now)) }
+    ensures range { IfOk result (λ allowed. is_allowed allowed ≡ true) }
+{
+    allowed_in(next_word(rest, place)?).ok_or(WordFault::Malformed { place })
+}
+
+/// The moment that is set otherwise, or none for a dash.
+pub fn own_moment_at(rest: &mut &[u8], place: u32) -> Result<Option<u64>, WordFault>
+    ensures value { Reads (λ x. (x, words_after rest.new.now)) result (word_at (or_dash moment_of) place (words_after rest.old.now)) }
+    ensures range { IfOk result (λ own. if_there is_moment own ≡ true) }
+{
+    own_moment_in(next_word(rest, place)?).ok_or(WordFault::Malformed { place })
+}
+
+/// The time that is set otherwise, or none for a dash.
+pub fn own_duration_at(rest: &mut &[u8], place: u32) -> Result<Option<u32>, WordFault>
+    ensures value { Reads (λ x. (x, words_after rest.new.now)) result (word_at (or_dash duration_of) place (words_after rest.old.now)) }
+    ensures range { IfOk result (λ own. if_there is_duration own ≡ true) }
+{
+    own_duration_in(next_word(rest, place)?).ok_or(WordFault::Malformed { place })
+}
+
+/// How many attempts are allowed otherwise, or none for a dash.
+pub fn own_allowed_at(rest: &mut &[u8], place: u32) -> Result<Option<u32>, WordFault>
+    ensures value { Reads (λ x. (x, words_after rest.new.now)) result (word_at (or_dash allowed_of) place (words_after rest.old.now)) }
+    ensures range { IfOk result (λ own. if_there is_allowed own ≡ true) }
+{
+    own_allowed_in(next_word(rest, place)?).ok_or(WordFault::Malformed { place })
+}
+
 // ---- names
 
 pub fn role_at(rest: &mut &[u8], place: u32) -> Result<Role, WordFault>
@@ -97,6 +161,30 @@ pub fn behaviour_at(rest: &mut &[u8], place: u32) -> Result<Behaviour, WordFault
     ensures { Reads (λ x. (x, words_after rest.new.now)) result (word_at behaviour_of place (words_after rest.old.now)) }
 {
     behaviour_in(next_word(rest, place)?).ok_or(WordFault::Malformed { place })
+}
+
+pub fn handling_at(rest: &mut &[u8], place: u32) -> Result<Handling, WordFault>
+    ensures { Reads (λ x. (x, words_after rest.new.now)) result (word_at handling_of place (words_after rest.old.now)) }
+{
+    handling_in(next_word(rest, place)?).ok_or(WordFault::Malformed { place })
+}
+
+pub fn review_at(rest: &mut &[u8], place: u32) -> Result<Review, WordFault>
+    ensures { Reads (λ x. (x, words_after rest.new.now)) result (word_at review_of place (words_after rest.old.now)) }
+{
+    review_in(next_word(rest, place)?).ok_or(WordFault::Malformed { place })
+}
+
+pub fn whom_at(rest: &mut &[u8], place: u32) -> Result<Whom, WordFault>
+    ensures { Reads (λ x. (x, words_after rest.new.now)) result (word_at whom_of place (words_after rest.old.now)) }
+{
+    whom_in(next_word(rest, place)?).ok_or(WordFault::Malformed { place })
+}
+
+pub fn method_at(rest: &mut &[u8], place: u32) -> Result<Method, WordFault>
+    ensures { Reads (λ x. (x, words_after rest.new.now)) result (word_at method_of place (words_after rest.old.now)) }
+{
+    method_in(next_word(rest, place)?).ok_or(WordFault::Malformed { place })
 }
 
 pub fn token_at(alloc: Global, rest: &mut &[u8], place: u32) -> Result<Text, WordFault>

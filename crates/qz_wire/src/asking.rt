@@ -8,9 +8,12 @@ ghost use Rattle.qz_wire.specs.Requests.{request_of};
 ghost use Rattle.qz_wire.specs.Words.{words_of, words_after, moment_of, last_moment, key_of, Reads};
 
 use crate::arguments::{malformed, token_at};
-use crate::attempt_requests::{again, finish, grade, save, start, submit};
+use crate::attempt_requests::{
+    again, finish, grade, live, mark, save, settle, start, submit, total, view,
+};
 use crate::catalog_requests::{
-    bank, edit, group, import, member, quiz, ready, remax, slot, tune, user,
+    bank, edit, group, import, member, policy, quiz, ready, remax, set_otherwise, slot, times,
+    tune, user,
 };
 use crate::verbs::{Verb, takes_key, verb_in};
 use crate::words::{WordFault, first_word, key_in, moment_in, next_word};
@@ -35,17 +38,25 @@ fn request(alloc: Global, verb: Verb, rest: &[u8]) -> Result<Request, Refusal>
         Verb::Slot => Ok(slot(rest)?),
         Verb::Ready => Ok(ready(rest)?),
         Verb::Remax => Ok(remax(rest)?),
+        Verb::Policy => Ok(policy(rest)?),
+        Verb::Times => Ok(times(rest)?),
+        Verb::Override => Ok(set_otherwise(rest)?),
         Verb::Start => Ok(start(rest)?),
         Verb::Save => Ok(save(alloc, rest)?),
         Verb::Submit => Ok(submit(alloc, rest)?),
         Verb::Again => Ok(again(rest)?),
         Verb::Finish => Ok(finish(rest)?),
+        Verb::Mark => Ok(mark(rest)?),
+        Verb::Settle => Ok(settle(rest)?),
+        Verb::Live => Ok(live(rest)?),
+        Verb::View => Ok(view(rest)?),
+        Verb::Total => Ok(total(rest)?),
         Verb::Grade => Ok(grade(rest)?),
         Verb::Bank => Ok(bank(rest)?),
     }
 }
 
-fn moment_at<'a>(line: &'a [u8]) -> Result<(u64, &'a [u8]), WordFault>
+fn first_moment<'a>(line: &'a [u8]) -> Result<(u64, &'a [u8]), WordFault>
     ensures value { Reads (λ r. (r.0, words_after r.1.now)) result (word_at moment_of 1 (words_of line.now)) }
     ensures range { IfOk result (λ r. r.0 ≤ last_moment) }
 {
@@ -69,7 +80,10 @@ fn key_at(alloc: Global, rest: &mut &[u8]) -> Result<Option<Text>, WordFault>
 fn verb_at(rest: &mut &[u8]) -> Result<Verb, WordFault>
     ensures { Reads (λ x. (x, words_after rest.new.now)) result (word_at verb_of 4 (words_after rest.old.now)) }
 {
-    verb_in(next_word(rest, 4)?).ok_or(WordFault::Malformed { place: 4 })
+    match verb_in(next_word(rest, 4)?) {
+        Some(verb) => Ok(verb),
+        None => Err(malformed(4)),
+    }
 }
 
 /// The moment and the request of a line.
@@ -83,7 +97,7 @@ pub fn ask_of_line(alloc: Global, line: &[u8]) -> Result<(u64, Ask), Refusal>
     ensures value { ReadsOr (λ x. x) result (ask_of (words_of line.now)) }
     ensures asked { IfOk result (λ x. CanBeAsked x.1 x.0) }
 {
-    let (moment, mut rest) = moment_at(line)?;
+    let (moment, mut rest) = first_moment(line)?;
     let token = token_at(alloc, &mut rest, 2)?;
     let key = key_at(alloc, &mut rest)?;
     let verb = verb_at(&mut rest)?;

@@ -2,11 +2,13 @@
 
 ghost use Rattle.std.specs.Prelude.{IfOk};
 ghost use Rattle.qz_wire.specs.Asking.{IsOfVerb};
-ghost use Rattle.qz_wire.specs.Requests.{start_of, save_of, submit_of, again_of, finish_of, grade_of};
+ghost use Rattle.qz_wire.specs.Requests.{start_of, save_of, submit_of, again_of, finish_of, mark_request_of, settle_of, live_of, view_of, total_of, grade_of};
 ghost use Rattle.qz_wire.specs.Words.{words_after, Reads};
 ghost use Rattle.qz_wire.specs.declared.verbs.Verb.{Verb};
 
-use crate::arguments::{answer_at, attempt_at, certainty_at, end, number_at, slot_at};
+use crate::arguments::{
+    answer_at, attempt_at, certainty_at, end, mark_at, number_at, shard_at, slot_at,
+};
 use crate::words::WordFault;
 use qz_terms::Request;
 use std::alloc::Global;
@@ -76,6 +78,64 @@ pub fn finish(mut rest: &[u8]) -> Result<Request, WordFault>
     let attempt = attempt_at(&mut rest, 5)?;
     end(rest, 6)?;
     Ok(Request::Finish { attempt })
+}
+
+#[tactic(auto, unfolding(crate::specs::Requests::mark_request_of))]
+pub fn mark(mut rest: &[u8]) -> Result<Request, WordFault>
+    ensures value { Reads (λ x. x) result (mark_request_of (words_after rest.now)) }
+    ensures verb { IfOk result (IsOfVerb Verb.Mark) }
+{
+    let attempt = attempt_at(&mut rest, 5)?;
+    let slot = slot_at(&mut rest, 6)?;
+    let mark = mark_at(&mut rest, 7)?;
+    end(rest, 8)?;
+    Ok(Request::Mark {
+        attempt,
+        slot,
+        mark,
+    })
+}
+
+#[tactic(auto, unfolding(crate::specs::Requests::settle_of))]
+pub fn settle(mut rest: &[u8]) -> Result<Request, WordFault>
+    ensures value { Reads (λ x. x) result (settle_of (words_after rest.now)) }
+    ensures verb { IfOk result (IsOfVerb Verb.Settle) }
+{
+    let attempt = attempt_at(&mut rest, 5)?;
+    end(rest, 6)?;
+    Ok(Request::Settle { attempt })
+}
+
+#[tactic(auto, unfolding(crate::specs::Requests::live_of))]
+pub fn live(mut rest: &[u8]) -> Result<Request, WordFault>
+    ensures value { Reads (λ x. x) result (live_of (words_after rest.now)) }
+    ensures verb { IfOk result (IsOfVerb Verb.Live) }
+{
+    let shard = shard_at(&mut rest, 5)?;
+    let attempt = attempt_at(&mut rest, 6)?;
+    end(rest, 7)?;
+    Ok(Request::Live { shard, attempt })
+}
+
+#[tactic(auto, unfolding(crate::specs::Requests::view_of))]
+pub fn view(mut rest: &[u8]) -> Result<Request, WordFault>
+    ensures value { Reads (λ x. x) result (view_of (words_after rest.now)) }
+    ensures verb { IfOk result (IsOfVerb Verb.View) }
+{
+    let attempt = attempt_at(&mut rest, 5)?;
+    let slot = slot_at(&mut rest, 6)?;
+    end(rest, 7)?;
+    Ok(Request::View { attempt, slot })
+}
+
+#[tactic(auto, unfolding(crate::specs::Requests::total_of))]
+pub fn total(mut rest: &[u8]) -> Result<Request, WordFault>
+    ensures value { Reads (λ x. x) result (total_of (words_after rest.now)) }
+    ensures verb { IfOk result (IsOfVerb Verb.Total) }
+{
+    let attempt = attempt_at(&mut rest, 5)?;
+    end(rest, 6)?;
+    Ok(Request::Total { attempt })
 }
 
 #[tactic(auto, unfolding(crate::specs::Requests::grade_of))]

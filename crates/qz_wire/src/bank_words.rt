@@ -1,21 +1,21 @@
-//! The words of users, quizzes and the bank: names, roles, behaviours, marks, hints and GIFT texts.
+//! The words of users, quizzes and the bank: names, roles, behaviours, settings, marks, hints and GIFT texts.
 
 ghost use Rattle.std.specs.List.{list_all, list_any};
 ghost use Rattle.std.specs.Prelude.{◌≡◌, ◌==◌, true, All, map, IfOk, IfSome};
 ghost use Rattle.qz_decimal.specs.Reading.{IsWrittenFraction};
 ghost use Rattle.qz_grading.specs.declared.question.Item.{Item};
 ghost use Rattle.qz_grading.specs.Questions.{IsQuestion};
-ghost use Rattle.qz_wire.specs.BankWords.{is_name, name_of, role_of, behaviour_of, mark_of, penalty_of, hint_of, hints_on, hints_of, gift_of, only_question, question_of};
-ghost use Rattle.qz_terms.specs.Kept.{are_hints, is_described};
+ghost use Rattle.qz_wire.specs.BankWords.{is_name, name_of, role_of, behaviour_of, handling_of, review_of, whom_of, method_of, mark_of, penalty_of, quiz_grade_of, hint_of, hints_on, hints_of, gift_of, only_question, question_of};
+ghost use Rattle.qz_terms.specs.Kept.{are_hints, is_described, is_quiz_grade};
 ghost use Rattle.qz_wire.specs.Faults.{ReadsOr};
 ghost use Rattle.qz_wire.specs.Words.{parts_at};
 
 use crate::escapes::{text_in, utf8_in};
 use crate::words::cut;
 use gift_read::{GiftFault, read};
-use qz_decimal::{Fraction, Mark};
+use qz_decimal::{Fraction, Grade, Mark};
 use qz_grading::{Bank, Behaviour, Item, Question, Refusal};
-use qz_terms::Role;
+use qz_terms::{Handling, Method, Review, Role, Whom};
 use qz_text::{Listed, NoMemory, Text};
 use std::alloc::Global;
 
@@ -97,6 +97,78 @@ pub fn behaviour_in(word: &[u8]) -> Option<Behaviour>
         None
     }
 }
+
+// ---- how a quiz is taken and graded
+
+/// What a word says of an attempt that isn't finished when its time is over.
+pub fn handling_in(word: &[u8]) -> Option<Handling>
+    ensures { result ≡ handling_of word.now }
+{
+    if word == b"autosubmit".as_slice() {
+        Some(Handling::AutoSubmit)
+    } else if word == b"graceperiod".as_slice() {
+        Some(Handling::GracePeriod)
+    } else if word == b"autoabandon".as_slice() {
+        Some(Handling::AutoAbandon)
+    } else {
+        None
+    }
+}
+
+/// When marks and grades are shown, by a word.
+pub fn review_in(word: &[u8]) -> Option<Review>
+    ensures { result ≡ review_of word.now }
+{
+    if word == b"always".as_slice() {
+        Some(Review::Always)
+    } else if word == b"finish".as_slice() {
+        Some(Review::Finish)
+    } else if word == b"close".as_slice() {
+        Some(Review::Close)
+    } else {
+        None
+    }
+}
+
+/// For whom something is set otherwise, by a word.
+pub fn whom_in(word: &[u8]) -> Option<Whom>
+    ensures { result ≡ whom_of word.now }
+{
+    if word == b"user".as_slice() {
+        Some(Whom::User)
+    } else if word == b"group".as_slice() {
+        Some(Whom::Group)
+    } else {
+        None
+    }
+}
+
+/// The method of grading that a word names.
+pub fn method_in(word: &[u8]) -> Option<Method>
+    ensures { result ≡ method_of word.now }
+{
+    if word == b"highest".as_slice() {
+        Some(Method::Highest)
+    } else if word == b"average".as_slice() {
+        Some(Method::Average)
+    } else if word == b"first".as_slice() {
+        Some(Method::First)
+    } else if word == b"last".as_slice() {
+        Some(Method::Last)
+    } else {
+        None
+    }
+}
+
+/// The grade of a quiz that a word spells, from 0 to 10,000.
+pub fn quiz_grade_in(word: &[u8]) -> Option<Grade>
+    ensures value { result ≡ quiz_grade_of word.now }
+    ensures range { IfSome result (λ grade. is_quiz_grade grade ≡ true) }
+{
+    Grade::read(word).ok()
+}
+
+// ---- marks
 
 /// The mark that a word spells, from -100,000 to 100,000.
 pub fn mark_in(word: &[u8]) -> Option<Mark>

@@ -3,13 +3,14 @@
 ghost use Rattle.std.specs.Prelude.{IfOk};
 ghost use Rattle.qz_wire.specs.Asking.{IsOfVerb};
 ghost use Rattle.qz_wire.specs.Faults.{ReadsOr};
-ghost use Rattle.qz_wire.specs.Requests.{user_of, group_of, member_of, import_of, edit_of, tune_of, bank_of, quiz_of, slot_request_of, ready_of, remax_of};
+ghost use Rattle.qz_wire.specs.Requests.{user_of, group_of, member_of, import_of, edit_of, tune_of, bank_of, quiz_of, slot_request_of, ready_of, remax_of, policy_of, times_of, override_of};
 ghost use Rattle.qz_wire.specs.Words.{words_after, Reads};
 ghost use Rattle.qz_wire.specs.declared.verbs.Verb.{Verb};
 
 use crate::arguments::{
-    bank_at, behaviour_at, end, hints_at, mark_at, name_at, number_at, penalty_at, question_at,
-    role_at, slot_at, token_at,
+    allowed_at, bank_at, behaviour_at, duration_at, end, handling_at, hints_at, mark_at, method_at,
+    moment_at, name_at, number_at, own_allowed_at, own_duration_at, own_moment_at, penalty_at,
+    question_at, quiz_grade_at, review_at, role_at, slot_at, token_at, whom_at,
 };
 use crate::words::WordFault;
 use qz_grading::Refusal;
@@ -142,4 +143,70 @@ pub fn remax(mut rest: &[u8]) -> Result<Request, WordFault>
     let max = mark_at(&mut rest, 7)?;
     end(rest, 8)?;
     Ok(Request::Remax { quiz, slot, max })
+}
+
+#[tactic(auto, unfolding(crate::specs::Requests::policy_of))]
+pub fn policy(mut rest: &[u8]) -> Result<Request, WordFault>
+    ensures value { Reads (λ x. x) result (policy_of (words_after rest.now)) }
+    ensures verb { IfOk result (IsOfVerb Verb.Policy) }
+{
+    let quiz = number_at(&mut rest, 5)?;
+    let method = method_at(&mut rest, 6)?;
+    let grade = quiz_grade_at(&mut rest, 7)?;
+    end(rest, 8)?;
+    Ok(Request::Policy {
+        quiz,
+        method,
+        grade,
+    })
+}
+
+#[tactic(auto, unfolding(crate::specs::Requests::times_of))]
+pub fn times(mut rest: &[u8]) -> Result<Request, WordFault>
+    ensures value { Reads (λ x. x) result (times_of (words_after rest.now)) }
+    ensures verb { IfOk result (IsOfVerb Verb.Times) }
+{
+    let quiz = number_at(&mut rest, 5)?;
+    let opens = moment_at(&mut rest, 6)?;
+    let closes = moment_at(&mut rest, 7)?;
+    let limit = duration_at(&mut rest, 8)?;
+    let allowed = allowed_at(&mut rest, 9)?;
+    let handling = handling_at(&mut rest, 10)?;
+    let grace = duration_at(&mut rest, 11)?;
+    let review = review_at(&mut rest, 12)?;
+    end(rest, 13)?;
+    Ok(Request::Times {
+        quiz,
+        opens,
+        closes,
+        limit,
+        allowed,
+        handling,
+        grace,
+        review,
+    })
+}
+
+#[tactic(auto, unfolding(crate::specs::Requests::override_of))]
+pub fn set_otherwise(mut rest: &[u8]) -> Result<Request, WordFault>
+    ensures value { Reads (λ x. x) result (override_of (words_after rest.now)) }
+    ensures verb { IfOk result (IsOfVerb Verb.Override) }
+{
+    let quiz = number_at(&mut rest, 5)?;
+    let whom = whom_at(&mut rest, 6)?;
+    let number = number_at(&mut rest, 7)?;
+    let opens = own_moment_at(&mut rest, 8)?;
+    let closes = own_moment_at(&mut rest, 9)?;
+    let limit = own_duration_at(&mut rest, 10)?;
+    let allowed = own_allowed_at(&mut rest, 11)?;
+    end(rest, 12)?;
+    Ok(Request::Override {
+        quiz,
+        whom,
+        number,
+        opens,
+        closes,
+        limit,
+        allowed,
+    })
 }

@@ -1,7 +1,7 @@
 //! The commands of lines.
 
 ghost use Rattle.std.specs.Prelude.{◌≡◌};
-ghost use Rattle.qz_wire.specs.Asking.{verb_of, takes_key};
+ghost use Rattle.qz_wire.specs.Asking.{attempt_verb_of, verb_of, takes_key};
 
 use qz_text::Text;
 
@@ -18,11 +18,19 @@ pub enum Verb {
     Slot,
     Ready,
     Remax,
+    Policy,
+    Times,
+    Override,
     Start,
     Save,
     Submit,
     Again,
     Finish,
+    Mark,
+    Settle,
+    Live,
+    View,
+    Total,
     Grade,
     Bank,
 }
@@ -51,7 +59,24 @@ pub fn verb_in(word: &[u8]) -> Option<Verb>
         Some(Verb::Ready)
     } else if word == b"remax".as_slice() {
         Some(Verb::Remax)
-    } else if word == b"start".as_slice() {
+    } else if word == b"policy".as_slice() {
+        Some(Verb::Policy)
+    } else if word == b"times".as_slice() {
+        Some(Verb::Times)
+    } else if word == b"override".as_slice() {
+        Some(Verb::Override)
+    } else if word == b"bank".as_slice() {
+        Some(Verb::Bank)
+    } else {
+        attempt_verb_in(word)
+    }
+}
+
+/// The command about an attempt or a grade that a word is.
+fn attempt_verb_in(word: &[u8]) -> Option<Verb>
+    ensures { result ≡ attempt_verb_of word.now }
+{
+    if word == b"start".as_slice() {
         Some(Verb::Start)
     } else if word == b"save".as_slice() {
         Some(Verb::Save)
@@ -61,10 +86,18 @@ pub fn verb_in(word: &[u8]) -> Option<Verb>
         Some(Verb::Again)
     } else if word == b"finish".as_slice() {
         Some(Verb::Finish)
+    } else if word == b"mark".as_slice() {
+        Some(Verb::Mark)
+    } else if word == b"settle".as_slice() {
+        Some(Verb::Settle)
+    } else if word == b"live".as_slice() {
+        Some(Verb::Live)
+    } else if word == b"view".as_slice() {
+        Some(Verb::View)
+    } else if word == b"total".as_slice() {
+        Some(Verb::Total)
     } else if word == b"grade".as_slice() {
         Some(Verb::Grade)
-    } else if word == b"bank".as_slice() {
-        Some(Verb::Bank)
     } else {
         None
     }
@@ -75,7 +108,8 @@ pub fn takes_key(verb: Verb, key: &Option<Text>) -> bool
     ensures { result ≡ takes_key verb key.now }
 {
     match verb {
-        Verb::Grade | Verb::Bank => key.is_none(),
+        Verb::Settle | Verb::Live | Verb::View | Verb::Total | Verb::Grade | Verb::Bank =>
+            key.is_none(),
         Verb::User
         | Verb::Group
         | Verb::Member
@@ -86,10 +120,14 @@ pub fn takes_key(verb: Verb, key: &Option<Text>) -> bool
         | Verb::Slot
         | Verb::Ready
         | Verb::Remax
+        | Verb::Policy
+        | Verb::Times
+        | Verb::Override
         | Verb::Start
         | Verb::Save
         | Verb::Submit
         | Verb::Again
-        | Verb::Finish => key.is_some(),
+        | Verb::Finish
+        | Verb::Mark => key.is_some(),
     }
 }

@@ -1,9 +1,10 @@
 //! The words of a line: numbers, attempts, tokens and keys.
 
 ghost use Rattle.std.specs.List.{list_all};
-ghost use Rattle.std.specs.Prelude.{◌≡◌, ◌≤◌, ◌∷◌, [], Some, MatchOption, IfSome, option_copied, option_map};
+ghost use Rattle.std.specs.Prelude.{◌≡◌, ◌≤◌, ◌∷◌, [], Some, true, MatchOption, IfSome, option_copied, option_map};
 ghost use Rattle.qz_wire.specs.Numbered.{line_at as word_at};
-ghost use Rattle.qz_wire.specs.Words.{parts_at, words_of, words_after, moment_of, number_of, slot_of, certainty_of, attempt_of, is_dash, is_token_byte, is_token, token_of, key_of, Reads, IsCutAt};
+ghost use Rattle.qz_terms.specs.Kept.{is_moment, is_duration, is_allowed, if_there};
+ghost use Rattle.qz_wire.specs.Words.{parts_at, words_of, words_after, moment_of, number_of, slot_of, shard_of, certainty_of, duration_of, allowed_of, attempt_of, is_dash, is_token_byte, is_token, token_of, or_dash, key_of, Reads, IsCutAt};
 
 use crate::lines::{number, place_of};
 use qz_grading::{AttemptId, Refusal};
@@ -44,6 +45,12 @@ impl From<WordFault> for Refusal {
 
 /// The greatest moment, at the end of 2099.
 const LAST_MOMENT: u32 = 4_102_444_799;
+
+/// The longest time in seconds, 365 days.
+const LONGEST_DURATION: u32 = 31_536_000;
+
+/// The most attempts that a quiz may allow.
+const MOST_ALLOWED: u32 = 1_000;
 
 /// A token or a key has at most so many bytes.
 const TOKEN: usize = 64;
@@ -100,12 +107,35 @@ pub fn slot_in(word: &[u8]) -> Option<u16>
     Some(number(word, 0, 65_535)? as u16)
 }
 
+/// The number of a shard.
+pub fn shard_in(word: &[u8]) -> Option<u8>
+    ensures { result ≡ shard_of word.now }
+{
+    Some(number(word, 0, 255)? as u8)
+}
+
 /// How certain a student is, from 0 (not given) to 3.
 pub fn certainty_in(word: &[u8]) -> Option<u8>
     ensures value { result ≡ certainty_of word.now }
     ensures range { IfSome result (λ certainty. certainty ≤ 3) }
 {
     Some(number(word, 0, 3)? as u8)
+}
+
+/// The time that a word spells, in seconds, at most 365 days.
+pub fn duration_in(word: &[u8]) -> Option<u32>
+    ensures value { result ≡ duration_of word.now }
+    ensures range { IfSome result (λ seconds. is_duration seconds ≡ true) }
+{
+    number(word, 0, LONGEST_DURATION)
+}
+
+/// How many attempts there may be, at most 1,000.
+pub fn allowed_in(word: &[u8]) -> Option<u32>
+    ensures value { result ≡ allowed_of word.now }
+    ensures range { IfSome result (λ allowed. is_allowed allowed ≡ true) }
+{
+    number(word, 0, MOST_ALLOWED)
 }
 
 /// The attempt that `USER.NTH` names.
@@ -165,4 +195,36 @@ pub fn key_in(word: &[u8]) -> Option<Option<&str>>
         return Some(None);
     }
     Some(Some(token_in(word)?))
+}
+
+// ---- what is set otherwise, or nothing for a dash
+
+pub fn own_moment_in(word: &[u8]) -> Option<Option<u64>>
+    ensures value { result ≡ or_dash moment_of word.now }
+    ensures range { IfSome result (λ own. if_there is_moment own ≡ true) }
+{
+    if is_dash(word) {
+        return Some(None);
+    }
+    Some(Some(moment_in(word)?))
+}
+
+pub fn own_duration_in(word: &[u8]) -> Option<Option<u32>>
+    ensures value { result ≡ or_dash duration_of word.now }
+    ensures range { IfSome result (λ own. if_there is_duration own ≡ true) }
+{
+    if is_dash(word) {
+        return Some(None);
+    }
+    Some(Some(duration_in(word)?))
+}
+
+pub fn own_allowed_in(word: &[u8]) -> Option<Option<u32>>
+    ensures value { result ≡ or_dash allowed_of word.now }
+    ensures range { IfSome result (λ own. if_there is_allowed own ≡ true) }
+{
+    if is_dash(word) {
+        return Some(None);
+    }
+    Some(Some(allowed_in(word)?))
 }
