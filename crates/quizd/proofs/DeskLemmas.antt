@@ -1,7 +1,9 @@
 -- A request to a school of one shard.
-use Rattle.std.proofs.Common.{◌≡◌, ℕ, zero, suc, ◌%◌, Bool, true, false, not, ◌||◌, List, [], ◌∷◌, Option, Some, None, refl, sym, ap, ◌∙◌, subst, inr, arith}
+use Rattle.std.proofs.Common.{◌≡◌, ℕ, zero, suc, ◌<◌, ◌%◌, Bool, true, false, not, ◌||◌, List, [], ◌∷◌, Option, Some, None, refl, sym, ap, ◌∙◌, subst, inr, arith}
 use Rattle.std.specs.List.{list_any}
-use Rattle.std.specs.Prelude.{is_none, is_some, if◌then◌else◌, option_map, unwrap_or}
+use Rattle.std.specs.Prelude.{is_none, is_some, if◌then◌else◌, nat_le, option_map, unwrap_or}
+use Rattle.std.proofs.lemmas.Bool.Decides.{nat_tests}
+use Rattle.qz_grading.specs.declared.refusal.AttemptId.{AttemptId}
 use Rattle.qz_grading.specs.declared.refusal.Refusal.{Refusal}
 use Rattle.qz_grading.specs.declared.refusal.Refusal.TheVariants as refusal
 use Rattle.qz_grading.specs.declared.refusal.Thing.TheVariants as thing
@@ -16,7 +18,7 @@ use Rattle.qz_terms.specs.declared.reply.Reply.{Reply}
 use Rattle.qz_terms.specs.declared.reply.Reply.TheVariants as reply
 use Rattle.qz_terms.specs.declared.request.Request.{Request}
 use Rattle.qz_terms.specs.declared.request.Request.TheVariants as request
-use Rattle.qz_terms.specs.Answer.{answer_here, list_after, named_user}
+use Rattle.qz_terms.specs.Answer.{answer_here, list_after, live_answer, named_user}
 use Rattle.qz_terms.specs.CatalogAnswer.{asks_catalog, catalog_after, catalog_answer, catalog_verdict}
 use Rattle.qz_terms.specs.SchoolAnswer.{after_by, answer_among, answer_by, asked_part, catalog_list, first_refusal, part_at, part_of, plan_for, refusal_among, school_answer, school_answer_by, shard_list, user_answer}
 use Rattle.qz_terms.specs.Catalog as catalog
@@ -27,7 +29,7 @@ use Rattle.qz_terms.specs.Serial.{Asks, Lists, Turn, answered, goes_on, is_catal
 use Rattle.qz_terms.proofs.Joined.{joined_law}
 use Rattle.qz_wire.specs.Asking.{HasToken}
 use Rattle.quizd.specs.Solo.{asks_shard, one_shard}
-use Rattle.quizd.specs.Retries.{IsAskedOnce, is_keep_fault}
+use Rattle.quizd.specs.Retries.{IsAskedOnce, StandsIn, is_keep_fault}
 use Rattle.quizd.proofs.StandingLemmas.{answered_once, own_reply, planless_stands, recorded_once, refused_once, refused_stands, unknown_stands}
 
 -- ---- turns
@@ -161,9 +163,6 @@ if-there : (b : Bool) (o : Option ℕ) → b ≡ true → (if b then o else None
 if-there true o e = refl
 if-there false o e = absurd cc
 
-unread_by : (c h : List Record) (ask : Ask) (user : User) (r : Refusal) → is_served ask.request ≡ true → catalog.user_of c ask.caller ≡ Some user → first_refusal c user ask.request ≡ Some r → part_read (one_shard c h) ask ≡ None
-unread_by c h ask user r served found refused = if-none (goes_on (one_shard c h) ask) (asked_part c 1 ask) (goes-by c h ask user served found ∙ ap is_none refused)
-
 -- nobody has the token
 pub unknown_asks : (c h : List Record) (now : ℕ) (ask : Ask) → catalog.user_of c ask.caller ≡ None → IsAskedOnce (one_shard c h) (one_shard c h) now ask (reply.Refused refusal.UnknownToken)
 unknown_asks c h now ask none =
@@ -172,15 +171,18 @@ unknown_asks c h now ask none =
     let t = turned c h now ask (one_shard c h) (reply.Refused refusal.UnknownToken) (same_parts c h now ask (catalog-unknown c now ask none) unread) said in
     refused_once c h now ask refusal.UnknownToken t.asks t.keeper (λ told s. absurd (unknown_stands c h ask told none s))
 
--- the catalogue refuses it
-refused-so : (c h : List Record) (now : ℕ) (ask : Ask) (user : User) (r : Refusal) → is_served ask.request ≡ true → catalog.user_of c ask.caller ≡ Some user → first_refusal c user ask.request ≡ Some r → IsAskedOnce (one_shard c h) (one_shard c h) now ask (reply.Refused r)
-refused-so c h now ask user r served found refused =
-    let said : user_answer c h now ask user ≡ reply.Refused r = rw refused refl in
-    let t = turned c h now ask (one_shard c h) (reply.Refused r) (same_parts c h now ask (catalog-refused c now ask user r found refused) (unread_by c h ask user r served found refused)) (said_by c h now ask user served found ∙ said) in
-    refused_once c h now ask r t.asks t.keeper (λ told s. absurd (refused_stands c h ask told user r found refused s))
+-- it is refused before a shard is asked
+refused-among : (c h : List Record) (now : ℕ) (ask : Ask) (user : User) (r : Refusal) → asks_catalog ask.request ≡ false → catalog.user_of c ask.caller ≡ Some user → refusal_among c 1 user ask.request ≡ Some r → ((told : Reply) → StandsIn (one_shard c h) ask told → ⊥)
+    → IsAskedOnce (one_shard c h) (one_shard c h) now ask (reply.Refused r)
+refused-among c h now ask user r other found refused nowhere =
+    let goes : goes_on (one_shard c h) ask ≡ false = rw (found, refused) refl in
+    let said : reply_over (one_shard c h) now ask ≡ reply.Refused r = rw (found, refused) refl in
+    let t = turned c h now ask (one_shard c h) (reply.Refused r) (same_parts c h now ask (catalog-kept c now ask other) (if-none (goes_on (one_shard c h) ask) (asked_part c 1 ask) goes)) said in
+    refused_once c h now ask r t.asks t.keeper (λ told s. absurd (nowhere told s))
 
-pub refused_asks : (c h : List Record) (now : ℕ) (ask : Ask) (user : User) (r : Refusal) → asks_shard ask.request ≡ true → catalog.user_of c ask.caller ≡ Some user → first_refusal c user ask.request ≡ Some r → IsAskedOnce (one_shard c h) (one_shard c h) now ask (reply.Refused r)
-refused_asks c h now ask user r shard found refused = refused-so c h now ask user r (of-shard ask.request shard) found refused
+-- by the rules of callers, or since the catalogue doesn't have what it names
+pub refused_asks : (c h : List Record) (now : ℕ) (ask : Ask) (user : User) (r : Refusal) → asks_catalog ask.request ≡ false → catalog.user_of c ask.caller ≡ Some user → first_refusal c user ask.request ≡ Some r → IsAskedOnce (one_shard c h) (one_shard c h) now ask (reply.Refused r)
+refused_asks c h now ask user r other found refused = refused-among c h now ask user r other found (rw refused refl) (λ told s. refused_stands c h ask told user r found refused s)
 
 -- ---- a request to the shard
 
@@ -238,6 +240,44 @@ no_attempt_asks c h now ask user shard found free none =
     let list : shard_list c h now ask ≡ h = rw (found, free) (no_plan-list c h now user ask ask.request shard none) in
     let t = turned c h now ask (one_shard c h) (reply.Refused (refusal.Unknown thing.Attempt)) (shard_lists c h h now ask user shard found free list) (said_by c h now ask user (of-shard ask.request shard) found ∙ said) in
     refused_once c h now ask (refusal.Unknown thing.Attempt) t.asks t.keeper (λ told s. absurd (planless_stands c h ask told user found (not_catalog ask.request shard) none s))
+
+-- ---- a request for the attempts that go on
+
+live-stands : (c h : List Record) (ask : Ask) (told : Reply) (user : User) (shard : ℕ) (a : AttemptId) → ask.request ≡ request.Live shard a → catalog.user_of c ask.caller ≡ Some user → StandsIn (one_shard c h) ask told → ⊥
+live-stands c h ask told user shard a is found s = planless_stands c h ask told user found (rw is refl) (rw is refl) s
+
+-- there is but one shard
+pub nowhere_asks : (c h : List Record) (now : ℕ) (ask : Ask) (user : User) (shard : ℕ) (a : AttemptId) → ask.request ≡ request.Live shard a → catalog.user_of c ask.caller ≡ Some user → forbidden user ask.request ≡ None → 0 < shard
+    → IsAskedOnce (one_shard c h) (one_shard c h) now ask (reply.Refused (refusal.Unknown thing.Shard))
+nowhere_asks c h now ask user shard a is found may past =
+    let none : forbidden user (request.Live shard a) ≡ None = rw is at may in
+    let test : nat_le 1 shard ≡ true = grind (arith, nat_tests) in
+    refused-among c h now ask user (refusal.Unknown thing.Shard) (rw is refl) found (rw (is, none, test) refl) (λ told s. live-stands c h ask told user shard a is found s)
+
+no-key : (key : Option (List ℕ)) → is_none key ≡ true → is_some key ≡ true → ⊥
+no-key None none some = absurd cc
+no-key (Some key) none some = absurd cc
+
+-- it is told, and stands nowhere, since it has no key
+pub live_asks : (c h : List Record) (now : ℕ) (ask : Ask) (user : User) (a : AttemptId) → ask.request ≡ request.Live 0 a → is_keyed ask ≡ true → catalog.user_of c ask.caller ≡ Some user → forbidden user ask.request ≡ None → IsAskedOnce (one_shard c h) (one_shard c h) now ask (live_answer h a)
+live_asks c h now ask user a is keyed found may =
+    let free : forbidden user (request.Live 0 a) ≡ None = rw is at may in
+    let among : refusal_among c 1 user ask.request ≡ None = rw (is, free) refl in
+    let goes : goes_on (one_shard c h) ask ≡ true = rw (found, among) refl in
+    let part : part_read (one_shard c h) ask ≡ Some 0 = if-there (goes_on (one_shard c h) ask) (asked_part c 1 ask) goes ∙ rw (found, is) refl in
+    let kept : shard_list c h now ask ≡ h = rw (found, is, free) refl in
+    let other : asks_catalog ask.request ≡ false = rw is refl in
+    let lists : lists_over (one_shard c h) now ask ≡ one_shard c h = rw (part, catalog-held c h now ask (catalog-kept c now ask other), kept) refl in
+    let said : reply_over (one_shard c h) now ask ≡ live_answer h a = rw (found, is, free) refl in
+    let t = turned c h now ask (one_shard c h) (live_answer h a) lists said in
+    let keyless : is_none ask.key ≡ true = rw is at keyed in
+    record {
+      asks = t.asks;
+      keeper = t.keeper;
+      stands = λ place d some told. absurd (no-key ask.key keyless some);
+      stays = λ x told s. s;
+      again = λ told s. absurd (live-stands c h ask told user 0 a is found s);
+    }
 
 -- ---- a request to the catalogue
 

@@ -21,7 +21,7 @@ use Rattle.qz_terms.specs.declared.reply.Reply.{Reply}
 use Rattle.qz_terms.specs.declared.request.Request.{Request}
 use Rattle.qz_terms.specs.declared.request.Request.TheVariants as request
 use Rattle.qz_terms.specs.Access.{settled_by}
-use Rattle.qz_terms.specs.Answer.{acted_or_noted, event_here, is_overdue, list_after, list_with, moment_of, put_here, record_under}
+use Rattle.qz_terms.specs.Answer.{acted_or_noted, event_here, is_overdue, list_with, moment_of, put_here, record_under}
 use Rattle.qz_terms.specs.Cause.{Denied, Granted, Repeated, Verdict, verdict_here}
 use Rattle.qz_terms.specs.History.{floor_by}
 use Rattle.quizd.specs.Solo.{NoJobIsDone}

@@ -1,11 +1,11 @@
 -- How a catalogue and one shard answer what they are asked.
-use Rattle.std.proofs.Common.{◌≡◌, ◌⊎◌, inl, inr, ℕ, ◌%◌, Bool, true, false, List, [], ◌∷◌, ◌++◌, Option, Some, None, Result, Ok, Err, length, option_map, refl, sym, ap, ◌∙◌, subst, arith, eq-eqb}
+use Rattle.std.proofs.Common.{◌≡◌, ◌⊎◌, inl, inr, ℕ, ◌<◌, ◌%◌, Bool, true, false, List, [], ◌∷◌, Option, Some, None, Result, Ok, Err, length, option_map, refl, sym, ap, ◌∙◌, subst, arith, eq-eqb}
 use Rattle.std.specs.Prelude.{◌==◌, IfErr, IfOk, MatchResult, OnOk, is_none, is_some, option_and_then}
 use Rattle.qz_grading.specs.declared.refusal.AttemptId.{AttemptId}
 use Rattle.qz_grading.specs.declared.refusal.Refusal.{Refusal}
 use Rattle.qz_grading.specs.declared.refusal.Refusal.TheVariants as refusal
 use Rattle.qz_grading.specs.declared.refusal.Thing.TheVariants as thing
-use Rattle.qz_grading.specs.Behaviours.{first_some, when}
+use Rattle.qz_grading.specs.Behaviours.{first_some}
 use Rattle.qz_grading.specs.Grading.{at_place}
 use Rattle.qz_terms.specs.declared.ask.Ask.{Ask}
 use Rattle.qz_terms.specs.declared.people.Caller.{Caller}
@@ -17,7 +17,7 @@ use Rattle.qz_terms.specs.declared.reply.Reply.{Reply}
 use Rattle.qz_terms.specs.declared.reply.Reply.TheVariants as reply
 use Rattle.qz_terms.specs.declared.request.Request.{Request}
 use Rattle.qz_terms.specs.declared.request.Request.TheVariants as request
-use Rattle.qz_terms.specs.Answer.{answer_here, attempt_named, list_after}
+use Rattle.qz_terms.specs.Answer.{answer_here, attempt_named, list_after, live_answer}
 use Rattle.qz_terms.specs.CatalogAnswer.{asks_catalog}
 use Rattle.qz_terms.specs.SchoolAnswer.{first_refusal, plan_for}
 use Rattle.qz_terms.specs.Catalog as catalog
@@ -37,7 +37,7 @@ use Rattle.qz_shard.specs.Holdings.{Answers, Holding, StartsHere}
 use Rattle.qz_wire.specs.Asking.{HasToken, IsRead}
 use Rattle.quizd.specs.Retries.{IsAskedOnce}
 use Rattle.quizd.specs.Solo.{IsPlanned, IsSolo, IsUnplanned, NoJobIsDone, absent, asks_shard, one_shard, refused, wants}
-use Rattle.quizd.proofs.DeskLemmas.{catalog_asks, no_attempt_asks, refused_asks, shard_asks, unknown_asks, wants_memory}
+use Rattle.quizd.proofs.DeskLemmas.{catalog_asks, live_asks, no_attempt_asks, not_catalog, nowhere_asks, refused_asks, shard_asks, unknown_asks, wants_memory}
 use Rattle.quizd.proofs.StandingLemmas.{grown_records}
 
 -- ---- the shard
@@ -94,12 +94,12 @@ answers_agree c h g now ask user given told legal agree found p (inr both) = sub
 first-refused : (c : List Record) (user : User) (x : Request) (r : Refusal) → forbidden user x ≡ Some r → first_refusal c user x ≡ Some r
 first-refused c user x r may = rw may refl
 
-pub forbidden_ask : (c h : List Record) (now : ℕ) (ask : Ask) (user : User) (r : Refusal) → asks_shard ask.request ≡ true → catalog.user_of c ask.caller ≡ Some user → forbidden user ask.request ≡ Some r → IsAskedOnce (one_shard c h) (one_shard c h) now ask (reply.Refused r)
-forbidden_ask c h now ask user r shard found may = refused_asks c h now ask user r shard found (first-refused c user ask.request r may)
+pub forbidden_ask : (c h : List Record) (now : ℕ) (ask : Ask) (user : User) (r : Refusal) → asks_catalog ask.request ≡ false → catalog.user_of c ask.caller ≡ Some user → forbidden user ask.request ≡ Some r → IsAskedOnce (one_shard c h) (one_shard c h) now ask (reply.Refused r)
+forbidden_ask c h now ask user r other found may = refused_asks c h now ask user r other found (first-refused c user ask.request r may)
 
 pub unplanned_ask : (c h : List Record) (now : ℕ) (ask : Ask) (user : User) (r : Refusal) → asks_shard ask.request ≡ true → catalog.user_of c ask.caller ≡ Some user → IsUnplanned c h user ask.request r → IsAskedOnce (one_shard c h) (one_shard c h) now ask (reply.Refused r)
 unplanned_ask c h now ask user r shard found (wants memory) = rw memory (wants_memory c h now ask)
-unplanned_ask c h now ask user r shard found (refused first) = refused_asks c h now ask user r shard found first
+unplanned_ask c h now ask user r shard found (refused first) = refused_asks c h now ask user r (not_catalog ask.request shard) found first
 unplanned_ask c h now ask user r shard found (absent free none is) = rw is (no_attempt_asks c h now ask user shard found free none)
 
 -- ---- users
@@ -110,6 +110,15 @@ unknown_user c h now ask token r is (inr both) = rw both.0 (unknown_asks c h now
 
 pub user_found : (c : List Record) (who : Caller) (token : List ℕ) (user : User) → who ≡ caller.Token token → catalog.user_of_token c token ≡ Some user → catalog.user_of c who ≡ Some user
 user_found c who token user is found = rw is found
+
+-- ---- the attempts that go on
+
+pub live_told : (c h : List Record) (now : ℕ) (ask : Ask) (user : User) (shard : ℕ) (a : AttemptId) (told : Result Reply Refusal) → ask.request ≡ request.Live shard a → is_keyed ask ≡ true → catalog.user_of c ask.caller ≡ Some user → forbidden user ask.request ≡ None
+    → IfOk told (λ r. (shard ≡ 0) × (r ≡ live_answer h a)) → IfErr told (λ r. (r ≡ refusal.Memory) ⊎ ((0 < shard) × (r ≡ refusal.Unknown thing.Shard)))
+    → MatchResult told (IsAskedOnce (one_shard c h) (one_shard c h) now ask) (λ r. IsAskedOnce (one_shard c h) (one_shard c h) now ask (reply.Refused r))
+live_told c h now ask user shard a (Ok r) is keyed found may ok none = rw ok.1 (live_asks c h now ask user a (is ∙ ap (λ (n : ℕ). request.Live n a) ok.0) keyed found may)
+live_told c h now ask user shard a (Err r) is keyed found may none (inl memory) = rw memory (wants_memory c h now ask)
+live_told c h now ask user shard a (Err r) is keyed found may none (inr past) = rw past.1 (nowhere_asks c h now ask user shard a is found may past.0)
 
 -- ---- the catalogue
 
@@ -270,25 +279,33 @@ plans_absent c h user x a r may named none is =
 
 -- ---- the two kinds of requests
 
-pub shard_read : (x : Request) → IsRead x → asks_catalog x ≡ false → asks_shard x ≡ true
-shard_read (request.Start quiz) read other = refl
-shard_read (request.Save a k certainty response) read other = refl
-shard_read (request.Submit a k certainty response) read other = refl
-shard_read (request.Again a k) read other = refl
-shard_read (request.Finish a) read other = refl
-shard_read (request.Grade quiz owner) read other = refl
-shard_read (request.User name role token) read other = absurd cc
-shard_read (request.Group name) read other = absurd cc
-shard_read (request.Member group user) read other = absurd cc
-shard_read (request.Import gift) read other = absurd cc
-shard_read (request.Edit entry gift) read other = absurd cc
-shard_read (request.Tune entry penalty hints) read other = absurd cc
-shard_read (request.Quiz name behaviour) read other = absurd cc
-shard_read (request.Slot quiz entry max) read other = absurd cc
-shard_read (request.Ready quiz) read other = absurd cc
-shard_read (request.Remax quiz slot max) read other = absurd cc
-shard_read (request.Bank entry version) read other = absurd cc
-shard_read x read other = absurd read
+pub shard_read : (x : Request) → IsRead x → asks_catalog x ≡ false → ((shard : ℕ) (a : AttemptId) → x ≡ request.Live shard a → ⊥) → asks_shard x ≡ true
+shard_read (request.Start quiz) read other still = refl
+shard_read (request.Save a k certainty response) read other still = refl
+shard_read (request.Submit a k certainty response) read other still = refl
+shard_read (request.Again a k) read other still = refl
+shard_read (request.Finish a) read other still = refl
+shard_read (request.Mark a k mark) read other still = refl
+shard_read (request.Settle a) read other still = refl
+shard_read (request.View a k) read other still = refl
+shard_read (request.Total a) read other still = refl
+shard_read (request.Grade quiz owner) read other still = refl
+shard_read (request.Live shard a) read other still = absurd (still shard a refl)
+shard_read (request.User name role token) read other still = absurd cc
+shard_read (request.Group name) read other still = absurd cc
+shard_read (request.Member group user) read other still = absurd cc
+shard_read (request.Import gift) read other still = absurd cc
+shard_read (request.Edit entry gift) read other still = absurd cc
+shard_read (request.Tune entry penalty hints) read other still = absurd cc
+shard_read (request.Quiz name behaviour) read other still = absurd cc
+shard_read (request.Slot quiz entry max) read other still = absurd cc
+shard_read (request.Ready quiz) read other still = absurd cc
+shard_read (request.Remax quiz slot max) read other still = absurd cc
+shard_read (request.Policy quiz method grade) read other still = absurd cc
+shard_read (request.Times quiz opens closes limit allowed handling grace review) read other still = absurd cc
+shard_read (request.Override quiz whom number opens closes limit allowed) read other still = absurd cc
+shard_read (request.Bank entry version) read other still = absurd cc
+shard_read x read other still = absurd read
 
 -- ---- the school, seen as its lists
 
@@ -318,6 +335,15 @@ pub told_by : (c : List Record) (s m g : Holding) (now : ℕ) (ask : Ask) (user 
     → (g.index ≡ m.index) × (g.count ≡ m.count) → IsTold c s g now ask user given told
 told_by c s m g now ask user given told same planned answer jobless shard =
     subst (λ (k : Holding). IsTold c k g now ask user given told) same (record { planned = subst (λ (k : Holding). IsPlanned c k.records user ask.request given) (sym same) planned; answer = answer; jobless = jobless; shard = shard })
+
+-- the attempts that go on, by a shard that stays
+pub live_seen : (l : Lists) (c : List Record) (s g : Holding) (now : ℕ) (ask : Ask) (user : User) (shard : ℕ) (a : AttemptId) (told : Result Reply Refusal) → one_shard c s.records ≡ l → g ≡ s → ask.request ≡ request.Live shard a → is_keyed ask ≡ true
+    → catalog.user_of c ask.caller ≡ Some user → forbidden user ask.request ≡ None → IfOk told (λ r. (shard ≡ 0) × (r ≡ live_answer s.records a)) → IfErr told (λ r. (r ≡ refusal.Memory) ⊎ ((0 < shard) × (r ≡ refusal.Unknown thing.Shard)))
+    → MatchResult told (IsAskedOnce l (one_shard c g.records) now ask) (λ r. IsAskedOnce l (one_shard c g.records) now ask (reply.Refused r))
+live_seen l c s g now ask user shard a told view same is keyed found may ok none =
+    subst (λ (b : Lists). MatchResult told (IsAskedOnce b (one_shard c g.records) now ask) (λ r. IsAskedOnce b (one_shard c g.records) now ask (reply.Refused r))) view
+    (subst (λ (k : Holding). MatchResult told (IsAskedOnce (one_shard c s.records) (one_shard c k.records) now ask) (λ r. IsAskedOnce (one_shard c s.records) (one_shard c k.records) now ask (reply.Refused r))) (sym same)
+    (live_told c s.records now ask user shard a told is keyed found may ok none))
 
 pub solo_told : (c : List Record) (s g : Holding) (now : ℕ) (ask : Ask) (user : User) (given : Plan) (told : Reply) → IsSolo c s → IsLegalCatalog c → catalog.user_of c ask.caller ≡ Some user → IsTold c s g now ask user given told → IsSolo c g
 solo_told c s g now ask user given told solo legal found t = record {

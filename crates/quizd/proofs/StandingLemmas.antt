@@ -1,5 +1,5 @@
 -- What stands in the lists of a school with one shard.
-use Rattle.std.proofs.Common.{◌≡◌, ℕ, zero, suc, Bool, true, false, List, [], ◌∷◌, ◌++◌, Option, Some, None, refl, sym, ap, ◌∙◌, subst, inl, append-nil}
+use Rattle.std.proofs.Common.{◌≡◌, ℕ, zero, suc, Bool, true, false, List, [], ◌++◌, Option, Some, None, refl, sym, ap, ◌∙◌, subst, inl, append-nil}
 use Rattle.std.specs.Prelude.{filter_map, is_some, option_and_then, option_map, option_to_list}
 use Rattle.std.proofs.lemmas.List.Elements.{filter_map-append}
 use Rattle.qz_grading.specs.declared.refusal.AttemptId.{AttemptId}
@@ -31,7 +31,7 @@ use Rattle.qz_school.proofs.Longer.{staying_law}
 use Rattle.qz_school.proofs.Places.{some-there}
 use Rattle.qz_school.proofs.Repeating.{repeating_law}
 use Rattle.quizd.specs.Solo.{one_shard}
-use Rattle.quizd.specs.Retries.{IsAskedOnce, IsSaidAgain, StandsIn, StandsInRecords, StandsInShard, in_records, in_shard, is_keep_fault}
+use Rattle.quizd.specs.Retries.{IsAskedOnce, IsSaidAgain, StandsIn, StandsInShard, in_records, in_shard, is_keep_fault}
 
 -- ---- no keeper fails
 

@@ -1,11 +1,12 @@
 //! The desk of a script: a catalogue and one shard, in memory.
 
-ghost use Rattle.std.specs.Prelude.{◌≡◌, ◌<◌, List, [], true, false, Some, None, IfOk, MatchResult};
+ghost use Rattle.std.specs.Prelude.{◌≡◌, ◌⊎◌, ◌<◌, List, [], true, false, Some, None, IfErr, IfOk, MatchResult};
 ghost use Rattle.qz_grading.specs.Grading.{at_place};
+ghost use Rattle.qz_grading.specs.declared.refusal.Refusal.TheVariants as refusal;
+ghost use Rattle.qz_grading.specs.declared.refusal.Thing.TheVariants as thing;
 ghost use Rattle.qz_shard.specs.Holdings.{Answers, IsAsked, StartsHere, is_change, is_look};
-ghost use Rattle.qz_terms.specs.Answer.{attempt_named};
+ghost use Rattle.qz_terms.specs.Answer.{live_answer};
 ghost use Rattle.qz_terms.specs.Catalog.{user_of, users};
-ghost use Rattle.qz_terms.specs.CatalogAnswer.{asks_catalog};
 ghost use Rattle.qz_terms.specs.Cause.{forbidden};
 ghost use Rattle.qz_terms.specs.Legal.{AllAgree};
 ghost use Rattle.qz_terms.specs.declared.reply.Reply.TheVariants as reply;
@@ -16,9 +17,11 @@ ghost use Rattle.quizd.specs.Solo.{IsPlanned, IsUnplanned, NoJobIsDone, asks_sha
 
 use crate::desk::Desk;
 use qz_catalog::Catalog;
-use qz_grading::{AttemptId, Refusal, Steps};
+use qz_grading::{AttemptId, Refusal, Steps, Thing};
 use qz_shard::{Older, Shard};
-use qz_terms::{Ask, Caller, Plan, Reply, Request, User, forbidden};
+use qz_terms::{
+    Ask, Caller, Done, Plan, Reply, Request, User, asks_catalog, attempt_named, forbidden,
+};
 use qz_text::{NoMemory, Text};
 use std::alloc::Global;
 use std::marker::{Brand, Model};
@@ -55,31 +58,6 @@ fn token_of(caller: &Caller) -> &Text
     }
 }
 
-/// Whether a request goes to the catalogue.
-fn goes_to_catalog(request: &Request) -> bool
-    ensures { result ≡ asks_catalog request.now }
-{
-    match request {
-        Request::User { .. }
-        | Request::Group { .. }
-        | Request::Member { .. }
-        | Request::Import { .. }
-        | Request::Edit { .. }
-        | Request::Tune { .. }
-        | Request::Quiz { .. }
-        | Request::Slot { .. }
-        | Request::Ready { .. }
-        | Request::Remax { .. }
-        | Request::Policy { .. }
-        | Request::Times { .. }
-        | Request::Override { .. }
-        | Request::Regrade { .. }
-        | Request::Jobs
-        | Request::Bank { .. } => true,
-        _ => false,
-    }
-}
-
 /// Whether a request only looks at a shard.
 fn looks(request: &Request) -> bool
     ensures { result ≡ is_look request.now }
@@ -88,24 +66,6 @@ fn looks(request: &Request) -> bool
         request,
         Request::View { .. } | Request::Total { .. } | Request::Page { .. } | Request::Grade { .. }
     )
-}
-
-/// The attempt that a request names, if it names one.
-fn attempt_named(request: &Request) -> Option<AttemptId>
-    ensures { result ≡ attempt_named request.now }
-{
-    match request {
-        Request::Save { attempt, .. }
-        | Request::Submit { attempt, .. }
-        | Request::Again { attempt, .. }
-        | Request::Finish { attempt }
-        | Request::Mark { attempt, .. }
-        | Request::Settle { attempt }
-        | Request::View { attempt, .. }
-        | Request::Total { attempt }
-        | Request::Page { attempt } => Some(*attempt),
-        _ => None,
-    }
 }
 
 // ---- the shard
@@ -204,6 +164,22 @@ fn plan_for(
     }
 }
 
+/// Which attempt of a shard, after this one, hasn't ended. The one shard that there is has the number 0.
+fn live(shard: &mut Shard, number: u8, after: AttemptId) -> Result<Reply, Refusal>
+    ensures told { IfOk result (λ told. (number ≡ 0) × (told ≡ live_answer shard.old.records after)) }
+    ensures refused { IfErr result (λ r. (r ≡ refusal.Memory) ⊎ ((0 < number) × (r ≡ refusal.Unknown thing.Shard))) }
+    ensures unchanged { shard.new ≡ shard.old }
+{
+    if number != 0 {
+        return Err(Refusal::Unknown { what: Thing::Shard });
+    }
+    let attempt = shard.live(after)?;
+    Ok(Reply::Ok {
+        place: shard.len(),
+        done: Done::Live { attempt },
+    })
+}
+
 impl Solo {
     /// A school that was just founded, with this token of its manager.
     pub fn new(alloc: Global, token: &str) -> Result<Solo, NoMemory>
@@ -226,14 +202,12 @@ impl Solo {
         requires served { asks_shard ask.now.request ≡ true }
         requires asked { CanBeAsked ask.now moment }
         requires found { user_of self.old.records.list ask.now.caller ≡ Some user.now }
+        requires may { forbidden user.now ask.now.request ≡ None }
         ensures { MatchResult result
             (IsAskedOnce self.old self.new moment ask.now)
             (λ r. IsAskedOnce self.old self.new moment ask.now (reply.Refused r)) }
     {
         let _records = self.catalog.len();
-        if let Some(refusal) = forbidden(user, &ask.request) {
-            return Err(refusal);
-        }
         let plan = plan_for(&self.catalog, &mut self.shard, alloc, user, &ask.request)?;
         Ok(told(&mut self.shard, alloc, user, &plan, ask, moment))
     }
@@ -246,10 +220,16 @@ impl Solo {
             (λ r. IsAskedOnce self.old self.new moment ask.now (reply.Refused r)) }
     {
         let user = self.catalog.user(alloc, token_of(&ask.caller))?;
-        if goes_to_catalog(&ask.request) {
+        if asks_catalog(&ask.request) {
             return Ok(self.catalog.apply(alloc, &user, ask, moment));
         }
-        self.answer_shard(alloc, &user, ask, moment)
+        if let Some(refusal) = forbidden(&user, &ask.request) {
+            return Err(refusal);
+        }
+        match &ask.request {
+            Request::Live { shard, attempt } => live(&mut self.shard, *shard, *attempt),
+            _ => self.answer_shard(alloc, &user, ask, moment),
+        }
     }
 }
 

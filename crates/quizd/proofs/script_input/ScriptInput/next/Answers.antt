@@ -1,7 +1,7 @@
 use Rattle.std.proofs.Common.{arith, refl}
 use Rattle.std.proofs.lemmas.Result.{err_from_is_err_and}
 use Rattle.quizd.specs.Inputs.{Ends, GoesOn}
-use Rattle.quizd.proofs.InputLemmas.{begins, gives_line, gives_last, goes_on, holds_line, never_unfed, stops_next, unkept_next}
+use Rattle.quizd.proofs.InputLemmas.{begins, gives_line, gives_last, goes_on, holds_line, never_unfed, stops_next}
 use Rattle.quizd.proofs.script_input.ScriptInput.next.Goals as goal
 
 pub loop-longer-init : goal.loop-longer-init

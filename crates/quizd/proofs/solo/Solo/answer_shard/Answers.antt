@@ -1,17 +1,11 @@
-use Rattle.std.proofs.Common.{◌≡◌, List, Some, sym, ◌∙◌, subst}
+use Rattle.std.proofs.Common.{sym, subst}
 use Rattle.std.proofs.lemmas.Result.{err_from_is_err_and}
 use Rattle.qz_terms.specs.declared.reply.Reply.TheVariants as reply
 use Rattle.qz_shard.specs.Holdings.{Holding}
 use Rattle.quizd.specs.Retries.{IsAskedOnce}
 use Rattle.quizd.specs.Solo.{one_shard}
-use Rattle.quizd.proofs.SoloLemmas.{answers_ask, forbidden_ask, found_seen, seen_from, seen_still, solo_told, told_by, unplanned_ask, user_there}
+use Rattle.quizd.proofs.SoloLemmas.{answers_ask, found_seen, seen_from, solo_told, told_by, unplanned_ask, user_there}
 use Rattle.quizd.proofs.solo.Solo.answer_shard.Goals as goal
-
-pub returns-in-Some : goal.returns-in-Some
-returns-in-Some c =
-    let found = found_seen c.args.self.now c.self.inside.catalog c.self.inside.shard.records c.args.ask.now.caller c.args.user.now c.self.view_is c.requires.found in
-    seen_still c.args.self.now c.self.inside.catalog c.self.inside.shard.records c.args.moment c.args.ask.now (reply.Refused c.in-Some.refusal) c.self.view_is
-    (forbidden_ask c.self.inside.catalog c.self.inside.shard.records c.args.moment c.args.ask.now c.args.user.now c.in-Some.refusal c.requires.served found (sym c.forbidden.ensures ∙ c.in-Some.is))
 
 pub plan_for-requires-clause-there : goal.plan_for-requires-clause-there
 plan_for-requires-clause-there c =
