@@ -1,0 +1,10 @@
+pub mod Prefixes
+pub mod Frames
+pub mod Drawing
+pub mod Looking
+pub mod Serving
+pub mod Splitting
+pub mod Joining
+pub mod Closing
+pub mod Dealing
+pub mod Gathering

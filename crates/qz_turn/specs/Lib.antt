@@ -1,0 +1,6 @@
+pub mod Tales
+pub mod Passes
+pub mod Rule
+pub mod Steps
+pub mod Turns
+pub mod Callers

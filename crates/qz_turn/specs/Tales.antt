@@ -1,0 +1,33 @@
+-- What a value behind a lock tells, how one telling begins another, and what an errand owes.
+use Rattle.std.specs.Prelude.{◌≤◌, [], length, None, max, if◌then◌else◌, nat_lt}
+use mathlib.Core.List.{IsPrefix}
+use Rattle.qz_turn.specs.declared.view.Tale.{Tale}
+
+-- the later tale goes on from the earlier one: its list begins with the earlier list, and its count of faults is
+-- no smaller
+pub record Follows {I : Type 0} (earlier later : Tale I) : Type 0 where
+  pub begins : IsPrefix earlier.list later.list
+  pub faults : earlier.faults ≤ later.faults
+
+-- nothing was told
+abbrev pub blank : {I : Type 0} → Tale I
+blank = record { list = []; doubt = None; faults = 0 }
+
+-- the tale with the longer list, and the first of two that are equally long
+abbrev pub longer : {I : Type 0} → Tale I → Tale I → Tale I
+longer a b = if nat_lt (length a.list) (length b.list) then b else a
+
+-- the longer list with its record in doubt, and the greater count of faults
+abbrev pub merged : {I : Type 0} → Tale I → Tale I → Tale I
+merged a b = record { list = (longer a b).list; doubt = (longer a b).doubt; faults = max a.faults b.faults }
+
+module _ {K E S : Type 0} (fits : K → S → Type 0) (can : K → E → Type 0) where
+  -- the value fits some key, under which the errand can go
+  pub record CanGo (errand : E) (value : S) : Type 0 where
+    pub key : K
+    pub fits_key : fits key value
+    pub can_go : can key errand
+
+  -- the value still fits each key that it fitted, and under which the errand could go
+  pub record KeepsFit (errand : E) (before after : S) : Type 0 where
+    pub still : (key : K) → fits key before → can key errand → fits key after

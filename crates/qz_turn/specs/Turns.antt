@@ -1,0 +1,57 @@
+-- A lock as contracts see it, and what its calls leave.
+use Rattle.std.specs.Prelude.{◌≡◌, ℕ, ◌⊎◌, [], ◌∷◌, ◌++◌, Some}
+use mathlib.Core.List.{IsPrefix}
+use Rattle.atomic_table.specs.Seated.{TableId}
+use Rattle.qz_turn.specs.declared.view.Tale.{Tale}
+use Rattle.qz_turn.specs.declared.view.View.{View}
+use Rattle.qz_turn.specs.Tales.{Follows, merged}
+use Rattle.qz_turn.specs.Passes.{Lock, Standing}
+
+-- which lock it is, and how many numbers its passes have
+pub record Locked (K : Type 0) : Type 0 where
+  pub lock : Lock K
+  pub seats : ℕ
+
+abbrev pub locked : {K : Type 0} → TableId → K → ℕ → Locked K
+locked id key seats = record { lock = record { table = id; key = Some key }; seats = seats }
+
+-- a fact about the lock's key
+pub record UnderKey {K : Type 0} (lock : Lock K) (holds : K → Type 0) : Type 0 where
+  pub at : (key : K) → lock.key ≡ Some key → holds key
+
+module _ {I K : Type 0} where
+  -- a new pass: it has one number, and has seen what the value told
+  abbrev pub new_pass : Lock K → Tale I → ℕ → Standing I K
+  new_pass lock tale number = record { lock = lock; numbers = number ∷ []; found = tale; seen = tale }
+
+  -- the pass that is dealt a number by a seat with this view
+  abbrev pub dealt_pass : TableId → View I K → ℕ → Standing I K
+  dealt_pass id v number = new_pass record { table = id; key = v.key } v.seen number
+
+  -- a pass without a number, which has seen the same
+  abbrev pub note_of : Standing I K → Standing I K
+  note_of pass = record { lock = pass.lock; numbers = []; found = pass.found; seen = pass.seen }
+
+  -- one of the two lists begins the other; the longer list is kept, the greater count of faults, and all numbers
+  pub record Joins (before other after : Standing I K) : Type 0 where
+    pub one_list : IsPrefix before.seen.list other.seen.list ⊎ IsPrefix other.seen.list before.seen.list
+    pub seen : after.seen ≡ merged before.seen other.seen
+    pub found : after.found ≡ before.found
+    pub numbers : after.numbers ≡ before.numbers ++ other.numbers
+    pub lock : after.lock ≡ before.lock
+
+module _ {I K S E : Type 0} (tells : S → Tale I) (fits : K → S → Type 0) (does : E → S → S → E → Type 0) where
+  -- A turn: the errand went once, from a value that tells what was found to one that tells what is seen now. What had
+  -- been seen begins what was found, and that begins what is seen now.
+  pub record HasTurn (before after : Standing I K) (errand done : E) : Type 0 where
+    pub value_before : S
+    pub value_after : S
+    pub went : does errand value_before value_after done
+    pub found : after.found ≡ tells value_before
+    pub seen : after.seen ≡ tells value_after
+    pub begins : Follows before.seen after.found
+    pub grows : Follows after.found after.seen
+    pub fits_before : UnderKey before.lock (λ key. fits key value_before)
+    pub fits_after : UnderKey before.lock (λ key. fits key value_after)
+    pub numbers : after.numbers ≡ before.numbers
+    pub lock : after.lock ≡ before.lock

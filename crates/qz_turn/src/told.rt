@@ -1,0 +1,33 @@
+// The value behind a lock, and the work of one turn.
+ghost use Rattle.qz_turn.specs.declared.view.Tale.{Tale};
+ghost use Rattle.qz_turn.specs.Tales.{Follows, CanGo, KeepsFit};
+
+/// A value that tells a list.
+pub trait Told {
+    /// What the list has.
+    type Item;
+    /// What a lock says of its value for good: it is given when the lock is made, and never changes.
+    type Key;
+
+    ghost tells: { Self → Tale Self.Item };
+
+    // What holds of the value, under the lock's key, whenever nobody has the turn.
+    ghost fits: { Self.Key → Self → Type 0 };
+}
+
+/// The work of one turn.
+pub trait Errand<T: Told> {
+    // What has to hold of the errand, under the lock's key, before it goes.
+    ghost can: { T.Key → Self → Type 0 };
+
+    // What it did: of the errand and the value before, and of the value and the errand after.
+    ghost does: { Self → T → T → Self → Type 0 };
+
+    /// Goes once, while it has the turn. The list that the value tells only grows, and the count of faults
+    /// never falls.
+    fn go(&mut self, value: &mut T)
+        requires { CanGo T.fits can self.old value.old }
+        ensures done { does self.old value.old value.new self.new }
+        ensures grows { Follows (T.tells value.old) (T.tells value.new) }
+        ensures fits { KeepsFit T.fits can self.old value.old value.new };
+}

@@ -1,0 +1,127 @@
+// The lock.
+ghost use Rattle.std.specs.Prelude.{◌≡◌, ◌≢◌, ◌<◌, ◌≤◌, [], map, Some, IfOk, IfErr, vec_capacity};
+ghost use Rattle.qz_turn.specs.Tales.{Follows};
+ghost use Rattle.qz_turn.specs.Rule.{below, HasEvery};
+ghost use Rattle.qz_turn.specs.Steps.{MayDeal};
+ghost use Rattle.qz_turn.specs.Turns.{UnderKey, new_pass, dealt_pass, note_of, Joins, HasTurn};
+
+use crate::board::{Board, Place};
+use crate::pass::Pass;
+use crate::told::{Errand, Told};
+use atomic_table::Badge;
+use qz_text::NoMemory;
+use std::alloc::Global;
+use std::marker::Model;
+use std::mem;
+use std::sync::Wait;
+
+/// A lock that its passes take in turn, and the value behind it. To a contract it is the lock that its passes
+/// belong to, and how many numbers they have between them.
+#[derive(Drop)]
+pub struct Turns<T: Told> {
+    board: Board<T>,
+}
+
+impl<T: Told> Model for Turns<T> {
+    ghost use Rattle.qz_turn.specs.Turns.{Locked, locked};
+
+    ghost Value = { Locked T.Key };
+
+    ghost view = { λ t. locked t.board.table.shared.table_id t.board.table.shared.key.key.value t.board.table.shared.key.seats };
+}
+
+// A pass for each number, in order.
+fn deal_all<T: Told>(
+    board: &Board<T>,
+    mut seat: Place<T>,
+    seats: u32,
+    mut passes: Vec<Pass<T>>,
+) -> Vec<Pass<T>>
+    requires own { seat.table_id ≡ board.now.table.shared.table_id }
+    requires deals { MayDeal seats seat.me }
+    requires room { (passes.items ≡ []) × (seats ≤ vec_capacity passes) }
+    ensures { result.items ≡ map (dealt_pass seat.table_id seat.me.0) (below seats) }
+{
+    for number in 0..seats {
+        passes.push_reserved(Pass::of(board.deal(&mut seat)));
+    }
+    passes
+}
+
+impl<T: Told> Turns<T> {
+    /// A lock over the value, and its passes, each with one number: the pass at place `i`, from 0, has the number
+    /// `i`, and has seen what the value tells. Where memory is short the value comes back.
+    pub fn new(
+        alloc: Global,
+        value: T,
+        key: &T::Key,
+        seats: u32,
+    ) -> Result<(Turns<T>, Vec<Pass<T>>), (T, NoMemory)>
+        requires seats { 0 < seats }
+        requires fits { T.fits key.now value }
+        ensures lock { IfOk result (λ made. (made.0.lock.key ≡ Some key.now) × (made.0.seats ≡ seats)) }
+        ensures passes { IfOk result (λ made. made.1.items ≡ map (new_pass made.0.lock (T.tells value)) (below seats)) }
+        ensures refused { IfErr result (λ back. back.0 ≡ value) }
+    {
+        let Ok(passes) = Vec::with_capacity(alloc, seats as usize) else {
+            return Err((value, NoMemory));
+        };
+        match Board::new(alloc, value, key, seats) {
+            Ok((board, seat)) => {
+                let passes = deal_all(&board, seat, seats, passes);
+                Ok((Turns { board }, passes))
+            }
+            Err(value) => Err((value, NoMemory)),
+        }
+    }
+
+    /// Waits until the turn of the pass has come, lets the errand go once, and gives the turn on. A waiting thread
+    /// looks a few times, and then sleeps until it is woken.
+    pub fn turn<E: Errand<T>, R: Wait>(&self, rt: &R, pass: &mut Pass<T>, errand: &mut E)
+        requires pass { pass.old.lock ≡ self.now.lock }
+        requires number { pass.old.numbers ≢ [] }
+        requires errand { UnderKey self.now.lock (λ key. E.can key errand.old) }
+        ensures { HasTurn T.tells T.fits E.does pass.old pass.new errand.old errand.new }
+    {
+        let mut seat = mem::replace(&mut pass.badge, Badge::blank()).into_seat();
+        self.board.enter(rt, &mut seat);
+        self.board.send(&mut seat, errand);
+        self.board.leave(&mut seat);
+        pass.badge = seat.into_badge();
+    }
+
+    /// A pass without a number that has seen what this one has seen, which stays as it is.
+    pub fn note(&self, pass: &mut Pass<T>) -> Pass<T>
+        requires { pass.old.lock ≡ self.now.lock }
+        ensures kept { pass.new ≡ pass.old }
+        ensures given { result ≡ note_of pass.old }
+    {
+        let mut seat = mem::replace(&mut pass.badge, Badge::blank()).into_seat();
+        let note = self.board.note(&mut seat);
+        pass.badge = seat.into_badge();
+        Pass::of(note)
+    }
+
+    /// Adds the numbers of the other pass. The pass has then seen the longer of the two lists, of which one begins
+    /// the other, and the greater of the two counts of faults.
+    pub fn join(&self, pass: &mut Pass<T>, other: Pass<T>)
+        requires pass { pass.old.lock ≡ self.now.lock }
+        requires other { other.lock ≡ self.now.lock }
+        ensures { Joins pass.old other pass.new }
+    {
+        let mut seat = mem::replace(&mut pass.badge, Badge::blank()).into_seat();
+        self.board.join(&mut seat, other.into_seat());
+        pass.badge = seat.into_badge();
+    }
+
+    /// The value, from the pass that has every number. What the pass has seen begins what the value tells.
+    pub fn close(self, pass: Pass<T>) -> T
+        requires pass { pass.lock ≡ self.lock }
+        requires numbers { HasEvery self.seats pass.numbers }
+        ensures follows { Follows pass.seen (T.tells result) }
+        ensures fits { UnderKey self.lock (λ key. T.fits key result) }
+    {
+        let Turns { board } = self;
+        board.close(pass.into_seat())
+    }
+}
