@@ -1,0 +1,23 @@
+//! The bytes of a record, both ways.
+#![tactic(auto)]
+
+mod events;
+mod fault;
+mod keeping;
+pub mod laws;
+mod lengths;
+mod numbers;
+mod part;
+mod questions;
+mod record;
+mod requests;
+mod settings;
+mod steps;
+mod texts;
+mod writing;
+
+pub use fault::RecordFault;
+pub use record::{parse, spell};
+
+#[cfg(test)]
+mod tests;
