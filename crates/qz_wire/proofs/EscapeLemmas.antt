@@ -7,8 +7,9 @@ use Rattle.std.proofs.lemmas.List.{append-nil}
 use Rattle.std.proofs.lemmas.Str.{encode_ascii, encodes-append}
 use Rattle.gift_write.proofs.EscapeLemmas.{flat_map-wide}
 use Rattle.qz_wire.specs.Escapes.{escaped, escaped_byte, text_word, written_for}
-use Rattle.qz_wire.specs.Words.{text_of, unescaped}
+use Rattle.qz_wire.specs.Words.{text_of, unescaped, words_of}
 use Rattle.qz_wire.proofs.GatheringLemmas.{plain-byte}
+use Rattle.qz_wire.proofs.PartLemmas.{parts-append}
 
 -- what is written for a byte, by the tests of it
 abbrev by_tests : Bool → Bool → Bool → Bool → Bool → Option (List ℕ)
@@ -82,3 +83,21 @@ word-by (c ∷ cs) text some other is = rw other is
 pub word-read : (text : List ℕ) → text_of (text_word text) ≡ Some text
 word-read [] = refl
 word-read (c ∷ cs) = word-by (escaped (c ∷ cs)) (c ∷ cs) (some-by c (escaped cs) (c == 32) (c == 10) (c == 9) (c == 13) (c == 92)) (other-by c (escaped cs) (c == 32) (c == 10) (c == 9) (c == 13) (c == 92) refl) (read-again (c ∷ cs))
+
+-- ---- no space stands in the word that spells a text
+
+byte-one : (c : ℕ) (space feed tab return slash : Bool) → (c == 32) ≡ space → words_of (unwrap_or (by_tests space feed tab return slash) (c ∷ [])) ≡ unwrap_or (by_tests space feed tab return slash) (c ∷ []) ∷ []
+byte-one c true feed tab return slash is = refl
+byte-one c false true tab return slash is = refl
+byte-one c false false true return slash is = refl
+byte-one c false false false true slash is = refl
+byte-one c false false false false true is = refl
+byte-one c false false false false false is = rw is refl
+
+escaped-one : (text : List ℕ) → words_of (escaped text) ≡ escaped text ∷ []
+escaped-one [] = refl
+escaped-one (c ∷ cs) = parts-append 32 (escaped_byte c) (escaped cs) ∙ rw (byte-one c (c == 32) (c == 10) (c == 9) (c == 13) (c == 92) refl, escaped-one cs) refl
+
+pub word-one : (text : List ℕ) → words_of (text_word text) ≡ text_word text ∷ []
+word-one [] = refl
+word-one (c ∷ cs) = escaped-one (c ∷ cs)

@@ -22,8 +22,10 @@ use qz_terms::{Ask, Caller, Request};
 use qz_text::Text;
 use std::alloc::Global;
 
-/// The request that the words behind a command make of it.
-fn request(alloc: Global, verb: Verb, rest: &[u8]) -> Result<Request, Refusal>
+/// The request that the words behind a command make of it; each word stands behind a space.
+///
+/// `Malformed` and `Memory` are as in `ask_of_line`, and no other refusal comes.
+pub fn request(alloc: Global, verb: Verb, rest: &[u8]) -> Result<Request, Refusal>
     ensures value { ReadsOr (λ x. x) result (request_of verb (words_after rest.now)) }
     ensures verb { IfOk result (IsOfVerb verb) }
 {

@@ -15,12 +15,16 @@ mod verbs;
 mod words;
 
 pub use arguments::{answer_at, certainty_at, end, mark_at, penalty_at};
-pub use asking::ask_of_line;
+pub use asking::{ask_of_line, request};
 pub use bank_words::{behaviour_in, only_question, penalty_in};
-pub use escapes::text_in;
+pub use escapes::{text_in, text_word_onto};
 pub use lines::{after, number, split_line};
-pub use replies::{line_of, refused_onto};
-pub use words::{WordFault, cut, first_word, next_word};
+pub use replies::{
+    attempt_onto, grade_onto, how_word, line_of, mark_onto, moment_onto, refused_onto, row_onto,
+    status_word, thing_number,
+};
+pub use verbs::{Verb, takes_key, verb_in};
+pub use words::{WordFault, cut, first_word, next_word, token_in};
 
 #[cfg(test)]
 mod tests;

@@ -14,7 +14,8 @@ use qz_terms::{Done, How, Reply, Row, Shown, Status};
 use qz_text::{NoMemory, Text};
 use std::alloc::Global;
 
-fn mark_onto(out: &mut String, mark: Shown<Mark>) -> Result<(), NoMemory>
+/// A mark, a dash where there is none, or `hidden`.
+pub fn mark_onto(out: &mut String, mark: Shown<Mark>) -> Result<(), NoMemory>
     ensures { OnOk result (string_bytes out.new ≡ string_bytes out.old ++ shown_words mark_text mark) }
 {
     match mark {
@@ -24,7 +25,8 @@ fn mark_onto(out: &mut String, mark: Shown<Mark>) -> Result<(), NoMemory>
     }
 }
 
-fn grade_onto(out: &mut String, grade: Shown<Grade>) -> Result<(), NoMemory>
+/// A grade, a dash where there is none, or `hidden`.
+pub fn grade_onto(out: &mut String, grade: Shown<Grade>) -> Result<(), NoMemory>
     ensures { OnOk result (string_bytes out.new ≡ string_bytes out.old ++ shown_words grade_text grade) }
 {
     match grade {
@@ -35,7 +37,7 @@ fn grade_onto(out: &mut String, grade: Shown<Grade>) -> Result<(), NoMemory>
 }
 
 /// A moment, or a dash where there is none.
-fn moment_onto(out: &mut String, moment: Option<u64>) -> Result<(), NoMemory>
+pub fn moment_onto(out: &mut String, moment: Option<u64>) -> Result<(), NoMemory>
     ensures { OnOk result (string_bytes out.new ≡ string_bytes out.old ++ moment_word moment) }
 {
     match moment {
@@ -45,7 +47,8 @@ fn moment_onto(out: &mut String, moment: Option<u64>) -> Result<(), NoMemory>
     Ok(())
 }
 
-fn attempt_onto(out: &mut String, attempt: AttemptId) -> Result<(), NoMemory>
+/// An attempt as `USER.NTH`.
+pub fn attempt_onto(out: &mut String, attempt: AttemptId) -> Result<(), NoMemory>
     ensures { OnOk result (string_bytes out.new ≡ string_bytes out.old ++ attempt_word attempt) }
 {
     let user = attempt.user;
@@ -64,7 +67,8 @@ fn shape_onto(out: &mut String, shape: Shape) -> Result<(), NoMemory>
     Ok(())
 }
 
-fn thing_number(what: Thing) -> u8
+/// The number by which a reply names a sort of thing.
+pub fn thing_number(what: Thing) -> u8
     ensures { result ≡ thing_number what }
 {
     match what {
@@ -178,7 +182,8 @@ fn skipped_onto(
     shape_onto(out, newer)
 }
 
-fn how_word(how: How) -> &'static str
+/// How an attempt ended.
+pub fn how_word(how: How) -> &'static str
     ensures { result.now ≡ how_word how }
 {
     match how {
@@ -223,7 +228,8 @@ fn slot_view_onto(
     Ok(())
 }
 
-fn status_word(status: Status) -> &'static str
+/// Whether an attempt goes on, or how it ended.
+pub fn status_word(status: Status) -> &'static str
     ensures { result.now ≡ status_word status }
 {
     match status {
@@ -250,7 +256,8 @@ fn attempt_view_onto(
 
 // ---- replies about a quiz
 
-fn row_onto(out: &mut String, row: &Row) -> Result<(), NoMemory>
+/// A row as `USER:GRADE`.
+pub fn row_onto(out: &mut String, row: &Row) -> Result<(), NoMemory>
     ensures { OnOk result (string_bytes out.new ≡ string_bytes out.old ++ row_word row.now) }
 {
     let user = row.user;

@@ -1,0 +1,5 @@
+mod ReplyLemmas
+mod WordLemmas
+mod ArgumentLemmas
+mod BodyLemmas
+mod LineLemmas

@@ -1,0 +1,98 @@
+-- What is said of a reply: its words, one by one and without escapes.
+use Rattle.std.specs.Prelude.{ℕ, List, [], ◌∷◌, ◌++◌, map, ℤ, decimal, codes}
+use Rattle.qz_grading.specs.declared.outcome.State.{State}
+use Rattle.qz_grading.specs.declared.question.Shape.{Shape}
+use Rattle.qz_grading.specs.declared.refusal.AttemptId.{AttemptId}
+use Rattle.qz_grading.specs.declared.refusal.Refusal.{Refusal}
+use Rattle.qz_grading.specs.declared.refusal.Refusal.TheVariants as refusal
+use Rattle.qz_grading.specs.Canonical.{canonical_question}
+use Rattle.qz_grading.specs.Words.{behaviour_word, grade_text, kind_word, mark_text, state_word}
+use Rattle.qz_terms.specs.declared.reply.Done.{Done}
+use Rattle.qz_terms.specs.declared.reply.Done.TheVariants as done
+use Rattle.qz_terms.specs.declared.reply.Shown.{Shown}
+use Rattle.qz_wire.specs.Replies.{attempt_or_dash, attempt_word, how_word, moment_word, row_word, shown_words, status_word, thing_number}
+
+-- the state and the mark of a slot
+abbrev pub standing_list : State → Shown ℤ → List (List ℕ)
+standing_list state mark = state_word state ∷ shown_words mark_text mark ∷ []
+
+-- an attempt and one of its slots
+abbrev pub slot_list : AttemptId → ℕ → List (List ℕ)
+slot_list attempt slot = attempt_word attempt ∷ decimal slot ∷ []
+
+abbrev pub shape_list : Shape → List (List ℕ)
+shape_list s = kind_word s.kind ∷ decimal s.first ∷ decimal s.second ∷ []
+
+-- the words behind the place; what a page shows isn't told yet
+abbrev pub done_list : Done → List (List ℕ)
+done_list (done.Made number) = codes "made" ∷ decimal number ∷ []
+done_list done.Done = codes "done" ∷ []
+done_list (done.Imported first count) = codes "imported" ∷ decimal first ∷ decimal count ∷ []
+done_list (done.Version entry version) = codes "version" ∷ decimal entry ∷ decimal version ∷ []
+done_list (done.Slot number) = codes "slot" ∷ decimal number ∷ []
+done_list (done.Job number) = codes "job" ∷ decimal number ∷ []
+done_list (done.Started attempt slots due) = codes "started" ∷ attempt_word attempt ∷ decimal slots ∷ moment_word due ∷ []
+done_list (done.Stepped state mark) = codes "step" ∷ standing_list state mark
+done_list (done.Same state mark) = codes "same" ∷ standing_list state mark
+done_list (done.Finished total) = codes "finished" ∷ shown_words mark_text total ∷ []
+done_list (done.Marked state mark) = codes "marked" ∷ standing_list state mark
+done_list (done.Rebound attempt slot state mark) = codes "rebound" ∷ slot_list attempt slot ++ standing_list state mark
+done_list (done.Skipped attempt slot bound newer) = codes "skipped" ∷ slot_list attempt slot ++ shape_list bound ++ shape_list newer
+done_list (done.JobDone job) = codes "jobdone" ∷ decimal job ∷ []
+done_list (done.AlreadyDone job) = codes "alreadydone" ∷ decimal job ∷ []
+done_list (done.Settled attempt how) = codes "settled" ∷ attempt_word attempt ∷ how_word how ∷ []
+done_list done.Idle = codes "idle" ∷ []
+done_list (done.Live attempt) = codes "live" ∷ attempt_or_dash attempt ∷ []
+done_list (done.Jobs count) = codes "jobs" ∷ decimal count ∷ []
+done_list (done.SlotView state mark version steps) = codes "slot" ∷ standing_list state mark ++ decimal version ∷ decimal steps ∷ []
+done_list (done.Attempt status total due) = codes "attempt" ∷ status_word status ∷ shown_words mark_text total ∷ moment_word due ∷ []
+done_list (done.Page attempt quiz due parts) = codes "page" ∷ []
+done_list (done.Grade grade) = codes "grade" ∷ shown_words grade_text grade ∷ []
+done_list (done.Report rows) = codes "report" ∷ map row_word rows
+done_list (done.Gift question) = codes "gift" ∷ canonical_question question ∷ []
+
+-- the number of a refusal
+abbrev pub refusal_number : Refusal → ℕ
+refusal_number (refusal.Malformed place rule) = 1
+refusal_number refusal.UnknownToken = 2
+refusal_number (refusal.Forbidden rule) = 3
+refusal_number (refusal.Unknown what) = 4
+refusal_number (refusal.KeyReused place) = 5
+refusal_number (refusal.NotOpen opens) = 6
+refusal_number (refusal.Late due) = 7
+refusal_number (refusal.Closed place) = 8
+refusal_number (refusal.NoAttemptsLeft allowed) = 9
+refusal_number (refusal.Unfinished attempt) = 10
+refusal_number (refusal.WrongAction behaviour) = 11
+refusal_number (refusal.SlotEnded state) = 12
+refusal_number refusal.NeedsTryAgain = 13
+refusal_number refusal.Misfit = 14
+refusal_number (refusal.OutOfRange max) = 15
+refusal_number refusal.NotFinished = 16
+refusal_number (refusal.Incompatible bound newer) = 17
+refusal_number (refusal.TooMany limit) = 18
+refusal_number refusal.KeepFault = 19
+refusal_number refusal.Memory = 20
+
+-- the words behind it
+abbrev pub refusal_list : Refusal → List (List ℕ)
+refusal_list (refusal.Malformed place rule) = decimal place ∷ decimal rule ∷ []
+refusal_list refusal.UnknownToken = []
+refusal_list (refusal.Forbidden rule) = decimal rule ∷ []
+refusal_list (refusal.Unknown what) = decimal (thing_number what) ∷ []
+refusal_list (refusal.KeyReused place) = decimal place ∷ []
+refusal_list (refusal.NotOpen opens) = decimal opens ∷ []
+refusal_list (refusal.Late due) = decimal due ∷ []
+refusal_list (refusal.Closed place) = decimal place ∷ []
+refusal_list (refusal.NoAttemptsLeft allowed) = decimal allowed ∷ []
+refusal_list (refusal.Unfinished attempt) = attempt_word attempt ∷ []
+refusal_list (refusal.WrongAction behaviour) = behaviour_word behaviour ∷ []
+refusal_list (refusal.SlotEnded state) = state_word state ∷ []
+refusal_list refusal.NeedsTryAgain = []
+refusal_list refusal.Misfit = []
+refusal_list (refusal.OutOfRange max) = mark_text max ∷ []
+refusal_list refusal.NotFinished = []
+refusal_list (refusal.Incompatible bound newer) = shape_list bound ++ shape_list newer
+refusal_list (refusal.TooMany limit) = decimal limit ∷ []
+refusal_list refusal.KeepFault = []
+refusal_list refusal.Memory = []

@@ -1,0 +1,71 @@
+use super::*;
+use qz_decimal::Mark;
+use qz_grading::{AttemptId, Refusal};
+use qz_terms::{Caller, Done, Reply, Request, Shown};
+use qz_text::NoMemory;
+use std::alloc::Global;
+use std::test::Fail;
+
+const OWN: AttemptId = AttemptId { user: 2, nth: 1 };
+
+/// The word of a body that is at fault, or the line of its GIFT text and the rule that it breaks.
+fn fault(alloc: Global, body: &str) -> Result<Option<(u32, u8)>, NoMemory> {
+    match ask_of_json(alloc, Caller::Worker, body.as_bytes()) {
+        Err(Refusal::Malformed { place, rule }) => Ok(Some((place, rule))),
+        Err(Refusal::Memory) => Err(NoMemory),
+        Ok(_) | Err(_) => Ok(None),
+    }
+}
+
+#[test]
+fn bodies_are_read(rt: HostRuntime) -> Result<(), Fail> {
+    let alloc = rt.alloc();
+    let body = b"{\"do\":\"finish\",\"key\":\"k3\",\"attempt\":\"2.1\"}".as_slice();
+    let ask = ask_of_json(alloc, Caller::Worker, body)
+        .ok()
+        .ok_or("no request")?;
+    assert!(rt; matches!(ask.request, Request::Finish { attempt } if attempt == OWN));
+    for (body, want) in [
+        ("{\"do\":\"start\",\"key\":\"k\",\"quiz\":1}", None),
+        ("[]", Some((0, 0))),
+        ("{\"do\":\"start\",\"key\":null,\"quiz\":1}", Some((3, 0))),
+        ("{\"do\":\"stop\",\"key\":\"k\",\"more\":1}", Some((4, 0))),
+        (
+            "{\"do\":\"start\",\"key\":\"k\",\"quiz\":1.0}",
+            Some((5, 0)),
+        ),
+        (
+            "{\"do\":\"start\",\"key\":\"k\",\"quiz\":1,\"more\":1}",
+            Some((0, 0)),
+        ),
+        (
+            "{\"do\":\"import\",\"key\":\"k\",\"gift\":\"a\\n\\nb{\"}",
+            Some((3, 5)),
+        ),
+    ] {
+        let told = fault(alloc, body)?;
+        assert!(rt; told == want, "{body}");
+    }
+    Ok(())
+}
+
+#[test]
+fn replies_are_written(rt: HostRuntime) -> Result<(), Fail> {
+    let alloc = rt.alloc();
+    let total = Shown::Value(Mark(20_000_000));
+    let reply = Reply::Ok {
+        place: 3,
+        done: Done::Finished { total },
+    };
+    let text = json_of(alloc, &reply)?;
+    assert_eq!(rt;
+        text.as_str(),
+        "{\"ok\":true,\"place\":3,\"words\":[\"finished\",\"2.0000000\"]}"
+    );
+    let text = json_of(alloc, &Reply::Refused(Refusal::Unfinished { attempt: OWN }))?;
+    assert_eq!(rt;
+        text.as_str(),
+        "{\"ok\":false,\"refusal\":10,\"words\":[\"2.1\"]}"
+    );
+    Ok(())
+}
