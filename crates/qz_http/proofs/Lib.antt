@@ -1,0 +1,9 @@
+pub mod TargetLemmas
+pub mod FieldLemmas
+pub mod HeadLemmas
+pub mod SizeLemmas
+pub mod ResponseLemmas
+pub mod RouteLemmas
+pub mod LinkLemmas
+pub mod PieceLemmas
+pub mod TalkLemmas

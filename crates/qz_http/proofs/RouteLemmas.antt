@@ -1,0 +1,22 @@
+-- Parameters of a path, and what a request asks by its parts.
+use Rattle.std.proofs.Common.{◌≡◌, ℕ, ◌+◌, List, [], ◌∷◌, length, refl, sym, arith}
+use Rattle.std.specs.Prelude.{Option, Result, IfOk, ◌==◌}
+use Rattle.std.proofs.lemmas.List.Splits.{length-slice_split}
+use Rattle.qz_text.specs.declared.memory.NoMemory.{NoMemory}
+use Rattle.qz_wire.specs.Words.{parts_at, IsCutAt}
+use Rattle.qz_http.specs.declared.items.Item.{Item}
+use Rattle.qz_http.specs.Items.{item_at, token_in}
+use Rattle.qz_http.specs.Routes.{nowhere, two_parameters, way_of}
+
+three : (first second : List ℕ) (more : List (List ℕ)) (n : ℕ) → length more ≡ n + 1 → two_parameters (first ∷ second ∷ more) ≡ nowhere
+three first second [] n is = absurd (omega (arith, is))
+three first second (third ∷ more) n is = refl
+
+pub three_parameters : (rest first behind second more : List ℕ) → IsCutAt 47 rest first behind → IsCutAt 47 behind second more → two_parameters (parts_at 47 rest) ≡ nowhere
+three_parameters rest first behind second more once twice =
+    rw (once.parts, twice.parts) (three first second (parts_at 47 more) _ (length-slice_split (λ b. b == 47) more))
+
+pub item_by_parts : (r : Result Item NoMemory) (t target m method : List ℕ) (token a authorization : Option (List ℕ)) (body : List ℕ)
+    → t ≡ target → m ≡ method → a ≡ authorization → token ≡ token_in a
+    → IfOk r (λ item. item ≡ item_at (way_of t) m token body) → IfOk r (λ item. item ≡ item_at (way_of target) method (token_in authorization) body)
+item_by_parts r t target m method token a authorization body et em ea told x = rw (sym et, sym em, sym ea, sym told) x

@@ -1,0 +1,9 @@
+pub mod Targets
+pub mod Heads
+pub mod Found
+pub mod Judgements
+pub mod Responses
+pub mod Routes
+pub mod Items
+pub mod Links
+pub mod Talk

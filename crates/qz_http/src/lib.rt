@@ -1,0 +1,17 @@
+//! The bytes of one link: the requests that they ask, read as they come in pieces, and the responses.
+#![tactic(auto)]
+
+mod fields;
+mod heads;
+mod items;
+pub mod laws;
+mod links;
+mod responses;
+mod routes;
+mod targets;
+
+pub use items::{Item, LinkEnd};
+pub use links::LinkCore;
+
+#[cfg(test)]
+mod tests;
