@@ -8,15 +8,15 @@ use qz_text::Listed;
 
 /// Which calls of an object in memory are to fail, by their numbers from 1, and how many calls and faults there were.
 #[derive(Drop)]
-pub(crate) struct Calls {
-    pub(crate) failing: Listed<u64>,
-    pub(crate) made: u64,
-    pub(crate) faults: u64,
+pub struct Calls {
+    pub failing: Listed<u64>,
+    pub made: u64,
+    pub faults: u64,
 }
 
 impl Calls {
     /// Before the first call.
-    pub(crate) fn new(failing: Listed<u64>) -> Calls
+    pub fn new(failing: Listed<u64>) -> Calls
         ensures { result ≡ record { failing = failing; made = 0; faults = 0 } }
     {
         Calls {
@@ -27,7 +27,7 @@ impl Calls {
     }
 
     /// Counts a call, which fails where its number is listed.
-    pub(crate) fn begin(&mut self) -> Result<(), Failed>
+    pub fn begin(&mut self) -> Result<(), Failed>
         ensures cause { HasCause self.old.faults self.new.faults result }
         ensures listed { IsErr result ↔ Contains self.old.failing (counted self.old.made) }
         ensures ok { OnOk result (self.new ≡ record self.old { made = counted self.old.made }) }
@@ -43,7 +43,7 @@ impl Calls {
     }
 
     /// Counts a fault.
-    pub(crate) fn count_fault(&mut self)
+    pub fn count_fault(&mut self)
         ensures counts { self.new ≡ record self.old { faults = counted self.old.faults } }
         ensures later { self.old.faults ≤ self.new.faults }
         ensures risen { HasRisen self.old.faults self.new.faults }

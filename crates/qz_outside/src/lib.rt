@@ -13,6 +13,7 @@ mod std_sink;
 mod std_source;
 mod write;
 
+pub use calls::Calls;
 pub use failed::Failed;
 pub use memory_sink::MemorySink;
 pub use memory_source::MemorySource;

@@ -4,6 +4,7 @@
 mod access;
 mod ask;
 mod callers;
+mod desk;
 mod grades;
 mod keys;
 pub mod laws;
@@ -21,6 +22,7 @@ mod tests;
 pub use access::{Handling, Override, Review, Settings};
 pub use ask::{Ask, copy_of_text};
 pub use callers::{forbidden, is_anothers, is_student};
+pub use desk::Desk;
 pub use grades::{Method, Policy};
 pub use keys::place_of;
 pub use people::{Caller, Role, User};

@@ -1,4 +1,5 @@
 pub mod Computing
 pub mod Examples
 pub mod Gaps
+pub mod Html
 pub mod Patterns

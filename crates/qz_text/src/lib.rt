@@ -4,6 +4,7 @@
 
 mod bytes;
 mod copy;
+mod escaping;
 mod folding;
 mod gaps;
 mod listed;
@@ -15,6 +16,7 @@ mod typed;
 
 pub use bytes::Bytes;
 pub use copy::TryCopy;
+pub use escaping::escape;
 pub use listed::Listed;
 pub use memory::NoMemory;
 pub use pattern::Pattern;

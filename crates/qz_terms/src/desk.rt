@@ -1,0 +1,26 @@
+//! What answers requests.
+
+ghost use Rattle.std.specs.Prelude.{ℕ};
+ghost use Rattle.qz_terms.specs.declared.ask.Ask.{Ask};
+ghost use Rattle.qz_terms.specs.declared.reply.Reply.{Reply};
+ghost use Rattle.qz_terms.specs.Serial.{Lists};
+
+use crate::{Ask, Reply};
+use std::alloc::Global;
+
+/// A school that answers requests, one after the other.
+pub trait Desk {
+    /// The records of its catalogue and of its shards, so far as it has seen them.
+    ghost lists: { Self → Lists };
+
+    // What it may be asked at a moment.
+    ghost takes: { ℕ → Ask → Type 0 };
+
+    // How it answers: the lists before and after a request at a moment, and the reply.
+    ghost answers: { Lists → Lists → ℕ → Ask → Reply → Type 0 };
+
+    /// Answers a request at this moment by the clock, in seconds since 1970.
+    fn ask(&mut self, alloc: Global, ask: &Ask, moment: u64) -> Reply
+        requires { takes moment ask.now }
+        ensures { answers (lists self.old) (lists self.new) moment ask.now result };
+}
