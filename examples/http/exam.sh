@@ -1,0 +1,84 @@
+#!/usr/bin/env bash
+# Sets up a school over HTTP, takes its quiz, and compares each answer with exam.out. Then a slow client, one that goes away in the
+# middle, and requests that are sent before their answers are read. Wants curl and python3. The port may be given as a word.
+set -u
+here=$(cd "$(dirname "$0")" && pwd)
+port=${1:-8089}
+work=$(mktemp -d)
+failed=0
+trap 'kill "$server" 2>/dev/null; rm -rf "$work"' EXIT
+requests=$(grep -c . "$here/exam.txt")
+# One link for each request, and four for the clients behind them.
+"$here/../../quizd" serve memory "$port" 1 0 $((requests + 4)) >"$work/served" 2>"$work/errors" &
+server=$!
+for _ in $(seq 600); do
+    (exec 3<>"/dev/tcp/127.0.0.1/$port") 2>/dev/null && break
+    sleep 0.1
+done
+
+# says NAME: tells how a comparison ended, by the status of the command before
+says() {
+    if [ $? = 0 ]; then echo "ok $1"; else echo "not ok $1"; failed=1; fi
+}
+
+while read -r token method path body; do
+    words=(-s -X "$method" -w '\n%{http_code} %{content_type}' -o "$work/body")
+    [ "$token" = - ] || words+=(-H "Authorization: Bearer $token")
+    [ -z "$body" ] || words+=(--data-binary "$body")
+    told=$(curl "${words[@]}" "http://127.0.0.1:$port$path")
+    printf '%s ' "$(tail -n 1 <<<"$told")"
+    cat "$work/body" 2>/dev/null
+    printf '\n'
+    rm -f "$work/body"
+done <"$here/exam.txt" >"$work/out"
+cmp -s "$work/out" "$here/exam.out"
+says "an exam by curl"
+[ -s "$work/errors" ] && cat "$work/errors"
+
+# The link that only looked whether the server listens was the first of the four.
+python3 - "$port" <<'END'
+import socket, sys, time
+port = int(sys.argv[1])
+body = b'{"do":"grade","quiz":1,"user":2}'
+request = b"POST /api/ask HTTP/1.1\r\nHost: localhost\r\nAuthorization: Bearer ann\r\nContent-Length: %d\r\n\r\n%s" % (len(body), body)
+said = b'{"ok":true,"place":3,"words":["grade","10.00000"]}'
+
+def answers(link, count):
+    """So many responses, by the lengths that their heads tell."""
+    held, bodies = b"", []
+    while len(bodies) < count:
+        end = held.find(b"\r\n\r\n")
+        if end >= 0:
+            length = int(held[:end].split(b"Content-Length: ")[1].split(b"\r\n")[0])
+            if len(held) >= end + 4 + length:
+                bodies.append(held[end + 4:end + 4 + length])
+                held = held[end + 4 + length:]
+                continue
+        piece = link.recv(65536)
+        if not piece:
+            break
+        held += piece
+    return bodies
+
+def tells(name, holds):
+    print(("ok " if holds else "not ok ") + name)
+    return holds
+
+good = True
+with socket.create_connection(("127.0.0.1", port)) as gone:
+    gone.sendall(request[:70])
+with socket.create_connection(("127.0.0.1", port)) as slow:
+    for byte in request:
+        slow.sendall(bytes([byte]))
+        time.sleep(0.01)
+    good &= tells("a slow client, behind one that went away", answers(slow, 1) == [said])
+with socket.create_connection(("127.0.0.1", port)) as many:
+    many.sendall(request * 100)
+    good &= tells("a hundred requests at once", answers(many, 100) == [said] * 100)
+sys.exit(0 if good else 1)
+END
+says "clients of other sorts"
+wait "$server"
+[ $? = 0 ] && [ "$(cat "$work/served")" = "served $((requests + 4))" ]
+says "each link was served, and the program ended"
+exit $failed
