@@ -40,15 +40,12 @@ impl Told for Count {
     ghost fits = { λ _ _. Unit {0} };
 }
 
-// Counts its turn, and rests if it is to.
 #[derive(Drop)]
-struct Step<'a, R: Clock> {
-    rt: &'a R,
-    rest: Duration,
+struct Step {
     turns: u64,
 }
 
-impl<'a, R: Clock> Errand<Count> for Step<'a, R> {
+impl Errand<Count> for Step {
     ghost can = { λ _ _. Unit {0} };
 
     ghost does = { λ _ _ _ _. Unit {0} };
@@ -56,9 +53,23 @@ impl<'a, R: Clock> Errand<Count> for Step<'a, R> {
     fn go(&mut self, count: &mut Count) {
         count.turns = count.turns.saturating_add(1);
         self.turns = count.turns;
-        if !self.rest.is_zero() {
-            thread::sleep(self.rt, self.rest);
-        }
+    }
+}
+
+#[derive(Drop)]
+struct SleepyStep<'a, R: Clock> {
+    rt: &'a R,
+    step: Step,
+}
+
+impl<'a, R: Clock> Errand<Count> for SleepyStep<'a, R> {
+    ghost can = { λ _ _. Unit {0} };
+
+    ghost does = { λ _ _ _ _. Unit {0} };
+
+    fn go(&mut self, count: &mut Count) {
+        self.step.go(count);
+        thread::sleep(self.rt, Duration::from_millis(1));
     }
 }
 
@@ -92,31 +103,32 @@ struct Trial {
     longest: AtomicU64,
 }
 
-fn take_one<R: Wait + Clock>(
-    rt: &R,
-    turns: &Turns<Count>,
-    pass: &mut Pass<Count>,
-    manner: Manner,
-) -> u64
+fn take_one<R: Wait>(rt: &R, turns: &Turns<Count>, pass: &mut Pass<Count>) -> u64
     requires { (pass.old.lock ≡ turns.now.lock) × (pass.old.numbers ≢ []) }
     ensures { KeepsRights pass.old pass.new }
 {
-    let rest = match manner {
-        Manner::Pace | Manner::Wait => Duration::ZERO,
-        Manner::Sleep => Duration::from_millis(1),
-    };
-    let mut step = Step { rt, rest, turns: 0 };
+    let mut step = Step { turns: 0 };
     turns.turn(rt, pass, &mut step);
     step.turns
 }
 
-fn take_round<R: Wait + Clock>(rt: &R, turns: &Turns<Count>, pass: &mut Pass<Count>) -> u64
+fn take_sleepy_one<R: Wait + Clock>(rt: &R, turns: &Turns<Count>, pass: &mut Pass<Count>) -> u64
+    requires { (pass.old.lock ≡ turns.now.lock) × (pass.old.numbers ≢ []) }
+    ensures { KeepsRights pass.old pass.new }
+{
+    let step = Step { turns: 0 };
+    let mut sleepy = SleepyStep { rt, step };
+    turns.turn(rt, pass, &mut sleepy);
+    sleepy.step.turns
+}
+
+fn take_round<R: Wait>(rt: &R, turns: &Turns<Count>, pass: &mut Pass<Count>) -> u64
     requires { (pass.old.lock ≡ turns.now.lock) × (pass.old.numbers ≢ []) }
     ensures { KeepsRights pass.old pass.new }
 {
     let mut count = 0;
     for _ in 0..ROUND {
-        count = take_one(rt, turns, pass, Manner::Pace);
+        count = take_one(rt, turns, pass);
     }
     count
 }
@@ -158,9 +170,11 @@ fn watch<R: Wait + Clock>(
         if before >= trial.end {
             break;
         }
-        trial
-            .count
-            .fetch_max(take_one(rt, turns, pass, trial.manner), SeqCst);
+        let count = match trial.manner {
+            Manner::Pace | Manner::Wait => take_one(rt, turns, pass),
+            Manner::Sleep => take_sleepy_one(rt, turns, pass),
+        };
+        trial.count.fetch_max(count, SeqCst);
         taken = taken.saturating_add(1);
         let now = Instant::now(rt)?;
         longest = longest.max(now.saturating_duration_since(before));

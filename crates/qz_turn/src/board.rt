@@ -15,6 +15,8 @@ use std::alloc::{AllocFailed, Global};
 use std::hint::spin_loop;
 use std::snapshot::Snapshot;
 use std::sync::Wait;
+use std::sync::atomic::AtomicU64;
+use std::sync::atomic::Ordering::SeqCst;
 
 // The words: the next ticket, and the one that is served. The one slot has the value.
 const TICKET: usize = 0;
@@ -31,9 +33,11 @@ pub type Place<T> = Seat<T, View<<T as Told>::Item, <T as Told>::Key>>;
 #[derive(Drop)]
 pub struct Board<T: Told> {
     table: Table<T, View<T::Item, T::Key>, About<T>, InTurn, Global>,
-    // Where threads sleep that have a ticket, until the next one is served, and those that have none.
+    // Where threads sleep that have a ticket, until the next one is served, and those that have none; and how many sleep
+    // there or are about to.
     served: EventCount,
     room: Room,
+    sleepers: AtomicU64,
     ghost sized: { (table.shared.table_id.words ≡ 2) × (table.shared.table_id.slots ≡ 1) },
 }
 
@@ -72,6 +76,7 @@ impl<T: Told> Board<T> {
                     table,
                     served: EventCount::new(),
                     room: Room::new(),
+                    sleepers: AtomicU64::new(0),
                 },
                 seat,
             )),
@@ -109,16 +114,37 @@ impl<T: Told> Board<T> {
             }
             spin_loop();
         }
+        self.sleepers.fetch_add(1, SeqCst);
         let number = self.room.come();
         // A turn that ended before that called nobody.
         if self.is_free() {
             self.room.call();
         }
         self.room.wait(rt, number);
+        self.sleepers.fetch_sub(1, SeqCst);
         true
     }
 
+    // Takes the next ticket once the lock is free, or this thread is called.
+    #[cold]
+    #[inline(never)]
+    fn draw_late<R: Wait>(&self, rt: &R, seat: &mut Place<T>) -> u64
+        requires own { seat.old.table_id ≡ self.now.table.shared.table_id }
+        requires ready { IsReady seat.old.me }
+        ensures own { seat.new.table_id ≡ seat.old.table_id }
+        ensures drawn { Draws seat.old.me result seat.new.me }
+    {
+        let is_called = self.await_call(rt);
+        let ticket = self.draw(seat);
+        if is_called {
+            self.room.tell_drawn();
+        }
+        ticket
+    }
+
     // Returns when another ticket than this one is served, or for no reason.
+    #[cold]
+    #[inline(never)]
     fn rest<R: Wait>(&self, rt: &R, served: u64) {
         for _ in 0..LOOKS {
             if self.table.shared.peek(SERVED) != served {
@@ -126,10 +152,20 @@ impl<T: Told> Board<T> {
             }
             spin_loop();
         }
+        self.sleepers.fetch_add(1, SeqCst);
         let sleep = self.served.prepare_wait();
         if self.table.shared.peek(SERVED) == served {
             sleep.wait(rt);
         }
+        self.sleepers.fetch_sub(1, SeqCst);
+    }
+
+    // Wakes those who have tickets, and calls one who has none.
+    #[cold]
+    #[inline(never)]
+    fn rouse(&self) {
+        self.served.notify_all();
+        self.room.call();
     }
 
     fn wait<R: Wait>(&self, rt: &R, seat: &mut Place<T>, ticket: u64)
@@ -155,11 +191,11 @@ impl<T: Told> Board<T> {
         ensures own { seat.new.table_id ≡ seat.old.table_id }
         ensures comes { Comes T.tells T.fits seat.old.me seat.new.me }
     {
-        let is_called = !self.is_free() && self.await_call(rt);
-        let ticket = self.draw(seat);
-        if is_called {
-            self.room.tell_drawn();
-        }
+        let ticket = if self.is_free() {
+            self.draw(seat)
+        } else {
+            self.draw_late(rt, seat)
+        };
         self.wait(rt, seat, ticket);
     }
 
@@ -181,8 +217,10 @@ impl<T: Told> Board<T> {
         ensures ends { Ends T.tells seat.old.me seat.new.me }
     {
         self.table.shared.fetch_add::<Serve>(seat, SERVED, 1);
-        self.served.notify_all();
-        self.room.call();
+        // Who isn't counted here looks once more before it sleeps.
+        if self.sleepers.load(SeqCst) > 0 {
+            self.rouse();
+        }
     }
 
     /// Cuts off a new seat, with the first number.
@@ -244,6 +282,7 @@ impl<T: Told> Board<T> {
             table,
             served: _,
             room: _,
+            sleepers: _,
         } = self;
         let mut closed = table.close_with(seat);
         let value = closed.take(0);
