@@ -9,9 +9,9 @@ failed=0
 trap 'kill "$server" 2>/dev/null; rm -rf "$work"' EXIT
 requests=$(grep -c . "$here/exam.txt")
 # One link for each request, and four for the clients behind them.
-"$here/../../quizd" serve memory "$port" 1 0 $((requests + 4)) >"$work/served" 2>"$work/errors" &
+"$here/../../quizd" ${UNPROVED:+--unproved} serve memory "$port" 1 0 $((requests + 4)) >"$work/served" 2>"$work/errors" &
 server=$!
-for _ in $(seq 600); do
+for _ in $(seq 1200); do
     (exec 3<>"/dev/tcp/127.0.0.1/$port") 2>/dev/null && break
     sleep 0.1
 done
