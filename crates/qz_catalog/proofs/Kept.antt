@@ -5,7 +5,7 @@ use Rattle.std.specs.Prelude.{ℤ, pos, ◌+ℤ◌, ◌&&◌, IfOk, fold, int_le
 use Rattle.std.proofs.lemmas.Bool.{le-leb}
 use Rattle.std.proofs.lemmas.Int.{ints}
 use Rattle.std.proofs.lemmas.List.Elements.{All-nil}
-use Rattle.qz_decimal.specs.Numbers.{one}
+use Rattle.qz_decimal.specs.Numbers.{IsMaxSum, IsQuizGrade, IsWithin, grade_one, one}
 use Rattle.qz_grading.specs.declared.outcome.Behaviour.{Behaviour}
 use Rattle.qz_grading.specs.declared.question.Question.{Question}
 use Rattle.qz_grading.specs.Grading.{at_place}
@@ -82,6 +82,20 @@ sound-of c q u w p (Some named) legal kept described is = let same : lean w (pla
 
 pub plan-sound : (c : List Record) (es : List Entry) (q u : ℕ) (w : Bool) (p : Plan) → IsHeld c es → option_map (lean w) (plan c q u) ≡ Some p → IsSoundPlan w p
 plan-sound c es q u w p held is = sound-of c q u w p (at_place (quizzes c) q) held.legal held.kept held.described is
+
+-- ---- how a quiz is graded
+
+range-of : (a b z : ℤ) → int_le a z && int_le z b ≡ true → IsWithin a b z
+range-of a b z is =
+    let low = and-left (int_le a z) (int_le z b) is in
+    let high = and-right (int_le a z) (int_le z b) is in
+    (omega (arith, ints, low), omega (arith, ints, high))
+
+pub grade-within : (c : List Record) (es : List Entry) (q : ℕ) → IsHeld c es → IsQuizGrade (policy c q).grade
+grade-within c es q held = range-of (pos 0) (pos (10000 * grade_one)) (policy c q).grade (grade-kept c q held.kept)
+
+pub sum-within : (c : List Record) (es : List Entry) (q : ℕ) → IsHeld c es → IsMaxSum (policy c q).sum
+sum-within c es q held = range-of (pos 0) (pos (2000000 * one)) (policy c q).sum (sum-range c q held.legal)
 
 pub if_ok-more : {A E : Type 0} (r : Result A E) (P Q : A → Type 0) → ((x : A) → P x → Q x) → IfOk r P → IfOk r Q
 if_ok-more (Ok x) P Q more p = more x p

@@ -12,11 +12,28 @@ use Rattle.qz_terms.specs.Catalog.{Person, has_token, is_made_with, made_user, t
 use Rattle.qz_terms.specs.Lists.{first_of, only_if}
 use Rattle.qz_terms.proofs.Walks.{all_kept, found_nowhere, option_map-either}
 use Rattle.qz_catalog.specs.declared.people.Made.{Made}
-use Rattle.qz_catalog.specs.Readings.{user_in}
+use Rattle.qz_catalog.specs.Readings.{made_name, user_in}
 use Rattle.qz_catalog.proofs.Telling.{count-kept, first-more, numbered-more, placed-length, placed-there, some-viewed}
 
 pub users-length : (c : List Record) → length (users c) ≡ length (filter_map made_user c)
 users-length c = length-map (enumerate_from 1 (filter_map made_user c)) (λ (u : ℕ × Person). user_with u.0 u.1) ∙ length-enumerate_from 1 (filter_map made_user c)
+
+-- ---- names
+
+names-from : (k : ℕ) (ps : List Person) → map (λ (p : Person). p.name) ps ≡ map (λ (u : User). u.name) (map (λ (u : ℕ × Person). user_with u.0 u.1) (enumerate_from k ps))
+names-from k [] = refl
+names-from k (p ∷ ps) = ap (λ (ns : List (List ℕ)). p.name ∷ ns) (names-from (k + 1) ps)
+
+named-step : (r : Record) (c : List Record) (o : Option Person) → made_user r ≡ o → filter_map made_name c ≡ map (λ (p : Person). p.name) (filter_map made_user c) → filter_map made_name (r ∷ c) ≡ map (λ (p : Person). p.name) (filter_map made_user (r ∷ c))
+named-step r c None is rest = rw is rest
+named-step r c (Some p) is rest = rw is (ap (λ (ns : List (List ℕ)). p.name ∷ ns) rest)
+
+named : (c : List Record) → filter_map made_name c ≡ map (λ (p : Person). p.name) (filter_map made_user c)
+named [] = refl
+named (r ∷ c) = named-step r c (made_user r) refl (named c)
+
+pub names-told : (c : List Record) → filter_map made_name c ≡ map (λ (u : User). u.name) (users c)
+names-told c = named c ∙ names-from 1 (filter_map made_user c)
 
 -- ---- the user of a token
 

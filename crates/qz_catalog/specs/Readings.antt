@@ -1,5 +1,5 @@
 -- What the parts of a catalogue's list are read as.
-use Rattle.std.specs.Prelude.{ℕ, ℤ, List, Option, None, if◌then◌else◌, filter_map, unwrap_or}
+use Rattle.std.specs.Prelude.{ℕ, ℤ, List, Option, None, if◌then◌else◌, filter_map, option_map, unwrap_or}
 use Rattle.qz_grading.specs.declared.outcome.Behaviour.{Behaviour}
 use Rattle.qz_grading.specs.Steps.{last_of}
 use Rattle.qz_terms.specs.declared.access.Override.{Override}
@@ -9,12 +9,17 @@ use Rattle.qz_terms.specs.declared.plan.Planned.{Planned}
 use Rattle.qz_terms.specs.declared.record.Record.{Record}
 use Rattle.qz_terms.specs.declared.request.Whom.TheVariants as whom
 use Rattle.qz_terms.specs.Catalog as catalog
+use Rattle.qz_terms.specs.Catalog.{Person}
 use Rattle.qz_catalog.specs.declared.people.Made.{Made}
 use Rattle.qz_catalog.specs.declared.quizzes.Named.{Named}
 
 -- a user, as its record made it
 abbrev pub user_in : Made → User
 user_in m = record { number = m.number; name = m.name.now; role = m.role; token = m.token.now }
+
+-- the name of the user that a record makes
+abbrev pub made_name : Record → Option (List ℕ)
+made_name r = option_map (λ (p : Person). p.name) (catalog.made_user r)
 
 -- the name and behaviour of a quiz
 abbrev pub named_in : Named → List ℕ × Behaviour

@@ -1,9 +1,11 @@
 //! The catalogue and what is asked of it.
 
-ghost use Rattle.std.specs.Prelude.{◌≡◌, ◌⊎◌, ◌≤◌, [], ◌∷◌, true, false, length, Some, None, option_map, IfOk, IfErr, OnErr, OnOk};
+ghost use Rattle.std.specs.Prelude.{◌≡◌, ◌⊎◌, ◌≤◌, [], ◌∷◌, true, false, length, map, Some, None, option_map, IfOk, IfErr, OnErr, OnOk};
+ghost use Rattle.qz_decimal.specs.Numbers.{IsMaxSum, IsQuizGrade};
 ghost use Rattle.qz_grading.specs.declared.refusal.Refusal.TheVariants as refusal;
 ghost use Rattle.qz_grading.specs.Behaviours.{first_some};
-ghost use Rattle.qz_terms.specs.Catalog.{plan, user_of_token};
+ghost use Rattle.qz_terms.specs.declared.people.User.{User};
+ghost use Rattle.qz_terms.specs.Catalog.{plan, policy, user_of_token, users};
 ghost use Rattle.qz_terms.specs.CatalogAnswer.{asks_catalog, catalog_after, catalog_answer, catalog_verdict, is_look_in};
 ghost use Rattle.qz_terms.specs.Cause.{Denied, missing_quiz, missing_user};
 ghost use Rattle.qz_terms.specs.Kept.{IsKeptPlan};
@@ -13,13 +15,13 @@ ghost use Rattle.qz_catalog.specs.declared.decision.Decision.TheVariants as deci
 ghost use Rattle.qz_catalog.specs.Holdings.{founded, lean};
 
 use crate::decision::{Decision, decide};
-use crate::people::{user, user_of_token};
-use crate::planning::plan;
+use crate::people::{names, user, user_of_token};
+use crate::planning::{plan, policy_of};
 use crate::putting::put;
 use crate::replies::{look, said};
 use qz_bank::Entries;
 use qz_grading::Refusal;
-use qz_terms::{Ask, Event, Plan, Record, Reply, Request, User};
+use qz_terms::{Ask, Event, Plan, Policy, Record, Reply, Request, User};
 use qz_text::{Listed, NoMemory, Text, TryCopy};
 use std::alloc::Global;
 use std::marker::Model;
@@ -111,6 +113,29 @@ impl Catalog {
     {
         let records = self.records.as_slice();
         plan(alloc, records, &self.entries, quiz, user, whole)
+    }
+}
+
+impl Catalog {
+    /// The users' names, in order of number. `Memory` is the only error.
+    pub fn names(&self, alloc: Global) -> Result<Listed<Text>, Refusal>
+        ensures names { IfOk result (λ names. names ≡ map (λ (u : User). u.name) (users self.now)) }
+        ensures wants { IfErr result (λ r. r ≡ Refusal.Memory) }
+    {
+        Ok(names(alloc, self.records.as_slice())?)
+    }
+
+    /// How a quiz is graded, over all the records: the policy that each plan of it has, whoever the user is.
+    ///
+    /// A quiz that isn't there is `Unknown`.
+    pub fn policy(&self, alloc: Global, quiz: u32) -> Result<Policy, Refusal>
+        ensures policy { IfOk result (λ p. p ≡ policy self.now quiz) }
+        ensures grade { IfOk result (λ p. IsQuizGrade p.grade) }
+        ensures sum { IfOk result (λ p. IsMaxSum p.sum) }
+        ensures there { OnOk result (missing_quiz self.now quiz ≡ None) }
+        ensures refused { IfErr result (λ r. (r ≡ Refusal.Memory) ⊎ (missing_quiz self.now quiz ≡ Some r)) }
+    {
+        policy_of(alloc, self.records.as_slice(), &self.entries, quiz)
     }
 }
 

@@ -1,13 +1,17 @@
 //! What a list of records tells of users and groups. Each call reads the list once, from the front.
 
-ghost use Rattle.std.specs.Prelude.{◌≡◌, ◌+◌, ◌-◌, ◌<◌, ◌≤◌, ◌^◌, length, is_some, position, option_map, option_and_then, IfOk};
+ghost use Rattle.std.specs.Prelude.{◌≡◌, ◌+◌, ◌-◌, ◌<◌, ◌≤◌, ◌^◌, length, map, is_some, position, option_copied, option_map, option_and_then, IfOk};
+ghost use Rattle.qz_terms.specs.declared.people.User.{User};
 ghost use Rattle.qz_terms.specs.Catalog.{asked, group_by, groups, has_token, is_made_with, made_user, token_place, user_of_token, user_with, users};
 ghost use Rattle.qz_terms.specs.Lists.{only_if};
-ghost use Rattle.qz_catalog.specs.Readings.{user_in};
+ghost use Rattle.qz_catalog.specs.Readings.{made_name, user_in};
 
 use qz_terms::{Event, Record, Request, Role, User};
-use qz_text::{NoMemory, Text, TryCopy};
+use qz_text::{Listed, NoMemory, Text, TryCopy};
 use std::alloc::Global;
+
+/// The name of the manager of the founding.
+const MANAGER: &str = "admin";
 
 /// A user, as its record made it.
 #[derive(Clone, Copy)]
@@ -37,7 +41,7 @@ fn made_user(number: u32, record: &Record) -> Option<Made>
     match &record.event {
         Event::Founded { token, .. } => Some(Made {
             number,
-            name: "admin",
+            name: MANAGER,
             role: Role::Manager,
             token,
         }),
@@ -76,6 +80,32 @@ pub(crate) fn user_count(records: &[Record]) -> usize
         count += usize::from(makes_user(record));
     }
     count
+}
+
+/// The name of the user that a record makes.
+fn made_name(record: &Record) -> Option<&str>
+    ensures { option_copied result ≡ made_name «record».now }
+{
+    match &record.event {
+        Event::Founded { .. } => Some(MANAGER),
+        Event::Asked {
+            request: Request::User { name, .. },
+        } => Some(name.as_str()),
+        _ => None,
+    }
+}
+
+/// The users' names, in order of number.
+pub(crate) fn names(alloc: Global, records: &[Record]) -> Result<Listed<Text>, NoMemory>
+    ensures { IfOk result (λ found. found ≡ map (λ (u : User). u.name) (users records.now)) }
+{
+    let mut items = Vec::new(alloc);
+    for record in records {
+        if let Some(name) = made_name(record) {
+            items.push(Text::of(alloc, name)?)?;
+        }
+    }
+    Ok(Listed { items })
 }
 
 /// A user, if it has this token.

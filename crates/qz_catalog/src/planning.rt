@@ -14,7 +14,7 @@ ghost use Rattle.qz_terms.specs.Rows.{sum_of};
 ghost use Rattle.qz_catalog.specs.Holdings.{IsHeld, lean};
 ghost use Rattle.qz_catalog.specs.Readings.{slot_over};
 
-use crate::missing::missing_user;
+use crate::missing::{missing_quiz, missing_user};
 use crate::quizzes::{is_ready, quiz, slot_by};
 use crate::settings::{policy_terms, settings};
 use qz_bank::Entries;
@@ -127,6 +127,25 @@ fn policy(records: &[Record], quiz: u32, laid: &[Planned]) -> Policy
         grade,
         sum: sum_of(laid),
     }
+}
+
+/// How a quiz is graded. A quiz that isn't there is `Unknown`.
+pub(crate) fn policy_of(
+    alloc: Global,
+    records: &[Record],
+    entries: &Entries,
+    number: u32,
+) -> Result<Policy, Refusal>
+    requires { IsHeld records.now entries.now }
+    ensures value { IfOk result (λ p. p ≡ policy records.now number) }
+    ensures there { OnOk result (missing_quiz records.now number ≡ None) }
+    ensures refused { IfErr result (λ r. (r ≡ Refusal.Memory) ⊎ (missing_quiz records.now number ≡ Some r)) }
+{
+    if let Some(refusal) = missing_quiz(records, number) {
+        return Err(refusal);
+    }
+    let slots = slots(alloc, records, entries, number)?;
+    Ok(policy(records, number, slots.as_slice()))
 }
 
 /// The question of a slot, if it is there.

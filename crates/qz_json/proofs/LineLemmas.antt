@@ -32,7 +32,9 @@ use Rattle.qz_terms.specs.declared.reply.Status.{Status}
 use Rattle.qz_terms.specs.declared.reply.Status.TheVariants as status
 use Rattle.qz_wire.specs.Escapes.{escaped, text_word, written_for}
 use Rattle.qz_wire.specs.Lines.{newline}
-use Rattle.qz_wire.specs.Replies.{attempt_or_dash, attempt_word, done_words, grade_or_dash, how_word, moment_word, refused_words, reply_line, reply_words, row_word, row_words, shape_words, shown_words, status_word, then_word, thing_number}
+use Rattle.qz_pages.specs.Pages.{page_text}
+use Rattle.qz_pages.specs.Shown.{attempt_word, shown_words}
+use Rattle.qz_wire.specs.Replies.{attempt_or_dash, done_words, grade_or_dash, how_word, moment_word, refused_words, reply_line, reply_words, row_word, row_words, shape_words, status_word, then_word, thing_number}
 use Rattle.qz_json.specs.Lines.{behind, line_by_words, line_list, spaced}
 use Rattle.qz_json.specs.Said.{done_list, refusal_list, refusal_number, shape_list}
 
@@ -252,7 +254,7 @@ done-tied (done.Live attempt) = more (one_word (codes "live") refl) (attempt_or_
 done-tied (done.Jobs count) = counted (one_word (codes "jobs") refl) count
 done-tied (done.SlotView s mark version steps) = counted (counted (standing (one_word (codes "slot") refl) s mark) version) steps
 done-tied (done.Attempt s total due) = more (more (more (one_word (codes "attempt") refl) (status_word s) (as_it_is (status_word s) (status-word s))) (shown_words mark_text total) (marked total)) (moment_word due) (due_at due)
-done-tied (done.Page attempt quiz due parts) = one_word (codes "page") refl
+done-tied (done.Page attempt quiz due parts) = record { is = ap (λ (t : List ℕ). codes " page " ++ t) (sym (append-nil (text_word (page_text (done.Page attempt quiz due parts))))) }
 done-tied (done.Grade grade) = more (one_word (codes "grade") refl) (shown_words grade_text grade) (graded grade)
 done-tied (done.Report rows) = record { is = ap (λ (t : List ℕ). codes " report" ++ t) (rows-tied rows) }
 done-tied (done.Gift question) = record { is = ap (λ (t : List ℕ). codes " gift " ++ t) (sym (append-nil (text_word (canonical_question question)))) }

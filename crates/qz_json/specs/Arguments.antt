@@ -45,7 +45,9 @@ arguments_of verb.Settle = text (codes "attempt") ∷ []
 arguments_of verb.Live = number (codes "shard") ∷ text (codes "attempt") ∷ []
 arguments_of verb.View = text (codes "attempt") ∷ number (codes "slot") ∷ []
 arguments_of verb.Total = text (codes "attempt") ∷ []
+arguments_of verb.Page = text (codes "attempt") ∷ []
 arguments_of verb.Grade = number (codes "quiz") ∷ number (codes "user") ∷ []
+arguments_of verb.Report = number (codes "quiz") ∷ []
 arguments_of verb.Bank = number (codes "entry") ∷ number (codes "version") ∷ []
 
 -- ---- members

@@ -10,7 +10,9 @@ use Rattle.qz_grading.specs.Words.{behaviour_word, grade_text, kind_word, mark_t
 use Rattle.qz_terms.specs.declared.reply.Done.{Done}
 use Rattle.qz_terms.specs.declared.reply.Done.TheVariants as done
 use Rattle.qz_terms.specs.declared.reply.Shown.{Shown}
-use Rattle.qz_wire.specs.Replies.{attempt_or_dash, attempt_word, how_word, moment_word, row_word, shown_words, status_word, thing_number}
+use Rattle.qz_pages.specs.Pages.{page_text}
+use Rattle.qz_pages.specs.Shown.{attempt_word, shown_words}
+use Rattle.qz_wire.specs.Replies.{attempt_or_dash, how_word, moment_word, row_word, status_word, thing_number}
 
 -- the state and the mark of a slot
 abbrev pub standing_list : State → Shown ℤ → List (List ℕ)
@@ -23,7 +25,7 @@ slot_list attempt slot = attempt_word attempt ∷ decimal slot ∷ []
 abbrev pub shape_list : Shape → List (List ℕ)
 shape_list s = kind_word s.kind ∷ decimal s.first ∷ decimal s.second ∷ []
 
--- the words behind the place; what a page shows isn't told yet
+-- the words behind the place
 abbrev pub done_list : Done → List (List ℕ)
 done_list (done.Made number) = codes "made" ∷ decimal number ∷ []
 done_list done.Done = codes "done" ∷ []
@@ -46,7 +48,7 @@ done_list (done.Live attempt) = codes "live" ∷ attempt_or_dash attempt ∷ []
 done_list (done.Jobs count) = codes "jobs" ∷ decimal count ∷ []
 done_list (done.SlotView state mark version steps) = codes "slot" ∷ standing_list state mark ++ decimal version ∷ decimal steps ∷ []
 done_list (done.Attempt status total due) = codes "attempt" ∷ status_word status ∷ shown_words mark_text total ∷ moment_word due ∷ []
-done_list (done.Page attempt quiz due parts) = codes "page" ∷ []
+done_list (done.Page attempt quiz due parts) = codes "page" ∷ page_text (done.Page attempt quiz due parts) ∷ []
 done_list (done.Grade grade) = codes "grade" ∷ shown_words grade_text grade ∷ []
 done_list (done.Report rows) = codes "report" ∷ map row_word rows
 done_list (done.Gift question) = codes "gift" ∷ canonical_question question ∷ []

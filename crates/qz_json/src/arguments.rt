@@ -78,7 +78,7 @@ fn arguments(verb: Verb) -> &'static [(&'static str, Form)]
             ("limit", Form::Setting),
             ("allowed", Form::Setting),
         ],
-        Verb::Start => &[("quiz", Form::Number)],
+        Verb::Start | Verb::Report => &[("quiz", Form::Number)],
         Verb::Save | Verb::Submit => &[
             ("attempt", Form::Text),
             ("slot", Form::Number),
@@ -86,7 +86,7 @@ fn arguments(verb: Verb) -> &'static [(&'static str, Form)]
             ("response", Form::Text),
         ],
         Verb::Again | Verb::View => &[("attempt", Form::Text), ("slot", Form::Number)],
-        Verb::Finish | Verb::Settle | Verb::Total => &[("attempt", Form::Text)],
+        Verb::Finish | Verb::Settle | Verb::Total | Verb::Page => &[("attempt", Form::Text)],
         Verb::Mark => &[
             ("attempt", Form::Text),
             ("slot", Form::Number),

@@ -1,14 +1,17 @@
 //! The words of replies, one by one.
 
-ghost use Rattle.std.specs.Prelude.{◌≡◌, [], ◌∷◌, ◌++◌, OnOk, decimal, map};
+ghost use Rattle.std.specs.Prelude.{◌≡◌, [], ◌∷◌, ◌++◌, IsTrue, OnOk, codes, decimal, map};
 ghost use Rattle.qz_grading.specs.Canonical.{canonical_question};
 ghost use Rattle.qz_grading.specs.Words.{grade_text, mark_text};
-ghost use Rattle.qz_wire.specs.Replies.{attempt_word, moment_word, row_word, shown_words};
+ghost use Rattle.qz_pages.specs.Pages.{is_page, page_text};
+ghost use Rattle.qz_pages.specs.Shown.{attempt_word, shown_words};
+ghost use Rattle.qz_wire.specs.Replies.{moment_word, row_word};
 ghost use Rattle.qz_json.specs.Said.{standing_list, slot_list, shape_list, done_list, refusal_number, refusal_list};
 
 use gift_write::question_onto;
 use qz_decimal::{Grade, Mark};
 use qz_grading::{AttemptId, Question, Refusal, Shape, Spelled, State};
+use qz_pages::page;
 use qz_terms::{Done, How, Row, Shown, Status};
 use qz_text::{Listed, NoMemory, Text};
 use qz_wire::{how_word, status_word, thing_number};
@@ -34,7 +37,7 @@ fn mark_onto(words: &mut Listed<Text>, mark: Shown<Mark>) -> Result<(), NoMemory
     ensures { OnOk result (words.new ≡ words.old ++ shown_words mark_text mark ∷ []) }
 {
     let mut items = String::new(*words.items.allocator());
-    qz_wire::mark_onto(&mut items, mark)?;
+    qz_pages::mark_onto(&mut items, mark)?;
     Ok(words.items.push(Text { items })?)
 }
 
@@ -58,7 +61,7 @@ fn attempt_onto(words: &mut Listed<Text>, attempt: AttemptId) -> Result<(), NoMe
     ensures { OnOk result (words.new ≡ words.old ++ attempt_word attempt ∷ []) }
 {
     let mut items = String::new(*words.items.allocator());
-    qz_wire::attempt_onto(&mut items, attempt)?;
+    qz_pages::attempt_onto(&mut items, attempt)?;
     Ok(words.items.push(Text { items })?)
 }
 
@@ -213,6 +216,16 @@ fn attempt_view_onto(
     moment_onto(words, due)
 }
 
+/// A page, whose text is one word.
+fn page_onto(words: &mut Listed<Text>, done: &Done) -> Result<(), NoMemory>
+    requires { IsTrue (is_page done.now) }
+    ensures { OnOk result (words.new ≡ words.old ++ codes "page" ∷ page_text done.now ∷ []) }
+{
+    word_onto(words, "page")?;
+    let page = page(*words.items.allocator(), done)?;
+    Ok(words.items.push(page)?)
+}
+
 /// The words behind the place.
 pub fn done_onto(words: &mut Listed<Text>, done: &Done) -> Result<(), NoMemory>
     ensures { OnOk result (words.new ≡ words.old ++ done_list done.now) }
@@ -277,7 +290,7 @@ pub fn done_onto(words: &mut Listed<Text>, done: &Done) -> Result<(), NoMemory>
         } => slot_view_onto(words, *state, *mark, *version, *steps),
         Done::Attempt { status, total, due } => attempt_view_onto(words, *status, *total, *due),
         // What a page shows isn't told yet: its word stands alone.
-        Done::Page { .. } => word_onto(words, "page"),
+        Done::Page { .. } => page_onto(words, done),
         Done::Grade { grade } => {
             word_onto(words, "grade")?;
             grade_onto(words, *grade)

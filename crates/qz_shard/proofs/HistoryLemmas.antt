@@ -19,7 +19,7 @@ unplaced-by : (n : ℕ) (o : Option How) → is_some o ≡ false → option_map 
 unplaced-by n None is = refl
 unplaced-by n (Some how) is = absurd cc
 
-there-by : {A : Type 0} (xs : List A) (n : ℕ) (o : Option A) → slice_get xs n ≡ o → n < length xs → is_some o ≡ true
+pub there-by : {A : Type 0} (xs : List A) (n : ℕ) (o : Option A) → slice_get xs n ≡ o → n < length xs → is_some o ≡ true
 there-by xs n None is inside = elim (slice_get_cases xs n).1 [ inl w ↦ absurd cc | inr w ↦ absurd (omega arith) ]
 there-by xs n (Some x) is inside = refl
 

@@ -11,6 +11,7 @@ pub mod Allowing
 pub mod Making
 pub mod StepLemmas
 pub mod GradeLemmas
+pub mod Takers
 pub mod LookLemmas
 pub mod PageLemmas
 pub mod Again
@@ -18,3 +19,5 @@ pub mod Alone
 pub mod Effects
 pub mod Placing
 pub mod Following
+pub mod TargetLemmas
+pub mod WorkLemmas

@@ -96,7 +96,7 @@ All-learned [] qs all = All-nil IsLearnable
 All-learned (s ∷ ss) [] all = All-nil IsLearnable
 All-learned (s ∷ ss) (q ∷ qs) all = All-cons IsLearnable _ _ (All-head IsQuestion q qs all) (All-learned ss qs (All-tail IsQuestion q qs all))
 
-learned-kept : (h : List Record) (ss : List Planned) (qs : List Question) → AreQuestions qs → AreLearned (new_versions h (learned_all ss qs))
+pub learned-kept : (h : List Record) (ss : List Planned) (qs : List Question) → AreQuestions qs → AreLearned (new_versions h (learned_all ss qs))
 learned-kept h ss qs all = All-map IsQuestion (λ (l : Learned). l.question) (new_versions h (learned_all ss qs)) (All-filter (λ (l : Learned). is_none (history.version h l.entry l.version)) IsLearnable (once same_version (learned_all ss qs)) (All-once (learned_all ss qs) (All-learned ss qs all)))
 
 start-event-kept : (h : List Record) (user : User) (plan : Plan) → IsKeptPlan plan → KeepsEvent (started_by h user plan)
@@ -104,16 +104,9 @@ start-event-kept h user plan kept = (rw (length-bounds plan.at plan.slots, kept.
 
 -- ---- the next record
 
-asked-terms : (e : Event) → is_asked_event e ≡ true → true ≡ has_terms e
-asked-terms (event.Started quiz nth behaviour bounds learned) asked = refl
-asked-terms (event.Acted a k x) asked = refl
-asked-terms (event.Noted a k x) asked = refl
-asked-terms (event.Ended a how) asked = refl
-asked-terms e asked = absurd cc
-
 event-kept : (index count : ℕ) (h : List Record) (now : ℕ) (user : User) (plan : Plan) (key : Option (List ℕ)) (u : ℕ) (e : Event)
-    → All IsKept h → is_moment now ≡ true → IsKeptPlan plan → KeepsEvent e → is_asked_event e ≡ true → IsKept (record_under (time h u now) user u key plan e)
-event-kept index count h now user plan key u e kept is planned keeps asked = record { moment = time-kept h u now kept is; terms = asked-terms e asked; settings = planned.settings; event = keeps }
+    → All IsKept h → is_moment now ≡ true → IsKeptPlan plan → KeepsEvent e → true ≡ has_terms e → IsKept (record_under (time h u now) user u key plan e)
+event-kept index count h now user plan key u e kept is planned keeps terms = record { moment = time-kept h u now kept is; terms = terms; settings = planned.settings; event = keeps }
 
 -- what is known where a decision makes an event
 pub record IsMaking (index count : ℕ) (h : List Record) (now : ℕ) (user : User) (plan : Plan) (who : Caller) (key : Option (List ℕ)) (x : Request) (e : Event) : Type 0 where
@@ -147,6 +140,11 @@ on-asked a e (acted b k s) = refl
 on-asked a e (noted b k s) = refl
 on-asked a e (ended b how) = refl
 
+on-terms : (a : AttemptId) (e : Event) → IsOn a e → true ≡ has_terms e
+on-terms a e (acted b k s) = refl
+on-terms a e (noted b k s) = refl
+on-terms a e (ended b how) = refl
+
 -- of an event on an attempt
 next-on : (index count : ℕ) (h : List Record) (now : ℕ) (user : User) (plan : Plan) (who : Caller) (key : Option (List ℕ)) (x : Request) (a : AttemptId) (e : Event)
     → IsGranted index count h (time h a.user now) user plan who key x → IsGranted index count h (time h a.user now) user (made_ready plan) who key x → missing_attempt h user a ≡ None → IsOn a e
@@ -155,7 +153,7 @@ next-on : (index count : ℕ) (h : List Record) (now : ℕ) (user : User) (plan 
     → IsNext index count h (record_under (time h a.user now) user a.user key plan e)
 next-on index count h now user plan who key x a e g ready there on put kept is planned keeps = record {
   allowed = on-allowed index count h now user plan who key x a e g ready there on put;
-  kept = event-kept index count h now user plan key a.user e kept is planned keeps (on-asked a e on);
+  kept = event-kept index count h now user plan key a.user e kept is planned keeps (on-terms a e on);
   asked = on-asked a e on;
 }
 

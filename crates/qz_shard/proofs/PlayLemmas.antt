@@ -34,7 +34,7 @@ range-more : (a n : ℕ) → range_with_len a (suc n) ≡ range_with_len a n ++ 
 range-more a zero = let same : a ≡ a + 0 = omega arith in ap (λ (m : ℕ). m ∷ []) same
 range-more a (suc n) = let same : a + 1 + n ≡ a + suc n = omega arith in ap (λ (t : List ℕ). a ∷ t) (range-more (a + 1) n ∙ ap (λ (m : ℕ). range_with_len (a + 1) n ++ m ∷ []) same)
 
-places-more : (n : ℕ) → places_to (n + 1) ≡ places_to n ++ (n + 1) ∷ []
+pub places-more : (n : ℕ) → places_to (n + 1) ≡ places_to n ++ (n + 1) ∷ []
 places-more n =
     let more : n + 1 ≡ suc n = omega arith in
     let last : 1 + n ≡ n + 1 = omega arith in

@@ -1,10 +1,14 @@
 -- What a shard is seen as, what is asked of it, and how it answers.
 use Rattle.std.specs.Prelude.{◌≡◌, ℕ, ◌<◌, ◌-◌, ◌^◌, ◌⊎◌, Bool, true, false, List, [], ◌∷◌, ◌++◌, length, if◌then◌else◌, nat_lt, nat_le, ◌&&◌, Some, None, Option, All}
 use Rattle.std.specs.List.{list_all}
+use Rattle.qz_grading.specs.declared.question.Question.{Question}
 use Rattle.qz_grading.specs.declared.refusal.Refusal.TheVariants as refusal
+use Rattle.qz_grading.specs.Grading.{at_place}
 use Rattle.qz_terms.specs.declared.ask.Ask.{Ask}
 use Rattle.qz_terms.specs.declared.people.User.{User}
+use Rattle.qz_terms.specs.declared.plan.Job.{Job}
 use Rattle.qz_terms.specs.declared.plan.Plan.{Plan}
+use Rattle.qz_terms.specs.declared.plan.Planned.{Planned}
 use Rattle.qz_terms.specs.declared.record.Event.{Event}
 use Rattle.qz_terms.specs.declared.record.Event.TheVariants as event
 use Rattle.qz_terms.specs.declared.record.Record.{Record}
@@ -12,7 +16,7 @@ use Rattle.qz_terms.specs.declared.reply.Reply.{Reply}
 use Rattle.qz_terms.specs.declared.reply.Reply.TheVariants as reply
 use Rattle.qz_terms.specs.declared.request.Request.{Request}
 use Rattle.qz_terms.specs.declared.request.Request.TheVariants as request
-use Rattle.qz_terms.specs.Answer.{answer_here, list_after, said}
+use Rattle.qz_terms.specs.Answer.{answer_here, list_after, said, work_after, work_answer}
 use Rattle.qz_terms.specs.Cause.{forbidden, is_keyed, is_student, missing_here, spells}
 use Rattle.qz_terms.specs.History as history
 use Rattle.qz_terms.specs.Kept.{IsKept, IsKeptPlan, KeepsAsked, is_moment}
@@ -31,12 +35,15 @@ pub record Holding : Type 0 where
 abbrev pub is_shard : ℕ → ℕ → Bool
 is_shard index count = nat_lt index count && nat_le count 64
 
--- what a request puts, and no job
+-- what a request to a shard puts, also a worker's
 abbrev pub is_asked_event : Event → Bool
 is_asked_event (event.Started quiz nth behaviour bounds learned) = true
 is_asked_event (event.Acted a k x) = true
 is_asked_event (event.Noted a k x) = true
 is_asked_event (event.Ended a how) = true
+is_asked_event (event.Rebound job a k bound learned) = true
+is_asked_event (event.Skipped job a k bound newer) = true
+is_asked_event (event.JobDone job quiz position) = true
 is_asked_event e = false
 
 abbrev pub is_asked : Record → Bool
@@ -83,6 +90,12 @@ abbrev pub StartsHere : Holding → User → Plan → Request → Type 0
 StartsHere s user plan (request.Start quiz) = (is_here s.index s.count user.number ≡ true) × (length plan.questions ≡ length plan.slots)
 StartsHere s user plan x = Unit {0}
 
+-- a worker's job: its plan is kept, and a version in it that the shard has learned has there the question learned
+pub record IsWorkable (h : List Record) (job : Job) (moment : ℕ) : Type 0 where
+  pub kept_plan : IsKeptPlan job.plan
+  pub known : (k : ℕ) (s : Planned) (q x : Question) → at_place job.plan.slots k ≡ Some s → at_place job.plan.questions k ≡ Some q → history.version h s.entry s.version ≡ Some x → x ≡ q
+  pub kept_moment : is_moment moment ≡ true
+
 -- ---- how it answers
 
 -- where a start's plan is older than a job that is done, the position of that job
@@ -94,6 +107,12 @@ older h plan x = None
 abbrev pub Answers : List Record → ℕ → User → Plan → Ask → Reply → List Record → Type 0
 Answers h now user plan ask told g =
     ((told ≡ answer_here h now user plan ask) × (g ≡ list_after h now user plan ask))
+    ⊎ ((told ≡ reply.Refused refusal.Memory) × (g ≡ h))
+
+-- the same of a worker's request
+abbrev pub Works : List Record → ℕ → ℕ → Job → Reply → List Record → Type 0
+Works h now caller job told g =
+    ((told ≡ work_answer h now caller job) × (g ≡ work_after h now caller job))
     ⊎ ((told ≡ reply.Refused refusal.Memory) × (g ≡ h))
 
 -- ---- what a student's reply depends on

@@ -6,5 +6,6 @@ pub mod Replays
 pub mod Nexts
 pub mod Answering
 pub mod Grades
+pub mod Works
 pub mod Pages
 pub mod Lives

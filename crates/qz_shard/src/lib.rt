@@ -16,12 +16,15 @@ mod pages;
 mod putting;
 mod replies;
 mod review;
+mod rows;
 mod shard;
 mod slots;
 mod starting;
 mod stepping;
+mod targets;
 mod totals;
 mod viewing;
+mod working;
 
 pub use shard::{Older, Shard};
 

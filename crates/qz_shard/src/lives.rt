@@ -16,7 +16,7 @@ fn is_before(one: AttemptId, other: AttemptId) -> bool
 }
 
 /// Whether an attempt comes before the one that is found so far.
-fn comes_first(attempt: AttemptId, found: Option<AttemptId>) -> bool
+pub(crate) fn comes_first(attempt: AttemptId, found: Option<AttemptId>) -> bool
     ensures { result ≡ comes_first attempt found }
 {
     match found {

@@ -74,7 +74,22 @@ fn append<L: Ledger>(
     }
 }
 
-/// Puts the record of an event at the end, and gives what is said of it. Where memory is wanting the list is as before.
+/// Puts a record at the end where there is room for it, and gives what is said of it. Where memory is wanting the list is as before.
+pub(crate) fn put_record<L: Ledger>(
+    alloc: Global,
+    records: &mut Listed<Record>,
+    made: Record,
+    steps: &mut Steps<L>,
+) -> Result<Reply, NoMemory>
+    requires { CanGrow records.old made }
+    ensures put { IfOk result (λ reply. IsPutWith records.old records.new made reply) }
+    ensures unchanged { OnErr result (records.new ≡ records.old) }
+{
+    make_room(&mut records.items)?;
+    append(alloc, records, made, steps)
+}
+
+/// Puts the record of an event that a request makes, and gives what is said of it. Where memory is wanting the list is as before.
 pub(crate) fn put<L: Ledger>(
     alloc: Global,
     records: &mut Listed<Record>,
@@ -89,7 +104,6 @@ pub(crate) fn put<L: Ledger>(
     ensures put { IfOk result (λ reply. IsPutWith records.old records.new (record_by moment user.now plan.now ask.now event) reply) }
     ensures unchanged { OnErr result (records.new ≡ records.old) }
 {
-    make_room(&mut records.items)?;
     let made = record_of(alloc, moment, user, plan, ask, event)?;
-    append(alloc, records, made, steps)
+    put_record(alloc, records, made, steps)
 }

@@ -120,11 +120,29 @@ fn reply_by<L: Ledger>(
             Ok(Done::Same { state, mark })
         }
         Event::Ended { attempt, how } => ended_reply(alloc, records, record, *attempt, *how, steps),
-        Event::Founded { .. }
-        | Event::Asked { .. }
-        | Event::Rebound { .. }
-        | Event::Skipped { .. }
-        | Event::JobDone { .. } => unreachable!(),
+        Event::Rebound { attempt, slot, .. } => {
+            let (state, mark) = shown(alloc, records, record, *attempt, *slot, steps)?;
+            Ok(Done::Rebound {
+                attempt: *attempt,
+                slot: *slot,
+                state,
+                mark,
+            })
+        }
+        Event::Skipped {
+            attempt,
+            slot,
+            bound,
+            newer,
+            ..
+        } => Ok(Done::Skipped {
+            attempt: *attempt,
+            slot: *slot,
+            bound: *bound,
+            newer: *newer,
+        }),
+        Event::JobDone { job, .. } => Ok(Done::JobDone { job: *job }),
+        Event::Founded { .. } | Event::Asked { .. } => unreachable!(),
     }
 }
 

@@ -1,23 +1,29 @@
 //! A shard and what is asked of it.
 
-ghost use Rattle.std.specs.Prelude.{◌≡◌, ◌⊎◌, ◌≤◌, List, [], length, true, false, Some, None, option_map, IfOk, IfErr, OnOk, OnErr, MatchResult};
+ghost use Rattle.std.specs.Prelude.{◌≡◌, ◌⊎◌, ◌≤◌, List, [], length, map, true, false, Ok, Some, None, option_map, IfOk, IfErr, OnOk, OnErr, MatchResult};
+ghost use Rattle.qz_decimal.specs.Numbers.{IsMaxSum, IsQuizGrade};
 ghost use Rattle.qz_grading.specs.declared.refusal.Refusal.TheVariants as refusal;
 ghost use Rattle.qz_terms.specs.declared.reply.Done.TheVariants as done;
 ghost use Rattle.qz_terms.specs.declared.reply.Reply.TheVariants as reply;
 ghost use Rattle.qz_terms.specs.Answer.{named_user};
-ghost use Rattle.qz_terms.specs.History.{live_after, place, quiz};
+ghost use Rattle.qz_terms.specs.History.{live_after, place, quiz, takers};
 ghost use Rattle.qz_terms.specs.Legal.{IsLegal};
 ghost use Rattle.qz_shard.specs.Answering.{IsAnswered, IsPosed};
-ghost use Rattle.qz_shard.specs.Holdings.{is_shard, is_change, is_look, IsAsked, StartsHere, older, Answers, IsAlone, IsAnsweredAgain};
+ghost use Rattle.qz_shard.specs.Grades.{graded};
+ghost use Rattle.qz_shard.specs.Holdings.{is_shard, is_change, is_look, IsAsked, StartsHere, older, Answers, IsAlone, IsAnsweredAgain, IsWorkable, Works};
+ghost use Rattle.qz_shard.specs.Works.{IsWorked};
 
 use crate::decision::{Decision, decide};
 use crate::history::{floor, place, start};
 use crate::lives::live_after;
 use crate::looking::seen;
-use crate::putting::{moment_of, put};
+use crate::putting::{moment_of, put, put_record};
 use crate::replies::said;
+use crate::rows::rows;
+use crate::working::{Work, work_on};
+use qz_decimal::Grade;
 use qz_grading::{AttemptId, Refusal, Steps, Thing};
-use qz_terms::{Ask, Done, Plan, Record, Reply, Request, User, named_user};
+use qz_terms::{Ask, Done, Job, Plan, Policy, Record, Reply, Request, User, named_user};
 use qz_text::{Listed, NoMemory};
 use std::alloc::Global;
 use std::marker::Model;
@@ -100,13 +106,31 @@ impl Shard {
     /// is overdue and isn't settled yet is among them.
     ///
     /// `after` is only a bound and needn't be there: 0 and 0 come before all. Where each attempt after it has ended the answer is
-    /// `None`. `Memory` is the only error, and no walk over a list that is kept in memory has it.
+    /// `None`. A walk over a list that is kept in memory has no error.
     pub fn live(&mut self, after: AttemptId) -> Result<Option<AttemptId>, Refusal>
-        ensures there { IfOk result (λ a. a ≡ live_after self.old.records after) }
-        ensures wants { IfErr result (λ r. r ≡ refusal.Memory) }
+        ensures there { result ≡ Ok (live_after self.old.records after) }
         ensures unchanged { self.new ≡ self.old }
     {
         Ok(live_after(self.records.as_slice(), after))
+    }
+
+    /// The grade (in 10^-5) at a quiz of each user who has an attempt of it here, in order of user, each once. A user of whom no
+    /// total is taken has none. The policy's grade is from 0 to 10,000, and its sum of max marks from 0 to 2,000,000. `Memory` is
+    /// the only error.
+    pub fn rows<L: Ledger>(
+        &mut self,
+        alloc: Global,
+        quiz: u32,
+        policy: &Policy,
+        steps: &mut Steps<L>,
+    ) -> Result<Listed<(u32, Option<Grade>)>, Refusal>
+        requires grade { IsQuizGrade policy.now.grade }
+        requires sum { IsMaxSum policy.now.sum }
+        ensures rows { IfOk result (λ rows. rows ≡ map (graded self.old.records quiz policy.now) (takers self.old.records quiz)) }
+        ensures wants { IfErr result (λ r. r ≡ refusal.Memory) }
+        ensures unchanged { self.new ≡ self.old }
+    {
+        Ok(rows(alloc, self.records.as_slice(), quiz, policy, steps)?)
     }
 
     /// Answers a request that may change the list: a start, a save, a submit, an again, a finish, a mark or a settling, at this
@@ -167,6 +191,57 @@ impl Shard {
         match seen(alloc, records, user, plan, ask, moment, steps) {
             Ok(reply) => reply,
             Err(NoMemory) => Reply::Refused(Refusal::Memory),
+        }
+    }
+
+    /// Takes a job's first target here, or says that the job is done, at this moment by the clock, in seconds since 1970. The caller
+    /// is the user who asks, or 0 for a worker.
+    ///
+    /// A target is a slot of an attempt of the job's quiz, live or ended, that was bound before the job's position and that the job
+    /// hasn't skipped; the first is that in order of user, attempt and slot. Where the plan's version of its slot has the same
+    /// shape, that version is bound and the slot's steps are read again under it; else the slot is skipped. Where no target is
+    /// left the job is done here, and where it was done before nothing is put. The reply is the answer over the list before, and the
+    /// list afterwards has the answer's record at its end where the answer puts one. A target for which the plan has no slot
+    /// is `Unknown`, and nothing is put. Where memory is wanting the reply is `Memory` and the list is as before.
+    pub fn work<L: Ledger>(
+        &mut self,
+        alloc: Global,
+        caller: u32,
+        job: &Job,
+        moment: u64,
+        steps: &mut Steps<L>,
+    ) -> Reply
+        requires { IsWorkable self.old.records job.now moment }
+        ensures answer { Works self.old.records moment caller job.now result self.new.records }
+        ensures shard { (self.new.index ≡ self.old.index) × (self.new.count ≡ self.old.count) }
+    {
+        match self.worked(alloc, caller, job, moment, steps) {
+            Ok(reply) => reply,
+            Err(NoMemory) => Reply::Refused(Refusal::Memory),
+        }
+    }
+
+    /// Answers a worker's request, and puts the record that it makes. Where memory is wanting the list is as before.
+    fn worked<L: Ledger>(
+        &mut self,
+        alloc: Global,
+        caller: u32,
+        job: &Job,
+        now: u64,
+        steps: &mut Steps<L>,
+    ) -> Result<Reply, NoMemory>
+        requires { IsWorkable self.old.records job.now now }
+        ensures worked { IfOk result (λ told. IsWorked self.old.records now caller job.now told self.new.records) }
+        ensures unchanged { OnErr result (self.new ≡ self.old) }
+        ensures shard { (self.new.index ≡ self.old.index) × (self.new.count ≡ self.old.count) }
+    {
+        match work_on(alloc, self.records.as_slice(), now, caller, job)? {
+            Work::AlreadyDone(place) => Ok(Reply::Ok {
+                place,
+                done: Done::AlreadyDone { job: job.number },
+            }),
+            Work::NoSlot => Ok(Reply::Refused(Refusal::Unknown { what: Thing::Slot })),
+            Work::Put(record) => put_record(alloc, &mut self.records, record, steps),
         }
     }
 
