@@ -5,8 +5,8 @@ ghost use Rattle.qz_turn.specs.Tales.{Follows};
 ghost use Rattle.qz_turn.specs.Rule.{dealer, HasEvery};
 ghost use Rattle.qz_turn.specs.Steps.{IsReady, IsWaiting, Draws, Comes, CanSend, Went, MayEnd, Ends, Compares, dealing, dealt_to, noted, joining};
 
-use crate::rule::{About, Compare, Deal, Draw, InTurn, Look, Merge, Note, Serve};
 use crate::room::Room;
+use crate::rule::{About, Compare, Deal, Draw, InTurn, Look, Merge, Note, Serve};
 use crate::told::{Errand, Told};
 use crate::view::View;
 use atomic_table::{Refused, Seat, Table};

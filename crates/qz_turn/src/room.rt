@@ -1,5 +1,5 @@
-// Where threads wait that have no ticket. Those that find the lock taken come in here, and are called one at a time, in the
-// order in which they came, to draw a ticket. So hardly a turn waits for a thread that sleeps, and those that run go on
+// Where threads wait that have no ticket. Those that find the lock taken come in here, and are called a few at a time, in
+// the order in which they came, to draw a ticket. So hardly a turn waits for a thread that sleeps, and those that run go on
 // meanwhile. (It restricts concurrency, as in Dice and Kogan, "Avoiding Scalability Collapse by Restricting Concurrency", 2019.)
 
 use crossbeam_utils::sync::EventCount;
@@ -11,10 +11,12 @@ use std::sync::atomic::Ordering::SeqCst;
 // Threads whose numbers differ by a multiple of this share a bell, and then wake for one another.
 const BELLS: usize = 64;
 
+// How many threads are called at most that have drawn no ticket yet.
+const CALLS: u64 = 4;
+
 #[derive(Drop)]
 pub struct Room {
-    // How many threads came in, were called, and had drawn a ticket when they were called. One at most is called and has
-    // drawn none yet.
+    // How many threads came in, how many of these were called, and how many of those have drawn a ticket.
     came: AtomicU64,
     called: AtomicU64,
     drew: AtomicU64,
@@ -57,10 +59,12 @@ impl Room {
         self.drew.fetch_add(1, SeqCst);
     }
 
-    /// Calls the next one, if somebody waits, and unless one who was called hasn't drawn yet: its own turn ends with a call.
+    /// Calls the next one, if somebody waits, and unless enough were called that haven't drawn yet: the turn of each of them
+    /// ends with a call.
     pub fn call(&self) {
         let next = self.called.load(SeqCst);
-        let is_due = self.came.load(SeqCst) > next && self.drew.load(SeqCst) == next;
+        let is_due = self.came.load(SeqCst) > next
+            && self.drew.load(SeqCst).saturating_add(CALLS) > next;
         if is_due
             && self
                 .called
