@@ -1,0 +1,4 @@
+pub mod Disks
+pub mod Keepers
+pub mod Changes
+pub mod Log
