@@ -1,9 +1,10 @@
 -- One more change of a disk in memory, and in its log.
-use Rattle.std.proofs.Common.{◌≡◌, inl, inr, ⊎_elim, ℕ, ◌+◌, ◌≤◌, ◌<◌, List, [], ◌∷◌, ◌++◌, length, take, drop, refl, sym, ◌∙◌, ap, subst, arith, length-append, length-take, length-drop}
+use Rattle.std.proofs.Common.{◌≡◌, inl, inr, ⊎_elim, ℕ, ◌+◌, ◌-◌, ◌*◌, ◌≤◌, ◌<◌, List, [], ◌∷◌, ◌++◌, length, take, drop, refl, sym, ◌∙◌, ap, subst, arith, length-append, length-take, length-drop}
 use Rattle.std.proofs.lemmas.List.{append-nil, take-append-le, drop-append-le, take_all, drop_all, take_more, length_push}
-use Rattle.qz_disks.specs.Disks.{overwritten, Torn, Cut, Same, Elapses}
+use Rattle.qz_disks.specs.Disks.{overwritten, Torn, Cut, Same, Elapses, IsDurable}
 use Rattle.qz_disks.specs.Changes.{Change, Wrote, Shortened, Synced, changed, Outcome, changed_all, OutcomeOfAll, content, MayLeave}
-use Rattle.qz_disks.specs.Log.{told, total, IsLogged}
+use Rattle.qz_disks.specs.Log.{told, total, IsLogged, HasCapacity}
+use Rattle.std.proofs.lemmas.Nat.{row_fits, mul-le}
 use Rattle.qz_disks.specs.declared.memory_disk.Done.{Done}
 use Rattle.qz_disks.specs.declared.memory_disk.Done.TheVariants as done
 use Rattle.qz_disks.proofs.Pieces.{torn_overwritten, cut_taken}
@@ -39,7 +40,7 @@ synced_only changes c (inr left) = outcome_more changes Synced _ _ c left
 sync_steps : (changes : List Change) → Steps Same changes Synced
 sync_steps changes c left = (content changes, inl refl, synced_only changes c left)
 
-abbrev LeftAt : List Change → ℕ → List ℕ → Type 0
+abbrev pub LeftAt : List Change → ℕ → List ℕ → Type 0
 LeftAt changes t c = MayLeave (take t changes) c
 
 elapses_more : (step : List ℕ → List ℕ → Type 0) (changes : List Change) (change : Change) → Steps step changes change
@@ -116,3 +117,56 @@ logged_synced bytes written log logged = record {
   reads = logged.reads ∙ sym (changed_all_more (told written log) Synced []) ∙ ap content (sym (told_synced log written));
   whole = let more = total_more log done.Synced in omega (arith, more, logged.whole);
 }
+
+-- one call of the room is taken
+
+pub capacity_wrote : (calls bytes bytes' size size' size_cap size_cap' logged logged' logged_cap logged_cap' entries entries' entries_cap count : ℕ)
+    → HasCapacity calls bytes size size_cap logged logged_cap entries entries_cap → 0 < calls → size' + bytes' ≡ size + bytes → count ≤ size + bytes
+    → size_cap ≤ size_cap' → logged' ≡ logged + count → logged_cap ≤ logged_cap' → entries' ≡ entries + 1
+    → HasCapacity (calls - 1) bytes' size' size_cap' logged' logged_cap' entries' entries_cap
+capacity_wrote calls bytes bytes' size size' size_cap size_cap' logged logged' logged_cap logged_cap' entries entries' entries_cap count has some same within sizes is wider more =
+    let product : (calls - 1) * (size' + bytes') + (size' + bytes') ≤ calls * (size + bytes) = row_fits (calls - 1) (size' + bytes') calls (size + bytes) (omega arith) (omega arith) in
+    record {
+      for_bytes = omega (arith, has.for_bytes);
+      for_pieces = omega (arith, has.for_pieces, product);
+      for_calls = omega (arith, has.for_calls);
+    }
+
+pub capacity_less : (calls bytes size size' size_cap logged logged_cap entries entries' entries_cap : ℕ) → HasCapacity calls bytes size size_cap logged logged_cap entries entries_cap
+    → 0 < calls → size' ≤ size → entries' ≡ entries + 1 → HasCapacity (calls - 1) bytes size' size_cap logged logged_cap entries' entries_cap
+capacity_less calls bytes size size' size_cap logged logged_cap entries entries' entries_cap has some shorter more =
+    let product : (calls - 1) * (size' + bytes) + (size' + bytes) ≤ calls * (size + bytes) = row_fits (calls - 1) (size' + bytes) calls (size + bytes) (omega arith) (omega arith) in
+    record {
+      for_bytes = omega (arith, has.for_bytes);
+      for_pieces = omega (arith, has.for_pieces, product);
+      for_calls = omega (arith, has.for_calls);
+    }
+
+-- the clauses of a call, where the log that it leaves is known by an equation
+
+pub now_wrote : (changes later : List Change) (at : ℕ) (piece : List ℕ) → later ≡ changes ++ Wrote at piece ∷ [] → at ≤ length (content changes)
+    → Elapses (Torn at (length piece)) (length changes) (length later) (LeftAt changes) (LeftAt later) × (content later ≡ overwritten at piece (content changes))
+now_wrote changes later at piece is le =
+    subst (λ l. Elapses (Torn at (length piece)) (length changes) (length l) (LeftAt changes) (LeftAt l) × (content l ≡ overwritten at piece (content changes))) (sym is)
+    (elapses_wrote changes at piece le, changed_all_more changes (Wrote at piece) [])
+
+pub now_cut : (changes later : List Change) (size : ℕ) → later ≡ changes ++ Shortened size ∷ []
+    → Elapses (Cut size) (length changes) (length later) (LeftAt changes) (LeftAt later) × (content later ≡ take size (content changes))
+now_cut changes later size is =
+    subst (λ l. Elapses (Cut size) (length changes) (length l) (LeftAt changes) (LeftAt l) × (content l ≡ take size (content changes))) (sym is)
+    (elapses_cut changes size, changed_all_more changes (Shortened size) [])
+
+pub now_synced : (changes later : List Change) → later ≡ changes ++ Synced ∷ []
+    → Elapses Same (length changes) (length later) (LeftAt changes) (LeftAt later) × (content later ≡ content changes)
+now_synced changes later is =
+    subst (λ l. Elapses Same (length changes) (length l) (LeftAt changes) (LeftAt l) × (content l ≡ content changes)) (sym is)
+    (elapses_synced changes, changed_all_more changes Synced [])
+
+pub now_durable : (changes later : List Change) → later ≡ changes ++ Synced ∷ [] → IsDurable (content changes) (λ c. LeftAt later (length later) c)
+now_durable changes later is = record {
+  only = λ c left. synced_only changes c (subst (λ l. MayLeave l c) (take_all (length later) later (omega arith) ∙ is) left);
+}
+
+-- a piece that is no longer than all bytes fits where there is room for a call
+pub room_for_piece : (calls most count : ℕ) → 0 < calls → count ≤ most → count ≤ calls * most
+room_for_piece calls most count some within = omega (arith, mul-le 1 count calls most some within)
