@@ -55,7 +55,7 @@ parted (payload ∷ rest) more front (size, behind, four, says, is, within) =
 shut_gate : (most place gate : ℕ) (rest : List ℕ) → gate ≢ 1 → frames_from (suc most) place (gate ∷ rest) ≡ Ok []
 shut_gate most place gate rest shut = grind (arith, nat_tests)
 
-open_whole : (most place gate : ℕ) (rest : List ℕ) → gate ≡ 1 → is_whole rest ≡ true
+pub open_whole : (most place gate : ℕ) (rest : List ℕ) → gate ≡ 1 → is_whole rest ≡ true
     → frames_from (suc most) place (gate ∷ rest) ≡ in_front (take (payload_length rest) (drop 4 rest)) (frames_from most (place + 5 + payload_length rest) (drop (4 + payload_length rest) rest))
 open_whole most place gate rest is_open whole = rw (is_open, whole) refl
 

@@ -15,7 +15,7 @@ use Rattle.qz_journal.proofs.Fronts.{IsFront, length-front, one_frame, front_and
 pub short_image : (image : List ℕ) → length image ≤ 9 → stands_for image ≡ Ok []
 short_image image short = rw (le-leb (length image) 9 short) refl
 
-long_image : (image : List ℕ) → 9 < length image → bytes_eq (take 8 image) header ≡ true → stands_for image ≡ frames_from (length image) 8 (drop 8 image)
+pub long_image : (image : List ℕ) → 9 < length image → bytes_eq (take 8 image) header ≡ true → stands_for image ≡ frames_from (length image) 8 (drop 8 image)
 long_image image long begins = rw (lt-leb (length image) 9 long, begins) refl
 
 other_image : (image : List ℕ) → 9 < length image → bytes_eq (take 8 image) header ≡ false → stands_for image ≡ Err 0

@@ -2,4 +2,10 @@
 #![tactic(auto)]
 
 mod disk_steps;
+mod fault;
+mod journal;
 pub mod laws;
+mod reading;
+
+pub use fault::JournalFault;
+pub use journal::Journal;
