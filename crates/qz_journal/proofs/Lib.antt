@@ -4,3 +4,4 @@ pub mod Crashes
 pub mod Steps
 pub mod Calls
 pub mod Results
+pub mod Keeping

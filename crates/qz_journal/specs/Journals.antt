@@ -114,3 +114,8 @@ pub record StandsLike (bytes image : List ℕ) : Type 0 where
 pub record IsPut (gate : ℕ) (payload : List ℕ) (payloads : List (List ℕ)) (outcomes : List ℕ → Type 0) (bytes : List ℕ) : Type 0 where
   pub kept : IsKept (gate + 5 + length payload) None outcomes bytes
   pub list : payloads_before (gate + 5 + length payload) bytes ≡ with_one_more payload payloads
+
+-- a file at rest with these payloads
+pub record IsLoaded (gate : ℕ) (payloads : List (List ℕ)) (outcomes : List ℕ → Type 0) (bytes : List ℕ) : Type 0 where
+  pub kept : IsKept gate None outcomes bytes
+  pub list : payloads_before gate bytes ≡ payloads
