@@ -1,5 +1,5 @@
 -- What stays kept in a run of calls, in the words of a disk that may tell its bytes.
-use Rattle.std.proofs.Common.{◌≡◌, ◌⊎◌, inl, inr, ⊎_elim, ℕ, ◌+◌, ◌-◌, ◌^◌, ◌≤◌, ◌<◌, Bool, true, false, is_some, List, [], ◌∷◌, ◌++◌, length, take, drop, Ok, Err, Option, Some, None, option_map, IfSome, refl, sym, ◌∙◌, ap, subst, arith, length-append}
+use Rattle.std.proofs.Common.{◌≡◌, ◌⊎◌, inl, inr, ⊎_elim, ℕ, ◌+◌, ◌-◌, ◌^◌, ◌≤◌, ◌<◌, Bool, true, false, is_some, is_none, List, [], ◌∷◌, ◌++◌, length, take, drop, Ok, Err, Option, Some, None, option_map, IfSome, refl, sym, ◌∙◌, ap, subst, arith, length-append}
 use Rattle.std.specs.Int.{to_le_bytes, w32}
 use Rattle.std.proofs.lemmas.Bool.{cases_lt, true≢false, false≢true}
 use Rattle.std.proofs.lemmas.List.{append-nil, append_assoc, take_at, drop_at}
@@ -123,14 +123,14 @@ append_run (Some bytes) mid gate a b c doubt payload written p q r same kept non
     let now = subst (λ w. LeavesOnly (StandsFor (payloads_before gate bytes) (Some w)) b c q r) is here in
     runs_on P P a b c p q r (looked P a b p q time (λ x left. inl (subst (λ d. StandsFor (payloads_before gate bytes) d x) none (kept.stand.each x left)))) now (λ x has. has)
 
-pub append_doubtful : (o mid n : Option (List ℕ)) (gate a b c : ℕ) (doubt : Option (List ℕ)) (written : List ℕ) (p q r : ℕ → List ℕ → Type 0) → mid ≡ o → is_some n ≡ is_some mid → IfSome o (IsKept gate doubt (p a))
+pub append_doubtful : (o mid n : Option (List ℕ)) (gate b c : ℕ) (doubt : Option (List ℕ)) (written : List ℕ) (before : List ℕ → Type 0) (q r : ℕ → List ℕ → Type 0) → mid ≡ o → is_some n ≡ is_some mid → IfSome o (IsKept gate doubt before)
     → IfSome mid (λ bytes. LeavesOnly (StandsFor (payloads_before gate bytes) (Some written)) b c q r) → IfSome n (r c)
     → IfSome n (IsKept gate (Some written) (r c)) × (option_map (payloads_before gate) n ≡ option_map (payloads_before gate) o)
-append_doubtful o mid n gate a b c doubt written p q r same tells kept put now =
+append_doubtful o mid n gate b c doubt written before q r same tells kept put now =
     still_kept o n gate (Some written) (r c) (tells ∙ ap is_some same) (places o kept) (stands o (subst (λ o. IfSome o (λ bytes. LeavesOnly (StandsFor (payloads_before gate bytes) (Some written)) b c q r)) same put)) now
     (λ none. false≢true (ap is_some (sym none)))
   where
-    places : (o : Option (List ℕ)) → IfSome o (IsKept gate doubt (p a)) → IfSome o (λ bytes. gate ≡ gate_behind (payloads_before gate bytes))
+    places : (o : Option (List ℕ)) → IfSome o (IsKept gate doubt before) → IfSome o (λ bytes. gate ≡ gate_behind (payloads_before gate bytes))
     places None kept = kept
     places (Some bytes) kept = kept.place
     stands : (o : Option (List ℕ)) → IfSome o (λ bytes. LeavesOnly (StandsFor (payloads_before gate bytes) (Some written)) b c q r) → IfSome o (λ bytes. StandFor (payloads_before gate bytes) (Some written) (r c))
@@ -140,16 +140,16 @@ append_doubtful o mid n gate a b c doubt written p q r same tells kept put now =
 -- opening again
 
 -- a mending that failed
-pub reopen_still : (o mid n : Option (List ℕ)) (gate a b c : ℕ) (doubt : Option (List ℕ)) (p q r : ℕ → List ℕ → Type 0) → mid ≡ o → is_some n ≡ is_some mid → IfSome o (p a) → IfSome o (IsKept gate doubt (p a))
+pub reopen_still : (o mid n : Option (List ℕ)) (gate b c : ℕ) (doubt : Option (List ℕ)) (before : List ℕ → Type 0) (q r : ℕ → List ℕ → Type 0) → mid ≡ o → is_some n ≡ is_some mid → IfSome o before → IfSome o (IsKept gate doubt before)
     → IfSome mid (λ bytes. LeavesOnly (StandsLike bytes) b c q r) → IfSome n (r c) → (doubt ≡ None → ⊥)
     → IfSome n (IsKept gate doubt (r c)) × (option_map (payloads_before gate) n ≡ option_map (payloads_before gate) o)
-reopen_still o mid n gate a b c doubt p q r same tells now kept mended later doubtful =
+reopen_still o mid n gate b c doubt before q r same tells now kept mended later doubtful =
     still_kept o n gate doubt (r c) (tells ∙ ap is_some same) (places o kept) (stands o now kept (subst (λ o. IfSome o (λ bytes. LeavesOnly (StandsLike bytes) b c q r)) same mended)) later doubtful
   where
-    places : (o : Option (List ℕ)) → IfSome o (IsKept gate doubt (p a)) → IfSome o (λ bytes. gate ≡ gate_behind (payloads_before gate bytes))
+    places : (o : Option (List ℕ)) → IfSome o (IsKept gate doubt before) → IfSome o (λ bytes. gate ≡ gate_behind (payloads_before gate bytes))
     places None kept = kept
     places (Some bytes) kept = kept.place
-    stands : (o : Option (List ℕ)) → IfSome o (p a) → IfSome o (IsKept gate doubt (p a)) → IfSome o (λ bytes. LeavesOnly (StandsLike bytes) b c q r) → IfSome o (λ bytes. StandFor (payloads_before gate bytes) doubt (r c))
+    stands : (o : Option (List ℕ)) → IfSome o before → IfSome o (IsKept gate doubt before) → IfSome o (λ bytes. LeavesOnly (StandsLike bytes) b c q r) → IfSome o (λ bytes. StandFor (payloads_before gate bytes) doubt (r c))
     stands None now kept run = run
     stands (Some bytes) now kept run = record { each = λ x left. like_stands (payloads_before gate bytes) doubt bytes x (stands_now bytes x b c q r run left) (kept.stand.each bytes now) }
 
@@ -175,6 +175,15 @@ loaded_kept None (Some after) gate found_gate found outcomes tells loaded = absu
 loaded_kept (Some bytes) None gate found_gate found outcomes tells loaded = absurd (false≢true tells)
 loaded_kept (Some bytes) (Some after) gate found_gate found outcomes tells loaded = (loaded.kept, ap (λ l. Some l) loaded.list)
 
-pub crash_kept : (o : Option (List ℕ)) (gate a c : ℕ) (p r : ℕ → List ℕ → Type 0) → IfSome o (λ _. LeavesOnly (StandsAs (p a)) a c p r) → IfSome (option_map (payloads_before gate) o) (λ _. LeavesOnly (StandsAs (p a)) a c p r)
+crash_kept : (o : Option (List ℕ)) (gate a c : ℕ) (p r : ℕ → List ℕ → Type 0) → IfSome o (λ _. LeavesOnly (StandsAs (p a)) a c p r) → IfSome (option_map (payloads_before gate) o) (λ _. LeavesOnly (StandsAs (p a)) a c p r)
 crash_kept None gate a c p r run = run
 crash_kept (Some bytes) gate a c p r run = run
+
+pub reopen_crash : (o mid : Option (List ℕ)) (gate a b c : ℕ) (p q r : ℕ → List ℕ → Type 0) → mid ≡ o → IfSome o (p a) → Elapses Same a b p q → IfSome mid (λ bytes. LeavesOnly (StandsLike bytes) b c q r)
+    → IfSome (option_map (payloads_before gate) o) (λ _. LeavesOnly (StandsAs (p a)) a c p r)
+reopen_crash o mid gate a b c p q r same now time mended = crash_kept o gate a c p r (recover_crash o mid a b c p q r same now time mended)
+
+-- a frame in doubt is a payload in doubt
+pub doubtful : (doubt : Option (List ℕ)) → is_none doubt ≡ false → option_map payload_of doubt ≡ None → ⊥
+doubtful None none same = true≢false none
+doubtful (Some frame) none same = true≢false (ap is_some same)
