@@ -9,3 +9,6 @@ mod reading;
 
 pub use fault::JournalFault;
 pub use journal::Journal;
+
+#[cfg(test)]
+mod tests;
