@@ -2,7 +2,7 @@
 use Rattle.std.proofs.Common.{◌≡◌, inl, inr, ⊎_elim, ℕ, ◌+◌, ◌-◌, ◌*◌, ◌≤◌, ◌<◌, List, [], ◌∷◌, ◌++◌, length, take, drop, refl, sym, ◌∙◌, ap, subst, arith, length-append, length-take, length-drop}
 use Rattle.std.proofs.lemmas.List.{append-nil, take-append-le, drop-append-le, take_all, drop_all, take_more, length_push}
 use Rattle.qz_disks.specs.Disks.{overwritten, Torn, Cut, Same, Elapses, IsDurable}
-use Rattle.qz_disks.specs.Changes.{Change, Wrote, Shortened, Synced, changed, Outcome, changed_all, OutcomeOfAll, content, MayLeave}
+use Rattle.qz_disks.specs.Changes.{Change, Wrote, Shortened, Synced, changed, Outcome, changed_all, OutcomeOfAll, content, MayLeave, LeftAt}
 use Rattle.qz_disks.specs.Log.{told, total, IsLogged, HasCapacity}
 use Rattle.std.proofs.lemmas.Nat.{row_fits, mul-le}
 use Rattle.qz_disks.specs.declared.memory_disk.Done.{Done}
@@ -39,9 +39,6 @@ synced_only changes c (inr left) = outcome_more changes Synced _ _ c left
 
 sync_steps : (changes : List Change) → Steps Same changes Synced
 sync_steps changes c left = (content changes, inl refl, synced_only changes c left)
-
-abbrev pub LeftAt : List Change → ℕ → List ℕ → Type 0
-LeftAt changes t c = MayLeave (take t changes) c
 
 elapses_more : (step : List ℕ → List ℕ → Type 0) (changes : List Change) (change : Change) → Steps step changes change
     → Elapses step (length changes) (length (changes ++ change ∷ [])) (LeftAt changes) (LeftAt (changes ++ change ∷ []))

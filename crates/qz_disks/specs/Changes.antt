@@ -38,6 +38,10 @@ content changes = changed_all changes []
 abbrev pub MayLeave : List Change → List ℕ → Type 0
 MayLeave changes c = (c ≡ content changes) ⊎ OutcomeOfAll changes (λ d. d ≡ []) [] c
 
+-- what a crash at a moment may have left of it: after so many of the changes
+abbrev pub LeftAt : List Change → ℕ → List ℕ → Type 0
+LeftAt changes t c = MayLeave (take t changes) c
+
 take_length : (changes : List Change) → take (length changes) changes ≡ changes
 take_length [] = refl
 take_length (change ∷ rest) = ap (λ (l : List Change). change ∷ l) (take_length rest)

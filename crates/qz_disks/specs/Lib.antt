@@ -2,3 +2,4 @@ pub mod Disks
 pub mod Keepers
 pub mod Changes
 pub mod Log
+pub mod Stops

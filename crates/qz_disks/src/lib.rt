@@ -11,5 +11,8 @@ mod memory_keeper;
 pub use disk::Disk;
 pub use file_disk::FileDisk;
 pub use keeper::{KeepErr, Keeper};
-pub use memory_disk::MemoryDisk;
+pub use memory_disk::{Fill, MemoryDisk};
 pub use memory_keeper::MemoryKeeper;
+
+#[cfg(test)]
+mod tests;
