@@ -209,7 +209,7 @@ impl Disk for MemoryDisk {
 
     fn size(&mut self) -> Result<u64, Failed>
         ensures size { IfOk result (λ size. size ≡ length (content self.old.changes)) }
-        ensures reads { ◌≡◌ {A = Option (List ℕ)} (Some (content self.new.changes)) (Some (content self.old.changes)) }
+        ensures reads { content self.new.changes ≡ content self.old.changes }
         ensures crash { Elapses Same (length self.old.changes) (length self.new.changes)
             (LeftAt self.old.changes) (LeftAt self.new.changes) }
         ensures room { Spends 0 0 self.old.room self.new.room }
@@ -228,7 +228,7 @@ impl Disk for MemoryDisk {
         requires { at + length target.old ≤ length (content self.old.changes) }
         ensures bytes { OnOk result
             (target.new ≡ take (length target.old) (drop at (content self.old.changes))) }
-        ensures reads { ◌≡◌ {A = Option (List ℕ)} (Some (content self.new.changes)) (Some (content self.old.changes)) }
+        ensures reads { content self.new.changes ≡ content self.old.changes }
         ensures crash { Elapses Same (length self.old.changes) (length self.new.changes)
             (LeftAt self.old.changes) (LeftAt self.new.changes) }
         ensures room { Spends 0 0 self.old.room self.new.room }
@@ -247,10 +247,10 @@ impl Disk for MemoryDisk {
 
     fn write_at(&mut self, at: u64, piece: &[u8]) -> Result<(), Failed>
         requires place { at ≤ length (content self.old.changes) }
-        requires room { HasRoom 1 (at + length piece.now - length (content self.old.changes)) self.old.room }
-        ensures written { OnOk result (◌≡◌ {A = Option (List ℕ)} (Some (content self.new.changes))
-            (Some (overwritten at piece.now (content self.old.changes)))) }
-        ensures tells { true ≡ true }
+        requires room { HasRoom 1 (at + length piece.now - length (content self.old.changes))
+            self.old.room }
+        ensures written { OnOk result (content self.new.changes
+            ≡ overwritten at piece.now (content self.old.changes)) }
         ensures bound { OnOk result (at + length piece.now < 2 ^ 64) }
         ensures crash { Elapses (Torn at (length piece.now)) (length self.old.changes) (length self.new.changes)
             (LeftAt self.old.changes) (LeftAt self.new.changes) }
@@ -281,9 +281,8 @@ impl Disk for MemoryDisk {
     fn cut(&mut self, size: u64) -> Result<(), Failed>
         requires place { size ≤ length (content self.old.changes) }
         requires room { HasRoom 1 0 self.old.room }
-        ensures written { OnOk result (◌≡◌ {A = Option (List ℕ)} (Some (content self.new.changes))
-            (Some (take size (content self.old.changes)))) }
-        ensures tells { true ≡ true }
+        ensures written { OnOk result
+            (content self.new.changes ≡ take size (content self.old.changes)) }
         ensures crash { Elapses (Cut size) (length self.old.changes) (length self.new.changes)
             (LeftAt self.old.changes) (LeftAt self.new.changes) }
         ensures room { Spends 1 0 self.old.room self.new.room }
@@ -306,7 +305,7 @@ impl Disk for MemoryDisk {
         requires room { HasRoom 1 0 self.old.room }
         ensures durable { OnOk result (IsDurable (content self.old.changes)
             (LeftAt self.new.changes (length self.new.changes))) }
-        ensures reads { ◌≡◌ {A = Option (List ℕ)} (Some (content self.new.changes)) (Some (content self.old.changes)) }
+        ensures reads { content self.new.changes ≡ content self.old.changes }
         ensures crash { Elapses Same (length self.old.changes) (length self.new.changes)
             (LeftAt self.old.changes) (LeftAt self.new.changes) }
         ensures room { Spends 1 0 self.old.room self.new.room }

@@ -15,7 +15,7 @@ pub returns-clause-written : goal.returns-clause-written
 returns-clause-written c =
     let s = c.self.inside in
     let later = ap (told s.written.items) c.push_reserved.ensures.items ∙ told_cut s.log.items s.written.items c.args.size in
-    rw (← c.self.view_is) (ap Some (now_cut _ _ c.args.size later).1)
+    rw (← c.self.view_is) (now_cut _ _ c.args.size later).1
 
 pub returns-clause-crash : goal.returns-clause-crash
 returns-clause-crash c =

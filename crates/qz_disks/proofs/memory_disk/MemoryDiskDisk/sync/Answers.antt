@@ -21,7 +21,7 @@ pub returns-clause-reads : goal.returns-clause-reads
 returns-clause-reads c =
     let s = c.self.inside in
     let later = ap (told s.written.items) c.push_reserved.ensures.items ∙ told_synced s.log.items s.written.items in
-    rw (← c.self.view_is) (ap Some (now_synced _ _ later).1)
+    rw (← c.self.view_is) (now_synced _ _ later).1
 
 pub returns-clause-crash : goal.returns-clause-crash
 returns-clause-crash c =

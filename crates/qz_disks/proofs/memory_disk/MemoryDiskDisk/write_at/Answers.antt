@@ -39,7 +39,7 @@ returns-clause-written c =
     let place = rw (← c.self.view_is) at c.requires.place in
     let pieces = rw c.unwrap.ensures at c.extend_from_slice.ensures.items in
     let later : told c.extend_from_slice.new.self.items c.push_reserved.new.self.items ≡ told s.written.items s.log.items ++ Wrote c.args.at c.args.piece.now ∷ [] = rw (pieces, c.push_reserved.ensures.items) (told_wrote s.log.items s.written.items c.args.piece.now c.args.at (length c.args.piece.now) c.self.invariant.0.whole (search rules)) in
-    rw (← c.self.view_is) (ap Some (now_wrote (told s.written.items s.log.items) (told c.extend_from_slice.new.self.items c.push_reserved.new.self.items) c.args.at c.args.piece.now later place).1)
+    rw (← c.self.view_is) (now_wrote (told s.written.items s.log.items) (told c.extend_from_slice.new.self.items c.push_reserved.new.self.items) c.args.at c.args.piece.now later place).1
 
 pub returns-clause-crash : goal.returns-clause-crash
 returns-clause-crash c =
