@@ -1,5 +1,5 @@
 use super::*;
-use qz_disks::{KeepErr, Keeper, MemoryDisk};
+use qz_disks::{Fill, KeepErr, Keeper, MemoryDisk};
 use qz_text::{Bytes, Listed};
 use std::alloc::Global;
 use std::test::Fail;
@@ -78,6 +78,31 @@ fn each_call_fails_in_turn(rt: HostRuntime) -> Result<(), Fail> {
         let disk = journal.into_disk();
         let (_, payloads) = loaded(alloc, disk.bytes(), &[])?;
         assert_eq!(rt; payloads.items.len(), count + 1, "call {number}");
+    }
+    Ok(())
+}
+
+#[test]
+fn each_stop_leaves_the_payload_or_not(rt: HostRuntime) -> Result<(), Fail> {
+    let alloc = rt.alloc();
+    // The call of an append before which it stops, and how many payloads are left where what wasn't synced stands as before
+    // it, as written, as bytes 1, and as bytes 255.
+    let rows = [
+        (6, [0, 0, 0, 0]),
+        (7, [0, 0, 0, 0]),
+        (8, [0, 0, 0, 0]),
+        (9, [0, 1, 1, 0]),
+        (10, [1, 1, 1, 1]),
+    ];
+    for (number, counts) in rows {
+        let (mut journal, _) = loaded(alloc, b"", &[number])?;
+        assert_eq!(rt; journal.append(alloc, b"one").is_ok(), number == 10);
+        let disk = journal.into_disk();
+        for (fill, count) in [Fill::Old, Fill::New, Fill::Ones, Fill::Full].into_iter().zip(counts) {
+            let left = disk.stopped(alloc, fill)?;
+            let (_, payloads) = loaded(alloc, left.bytes(), &[])?;
+            assert_eq!(rt; payloads.items.len(), count, "call {number}");
+        }
     }
     Ok(())
 }
