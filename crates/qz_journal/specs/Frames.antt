@@ -10,12 +10,16 @@ header = 81 ∷ 90 ∷ 74 ∷ 49 ∷ 1 ∷ 0 ∷ 0 ∷ 0 ∷ []
 abbrev pub open_frame : List ℕ → List ℕ
 open_frame payload = 1 ∷ (to_le_bytes w32 (length payload) ++ payload)
 
+-- what stands behind its own gate: its length, the payload, and a closed gate
+abbrev pub shut_frame : List ℕ → List ℕ
+shut_frame payload = to_le_bytes w32 (length payload) ++ (payload ++ 0 ∷ [])
+
 -- a payload in front of the frames that follow it
-abbrev in_front : List ℕ → Result (List (List ℕ)) ℕ → Result (List (List ℕ)) ℕ
+abbrev pub in_front : List ℕ → Result (List (List ℕ)) ℕ → Result (List (List ℕ)) ℕ
 in_front payload (Ok payloads) = Ok (payload ∷ payloads)
 in_front payload (Err place) = Err place
 
-abbrev payload_length : List ℕ → ℕ
+abbrev pub payload_length : List ℕ → ℕ
 payload_length behind_gate = from_le_bytes w32 (take 4 behind_gate)
 
 -- a frame is whole, and a gate follows it

@@ -1,0 +1,5 @@
+pub mod Disks
+pub mod Keepers
+pub mod Changes
+pub mod Log
+pub mod Stops

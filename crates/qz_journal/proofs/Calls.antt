@@ -1,0 +1,113 @@
+-- What the calls of an append and of a mending leave, in the words of a disk that may tell its bytes.
+use Rattle.std.proofs.Common.{◌≡◌, ◌≢◌, ◌⊎◌, inl, inr, ⊎_elim, ℕ, ◌+◌, ◌^◌, ◌≤◌, ◌<◌, List, [], ◌∷◌, ◌++◌, length, take, Ok, Option, Some, None, option_map, IfSome, refl, sym, ◌∙◌, ap, subst, arith}
+use Rattle.std.proofs.lemmas.List.{append-nil}
+use Rattle.qz_disks.specs.Disks.{overwritten, Torn, Cut, Elapses, LeavesOnly, IsDurable}
+use Rattle.qz_disks.specs.Keepers.{with_one_more}
+use Rattle.qz_disks.proofs.Moments.{one_call, goes_on, at_end}
+use Rattle.qz_journal.specs.Frames.{header, shut_frame, stands_for}
+use Rattle.qz_journal.specs.Journals.{gate_behind, payloads_of, payloads_before, StandsFor, StandFor, StandsLike, IsAtRest, IsKept, IsPut, IsRead}
+use Rattle.qz_journal.proofs.Images.{Framed, framed_of, short_image, kept_before, Resting, resting, at_rest, resting_stands, resting_place}
+use Rattle.qz_journal.proofs.Crashes.{torn_behind, written_behind, torn_gate, written_gate, length-framed, cut_behind, cut_rests, cut_short, torn_short}
+
+-- a file at rest is a journal without a doubt
+pub kept_resting : (payloads : List (List ℕ)) (gate : ℕ) (bytes : List ℕ) (outcomes : List ℕ → Type 0) → Resting payloads gate bytes → IsDurable bytes outcomes
+    → IsKept gate None outcomes bytes × (payloads_before gate bytes ≡ payloads)
+kept_resting payloads gate bytes outcomes r durable =
+    let stands = resting_stands payloads gate bytes r in
+    let place = resting_place payloads gate bytes r in
+    let same : payloads_before gate bytes ≡ payloads = kept_before bytes payloads [] gate (stands ∙ ap (λ l. Ok l) (sym (append-nil payloads))) place in (
+      record {
+        place = place ∙ ap gate_behind (sym same);
+        stand = record { each = λ c left. ap stands_for (durable.only c left) ∙ stands ∙ ap (λ l. Ok l) (sym same) };
+        at_rest = λ _. at_rest payloads gate bytes outcomes r durable;
+      },
+      same,
+    )
+
+-- mending
+
+pub mend_place : (o : Option (List ℕ)) (size gate : ℕ) → IfSome o (λ bytes. IsRead size gate (payloads_of bytes) bytes) → 9 < size → IfSome o (λ bytes. gate + 1 ≤ length bytes)
+mend_place None size gate read long = read
+mend_place (Some bytes) size gate read long =
+    length-framed (payloads_of bytes) gate bytes (framed_of bytes (payloads_of bytes) (let whole = read.whole in omega arith) read.stands) read.place
+
+pub mend_rests : (o n : Option (List ℕ)) (size gate : ℕ) (outcomes : List ℕ → Type 0) → IfSome o (λ bytes. IsRead size gate (payloads_of bytes) bytes) → 9 < size
+    → n ≡ option_map (take (gate + 1)) o → IfSome n (λ bytes. IsDurable bytes outcomes) → IfSome n (λ bytes. IsAtRest gate bytes outcomes)
+mend_rests None n size gate outcomes read long is durable = subst (λ n. IfSome n (λ bytes. IsAtRest gate bytes outcomes)) (sym is) read
+mend_rests (Some bytes) n size gate outcomes read long is durable =
+    let durable_here = subst (λ n. IfSome n (λ bytes. IsDurable bytes outcomes)) is durable in
+    let f = framed_of bytes (payloads_of bytes) (let whole = read.whole in omega arith) read.stands in
+    let r = cut_rests (payloads_of bytes) gate bytes f read.place in
+    subst (λ n. IfSome n (λ bytes. IsAtRest gate bytes outcomes)) (sym is) (at_rest (payloads_of bytes) gate (take (gate + 1) bytes) outcomes r durable_here)
+
+pub mend_cut : (o : Option (List ℕ)) (size gate a b : ℕ) (p q : ℕ → List ℕ → Type 0) → IfSome o (λ bytes. IsRead size gate (payloads_of bytes) bytes) → IfSome o (λ bytes. IsDurable bytes (p a)) → 9 < size
+    → Elapses (Cut (gate + 1)) a b p q → IfSome o (λ bytes. LeavesOnly (StandsLike bytes) a b p q)
+mend_cut None size gate a b p q read durable long time = read
+mend_cut (Some bytes) size gate a b p q read durable long time =
+    let f = framed_of bytes (payloads_of bytes) (let whole = read.whole in omega arith) read.stands in
+    one_call (StandsLike bytes) (Cut (gate + 1)) a b p q time
+    (λ c left. record { same = ap stands_for (durable.only c left) })
+    (λ d c left cut. record { same = cut_behind (payloads_of bytes) gate bytes f read.place c (subst (λ e. Cut (gate + 1) e c) (durable.only d left) cut) ∙ sym read.stands })
+
+pub mend_emptied : (o : Option (List ℕ)) (size gate a b : ℕ) (p q : ℕ → List ℕ → Type 0) → IfSome o (λ bytes. IsRead size gate (payloads_of bytes) bytes) → IfSome o (λ bytes. IsDurable bytes (p a)) → size ≤ 9
+    → Elapses (Cut 0) a b p q → IfSome o (λ bytes. LeavesOnly (StandsLike bytes) a b p q)
+mend_emptied None size gate a b p q read durable short time = read
+mend_emptied (Some bytes) size gate a b p q read durable short time =
+    let within : length bytes ≤ 9 = let whole = read.whole in omega arith in
+    one_call (StandsLike bytes) (Cut 0) a b p q time
+    (λ c left. record { same = ap stands_for (durable.only c left) })
+    (λ d c left cut. record { same = short_image c (cut_short bytes c within (subst (λ e. Cut 0 e c) (durable.only d left) cut)) ∙ sym (short_image bytes within) })
+
+pub mend_begun : (o : Option (List ℕ)) (size gate a b c : ℕ) (p q r : ℕ → List ℕ → Type 0) → IfSome o (λ bytes. IsRead size gate (payloads_of bytes) bytes) → IfSome o (λ bytes. IsDurable bytes (p a)) → size ≤ 9
+    → Elapses (Cut 0) a b p q → Elapses (Torn 0 9) b c q r → IfSome o (λ bytes. LeavesOnly (StandsLike bytes) a c p r)
+mend_begun None size gate a b c p q r read durable short first second = read
+mend_begun (Some bytes) size gate a b c p q r read durable short first second =
+    let within : length bytes ≤ 9 = let whole = read.whole in omega arith in
+    let after : (d : List ℕ) → q b d → length d ≤ 9 = at_end (Cut 0) a b p q (λ d. length d ≤ 9) first
+        (λ d left. let sizes = ap length (durable.only d left) in omega arith)
+        (λ e d left cut. cut_short bytes d within (subst (λ x. Cut 0 x d) (durable.only e left) cut)) in
+    goes_on (StandsLike bytes) (Torn 0 9) a b c p q r (mend_emptied (Some bytes) size gate a b p q read durable short first) second
+    (λ d x left torn. record { same = short_image x (torn_short d x (after d left) torn) ∙ sym (short_image bytes within) })
+
+-- putting a frame
+
+pub kept_rests : (gate : ℕ) (bytes : List ℕ) (outcomes : List ℕ → Type 0) → IsKept gate None outcomes bytes → outcomes bytes → Resting (payloads_before gate bytes) gate bytes
+kept_rests gate bytes outcomes kept now = resting (payloads_before gate bytes) gate bytes outcomes (kept.at_rest refl) (kept.stand.each bytes now) kept.place
+
+pub put_behind : (o : Option (List ℕ)) (gate count a b : ℕ) (payload : List ℕ) (p q : ℕ → List ℕ → Type 0) → IfSome o (p a) → IfSome o (IsKept gate None (p a)) → Elapses (Torn (gate + 1) count) a b p q
+    → IfSome o (λ bytes. LeavesOnly (StandsFor (payloads_before gate bytes) (Some payload)) a b p q)
+put_behind None gate count a b payload p q now kept time = now
+put_behind (Some bytes) gate count a b payload p q now kept time =
+    let rests = kept_rests gate bytes (p a) kept now in
+    one_call (StandsFor (payloads_before gate bytes) (Some payload)) (Torn (gate + 1) count) a b p q time
+    (λ c left. inl (kept.stand.each c left))
+    (λ d c left torn. inl (torn_behind (payloads_before gate bytes) gate bytes rests count c (subst (λ e. Torn (gate + 1) count e c) ((kept.at_rest refl).durable.only d left) torn)))
+
+pub put_opened : (o n : Option (List ℕ)) (gate a b c : ℕ) (frame payload : List ℕ) (p q r : ℕ → List ℕ → Type 0) → IfSome o (p a) → IfSome o (IsKept gate None (p a)) → frame ≡ shut_frame payload → length payload ≤ 67108864
+    → Elapses (Torn (gate + 1) (length frame)) a b p q → n ≡ option_map (overwritten (gate + 1) frame) o → IfSome n (λ bytes. IsDurable bytes (q b)) → Elapses (Torn gate 1) b c q r
+    → IfSome o (λ bytes. LeavesOnly (StandsFor (payloads_before gate bytes) (Some payload)) a c p r)
+put_opened None n gate a b c frame payload p q r now kept is fits first written durable second = now
+put_opened (Some bytes) n gate a b c frame payload p q r now kept is fits first written durable second =
+    let L = payloads_before gate bytes in
+    let rests = kept_rests gate bytes (p a) kept now in
+    let durable_here = subst (λ n. IfSome n (λ bytes. IsDurable bytes (q b))) written durable in
+    let staged_is = written_behind L gate bytes rests frame in
+    goes_on (StandsFor L (Some payload)) (Torn gate 1) a b c p q r (put_behind (Some bytes) gate (length frame) a b payload p q now kept first) second
+    (λ d x left torn. torn_gate L gate bytes rests payload (omega arith) x
+        (subst (λ f. Torn gate 1 (header ++ (rests.front ++ rests.gate ∷ f)) x) is (subst (λ e. Torn gate 1 e x) (durable_here.only d left ∙ staged_is) torn)))
+
+pub put_kept : (o n m : Option (List ℕ)) (gate : ℕ) (frame payload : List ℕ) (before outcomes : List ℕ → Type 0) → IfSome o before → IfSome o (IsKept gate None before) → frame ≡ shut_frame payload → length payload ≤ 67108864
+    → n ≡ option_map (overwritten (gate + 1) frame) o → m ≡ option_map (overwritten gate (1 ∷ [])) n → IfSome m (λ bytes. IsDurable bytes outcomes)
+    → IfSome o (λ bytes. IfSome m (IsPut gate payload (payloads_before gate bytes) outcomes))
+put_kept None n m gate frame payload before outcomes now kept is fits written opened durable = now
+put_kept (Some bytes) n m gate frame payload before outcomes now kept is fits written opened durable =
+    let L = payloads_before gate bytes in
+    let rests = kept_rests gate bytes before kept now in
+    let after = overwritten gate (1 ∷ []) (overwritten (gate + 1) frame bytes) in
+    let m_is : m ≡ Some after = opened ∙ ap (option_map (overwritten gate (1 ∷ []))) written in
+    let durable_here = subst (λ m. IfSome m (λ bytes. IsDurable bytes outcomes)) m_is durable in
+    let staged_is = written_behind L gate bytes rests frame ∙ ap (λ (f : List ℕ). header ++ (rests.front ++ rests.gate ∷ f)) is in
+    let longer : Resting (with_one_more payload L) (gate + 5 + length payload) after =
+        subst (Resting (with_one_more payload L) (gate + 5 + length payload)) (ap (overwritten gate (1 ∷ [])) (sym staged_is)) (written_gate L gate bytes rests payload (omega arith)) in
+    let both = kept_resting (with_one_more payload L) (gate + 5 + length payload) after outcomes longer durable_here in
+    subst (λ m. IfSome m (IsPut gate payload L outcomes)) (sym m_is) (record { kept = both.0; list = both.1 })
