@@ -3,6 +3,7 @@
 
 mod clock;
 mod door;
+mod duplex;
 mod gate;
 mod link;
 mod memory_clock;
@@ -14,6 +15,7 @@ mod tcp;
 
 pub use clock::Clock;
 pub use door::Door;
+pub use duplex::Duplex;
 pub use gate::{Gate, Gates};
 pub use link::Link;
 pub use memory_clock::MemoryClock;

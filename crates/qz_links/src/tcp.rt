@@ -1,95 +1,34 @@
 //! Sockets as links, and a listener as doors.
 
-ghost use Rattle.std.specs.Prelude.{◌≡◌, ◌+◌, ◌<◌, ◌≤◌, length, None, IsSome, IfOk, OnOk, OnErr};
-ghost use Rattle.std.specs.Io.KnownBytes.{ReadConsumes, WriteAppends};
-ghost use Rattle.qz_outside.specs.Causes.{HasCause, HasRisen, counted};
-ghost use Rattle.qz_links.specs.Doors.{NextLink, GivesBack};
+ghost use Rattle.std.specs.Prelude.{◌≡◌, ◌+◌, ◌-◌, ◌^◌, ◌<◌, min, None, IsSome, IfOk, OnOk, OnErr};
+ghost use Rattle.qz_outside.specs.Causes.{HasCause, counted};
+ghost use Rattle.qz_links.specs.Doors.{NextLink};
 
-use crate::{Door, Link};
-use qz_outside::{Failed, Sink, Source, StdSink, StdSource};
+use crate::{Door, Duplex};
+use qz_outside::{Failed, StdSink, StdSource};
+use std::io;
 use std::io::ErrorKind;
 use std::marker::Model;
 use std::net::{Ipv4Addr, Net, SocketAddrV4, TcpListener, TcpStream};
 
 /// A socket as a link, which tells nothing of its bytes. A call that was interrupted is made again, and any other
 /// error is a failure; so is a socket that takes none of a piece.
-#[derive(Drop)]
-pub struct TcpLink {
-    stream: TcpStream,
-    faults: u64,
-}
-
-impl Model for TcpLink {
-    ghost use Rattle.qz_outside.specs.Sources.{Adapted};
-    ghost use Rattle.std.specs.declared.net.tcp.TcpStream.{TcpStream};
-
-    ghost Value = { Adapted TcpStream };
-
-    ghost view = { λ l. record { inner = l.stream; faults = l.faults } };
-}
+pub type TcpLink = Duplex<StdSource<TcpStream>, StdSink<TcpStream>>;
 
 impl TcpLink {
-    /// A link over this socket.
-    pub fn new(stream: TcpStream) -> TcpLink
-        ensures { result ≡ record { inner = stream; faults = 0 } }
-    {
-        TcpLink { stream, faults: 0 }
+    /// A link over this socket. It has a handle of the socket for each direction, so the system may refuse it.
+    pub fn over(stream: TcpStream) -> io::Result<TcpLink> {
+        Ok(Duplex {
+            source: StdSource::new(stream.try_clone()?),
+            sink: StdSink::new(stream),
+        })
     }
 
     /// How many calls have failed.
     pub fn faults(&self) -> u64
-        ensures { result ≡ self.now.faults }
+        ensures { result ≡ min (self.now.source.faults + self.now.sink.faults) (2 ^ 64 - 1) }
     {
-        self.faults
-    }
-
-    // Counts a failure.
-    fn count(&mut self, answer: Result<usize, Failed>) -> Result<usize, Failed>
-        ensures answer { result ≡ answer }
-        ensures cause { HasCause self.old.faults self.new.faults result }
-        ensures steady { OnOk result (self.new.faults ≡ self.old.faults) }
-        ensures counts { OnErr result (self.new.faults ≡ counted self.old.faults) }
-    {
-        if answer.is_err() {
-            self.faults = self.faults.saturating_add(1);
-        }
-        answer
-    }
-}
-
-impl Link for TcpLink {
-    ghost left = { λ _. None };
-
-    ghost holds = { λ _. None };
-
-    ghost faults = { λ l. l.faults };
-
-    fn read(&mut self, room: &mut [u8]) -> Result<usize, Failed>
-        ensures count { IfOk result (λ n. n ≤ length room.new) }
-        ensures bytes { ReadConsumes None None result room.new }
-        ensures cause { HasCause self.old.faults self.new.faults result }
-
-        // The count rises in a call that fails, and in no other.
-        ensures steady { OnOk result (self.new.faults ≡ self.old.faults) }
-        ensures counts { OnErr result (self.new.faults ≡ counted self.old.faults) }
-    {
-        let answer = StdSource::new(&self.stream).read(room);
-        self.count(answer)
-    }
-
-    fn write(&mut self, piece: &[u8]) -> Result<usize, Failed>
-        ensures count { IfOk result (λ n. n ≤ length piece.now) }
-        ensures bytes { WriteAppends None None result piece.now }
-        ensures cause { HasCause self.old.faults self.new.faults result }
-        ensures stuck { IfOk result (λ n. n ≡ 0 → 0 < length piece.now
-            → HasRisen self.old.faults self.new.faults) }
-
-        // The count rises in a call that fails, and in no other.
-        ensures steady { OnOk result (self.new.faults ≡ self.old.faults) }
-        ensures counts { OnErr result (self.new.faults ≡ counted self.old.faults) }
-    {
-        let answer = StdSink::new(&self.stream).write(piece);
-        self.count(answer)
+        self.source.faults().saturating_add(self.sink.faults())
     }
 }
 
@@ -175,6 +114,14 @@ impl TcpDoor {
         }
     }
 
+    // The system makes an interrupted call again. A small answer is sent at once, and not held back to be joined with the
+    // next; where the system can't do that, the link serves all the same.
+    fn accept(&self) -> io::Result<TcpLink> {
+        let (stream, _) = self.listener.accept()?;
+        let _ = stream.set_nodelay(true);
+        TcpLink::over(stream)
+    }
+
     // Counts a failure.
     fn fail(&mut self) -> Failed
         ensures counts { self.new ≡ record self.old { faults = counted self.old.faults } }
@@ -197,9 +144,7 @@ impl Door for TcpDoor {
 
     ghost faults = { λ d. d.faults };
 
-    // The system makes an interrupted accept again. A small answer is sent at once, and not held back to be joined with
-    // the next; where the system can't do that, the link serves all the same. A door from which 2^64 - 1 links were
-    // taken counts no further, and fails.
+    // A door from which 2^64 - 1 links were taken counts no further, and fails.
     fn next(&mut self) -> Result<Option<TcpLink>, Failed>
         ensures takes { NextLink None None self.old.out self.new.out result }
         ensures cause { HasCause self.old.faults self.new.faults result }
@@ -213,12 +158,11 @@ impl Door for TcpDoor {
         let Some(taken) = self.taken.checked_add(1) else {
             return Err(self.fail());
         };
-        let Ok((stream, _)) = self.listener.accept() else {
+        let Ok(link) = self.accept() else {
             return Err(self.fail());
         };
-        let _ = stream.set_nodelay(true);
         self.taken = taken;
-        Ok(Some(TcpLink::new(stream)))
+        Ok(Some(link))
     }
 
     // Closes the connection.

@@ -313,7 +313,7 @@ fn sockets_fail(rt: HostRuntime) -> Result<(), Fail> {
     let peer = TcpStream::connect(&rt, address)?;
     peer.set_nonblocking(true)?;
     peer.shutdown(Shutdown::Write)?;
-    let mut link = TcpLink::new(peer);
+    let mut link = TcpLink::over(peer)?;
     assert_eq!(rt; link.read(&mut [0; 4]), Err(Failed));
     assert_eq!(rt; link.write(b"a"), Err(Failed));
     assert_eq!(rt; link.faults(), 2);
