@@ -1,5 +1,4 @@
 -- What a link in memory holds.
-use Rattle.std.specs.Prelude.{◌≡◌, ℕ}
 use Rattle.qz_outside.specs.Sources.{Feed, Store}
 use Rattle.qz_links.specs.Gates.{Gating}
 
