@@ -1,6 +1,5 @@
 -- What a door's calls leave of the links, where it tells them.
-use Rattle.std.specs.Prelude.{◌≡◌, ℕ, ◌+◌, List, [], ◌∷◌, ◌++◌, Option, Result, IfSome, MatchOption, MatchResult}
-use Rattle.core.specs.Option.{option_map}
+use Rattle.std.specs.Prelude.{◌≡◌, ℕ, ◌+◌, List, [], ◌∷◌, ◌++◌, Option, Result, IfSome, MatchOption, MatchResult, option_map}
 
 -- a link was taken: the first of those left, and one more is out
 pub record TakesLink {L : Type 0} (left rest : Option (List L)) (before now : ℕ) (link : L) : Type 0 where
@@ -21,3 +20,19 @@ NextLink left rest before now result = MatchResult result
 -- a link was put behind those that were given back
 abbrev pub GivesBack : {L : Type 0} → Option (List L) → Option (List L) → L → Type 0
 GivesBack before now link = now ≡ option_map (λ links. links ++ link ∷ []) before
+
+-- a door in memory: the links left, those given back, how many more were taken, the numbers of the calls of `next` that
+-- are to fail, and how many calls and faults there were
+pub record Doorway (L : Type 0) : Type 0 where
+  pub left : List L
+  pub returned : List L
+  pub out : ℕ
+  pub failing : List ℕ
+  pub calls : ℕ
+  pub faults : ℕ
+
+-- a door over sockets: how many links were given back, how many more were taken, and how many calls failed
+pub record Tally : Type 0 where
+  pub returns : ℕ
+  pub out : ℕ
+  pub faults : ℕ

@@ -1,2 +1,4 @@
 pub mod Clocks
 pub mod Doors
+pub mod Gates
+pub mod Links

@@ -1,6 +1,6 @@
 //! Where links come from, and where they go back.
 
-ghost use Rattle.std.specs.Prelude.{◌≡◌, ℕ, ◌<◌, List, Option};
+ghost use Rattle.std.specs.Prelude.{◌≡◌, ℕ, ◌+◌, ◌<◌, List, Option};
 ghost use Rattle.qz_outside.specs.Causes.{HasCause};
 ghost use Rattle.qz_links.specs.Doors.{NextLink, GivesBack};
 
