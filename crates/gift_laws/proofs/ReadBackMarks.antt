@@ -12,7 +12,8 @@ use Rattle.gift_lex.specs.Blocks as lex
 use Rattle.gift_lex.specs.Blocks.{marks_of, single}
 use Rattle.qz_grading.specs.Canonical as canonical
 use Rattle.qz_grading.specs.Canonical.{escaped_byte, escaped}
-use Rattle.gift_write.proofs.EscapeLemmas.{flat_map-wide, escaped_byte-wide}
+use Rattle.gift_write.proofs.EscapeLemmas.{escaped_byte-wide}
+use Rattle.qz_text.proofs.WideLemmas.{flat_map-wide}
 use Rattle.gift_read.specs.Places.{Marks, character}
 use Rattle.gift_read.specs.Texts.{spelled}
 use Rattle.gift_laws.proofs.ReadBackPlaces.{is_plain, are_plain}

@@ -5,7 +5,7 @@ use Rattle.std.proofs.lemmas.Bool.{cases_lt, eqb-true, ne_eqb}
 use Rattle.std.proofs.lemmas.Grind.{flat_map-append}
 use Rattle.std.proofs.lemmas.List.{append-nil}
 use Rattle.std.proofs.lemmas.Str.{encode_ascii, encodes-append}
-use Rattle.gift_write.proofs.EscapeLemmas.{flat_map-wide}
+use Rattle.qz_text.proofs.WideLemmas.{flat_map-wide}
 use Rattle.qz_wire.specs.Escapes.{escaped, escaped_byte, text_word, written_for}
 use Rattle.qz_wire.specs.Words.{text_of, unescaped, words_of}
 use Rattle.qz_wire.proofs.GatheringLemmas.{plain-byte}
