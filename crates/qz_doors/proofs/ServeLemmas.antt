@@ -2,6 +2,7 @@
 use Rattle.std.proofs.Common.{◌≡◌, ◌⊎◌, inl, inr, ℕ, zero, suc, ◌+◌, ◌*◌, ◌-◌, ◌<◌, ◌≤◌, Bool, true, false, List, [], ◌∷◌, ◌++◌, length, take, drop, Option, Some, None, Ok, Err, Result, MatchResult, refl, sym, ap, ◌∙◌, subst, append-nil, append_assoc, length-append, arith}
 use Rattle.std.proofs.lemmas.Bool.{false≢true}
 use Rattle.std.proofs.lemmas.List.{length-drop, length-take}
+use Rattle.std.specs.Prelude.{MatchOption}
 use Rattle.std.specs.Io.KnownBytes.{Appends, Consumes, IsAtEnd, Keeps}
 use Rattle.std.proofs.KnownBytes.{Appends-nil, Appends-trans, Consumes-kept, Consumes-nil, Consumes-trans}
 use Rattle.qz_outside.specs.Causes.{HasRisen}
@@ -24,7 +25,9 @@ use Rattle.qz_http.proofs.TalkLemmas.{gives_at_end, no_need, same_at_need, taken
 use Rattle.qz_doors.specs.Answers.{Answers, RepliesTo}
 use Rattle.qz_doors.specs.Answers as chain
 use Rattle.qz_doors.specs.Links.{Answered, LinkEnds, Peer, Served, ServedFirst, ServedPart, ServedSoFar, end_text, has_response, is_open, whole_link}
-use Rattle.qz_doors.specs.Steps.{AnswersItem, FailsToRead, Feeds, LeavesItem, LosesPiece, ReadsOn}
+use Rattle.qz_doors.specs.declared.halt.Halt.{Halt}
+use Rattle.qz_doors.specs.declared.halt.Halt.TheVariants as halt
+use Rattle.qz_doors.specs.Steps.{AnswersItem, AnswerStops, FailsToRead, Feeds, GoesOn, IsDone, ItemStops, LeavesItem, LosesPiece, ReadStops, ReadsOn, StepEnds, StepStops, StepsOn, halt_end}
 use Rattle.qz_doors.specs.Steps as steps
 
 -- ---- answers in turn
@@ -470,3 +473,118 @@ ends_within asks old mid new a b c core next given s responds step left = record
   replied = left.replied;
   split = same_response next [] given left.reply ∙ left.written.split;
 }
+
+-- ---- one step
+
+pub need_unfinished : (core next : Link) (given : Item) → given ≡ item.Need → Gives core given next → next.finished ≡ false
+need_unfinished core next given need step = keeps_finished core next given step ∙ (needy core next given need step).unfinished
+
+pub serves_step : {S : Type 0} (asks : S → S → Ask → Reply → Type 0) (old mid new : Peer) (a b c : S) (core after : Link) → IsServing asks old mid a b core → StepsOn asks mid new b c core after → IsServing asks old new a c after
+serves_step asks old mid new a b c core after s step = by step.goes
+  where
+    by : GoesOn asks mid new b c step.here after step.given → IsServing asks old new a c after
+    by (inl went) =
+        let need = needy core step.here step.given went.0 step.gives in
+        let read : ReadsOn mid new core after = subst (λ (l : Link). ReadsOn mid new l after) (sym (same_at_need core step.here step.given went.0 step.gives)) went.1 in
+        subst (λ (x : _). IsServing asks old new a x after) (sym went.2) (serves_read asks old mid new a b core after s need read)
+    by (inr went) = subst (λ (l : Link). IsServing asks old new a c l) (sym went.2) (serves_request asks old mid new a b c core step.here step.given s went.0 step.gives went.1)
+
+pub fewer_step : {S : Type 0} (asks : S → S → Ask → Reply → Type 0) (mid new : Peer) (b c : S) (core after : Link) → IsLive core → StepsOn asks mid new b c core after → steps_left after < steps_left core
+fewer_step asks mid new b c core after live step = by step.goes
+  where
+    by : GoesOn asks mid new b c step.here after step.given → steps_left after < steps_left core
+    by (inl went) =
+        let need = needy core step.here step.given went.0 step.gives in
+        let read : ReadsOn mid new core after = subst (λ (l : Link). ReadsOn mid new l after) (sym (same_at_need core step.here step.given went.0 step.gives)) went.1 in
+        fewer_by_read core after new.left read.piece need read.feeds
+    by (inr went) = subst (λ (l : Link). steps_left l < steps_left core) (sym went.2) (fewer_by_request core step.here step.given went.0 live step.gives)
+
+ends_told : {S : Type 0} (asks : S → S → Ask → Reply → Type 0) (old mid new : Peer) (a b c : S) (core next : Link) (why : LinkEnd) → IsServing asks old mid a b core → Gives core (item.Over why) next
+    → has_response (item.Over why) ≡ true → AnswersItem asks mid new b c next (item.Over why) → LinkEnds asks old new a c why
+ends_told asks old mid new a b c core next end.End s step told answered = absurd cc
+ends_told asks old mid new a b c core next (end.Cut left) s step told answered = absurd cc
+ends_told asks old mid new a b c core next end.Closed s step told answered = absurd cc
+ends_told asks old mid new a b c core next (end.Bad status) s step told answered = ends_bad asks old mid new a b c core next status s step answered
+ends_told asks old mid new a b c core next end.Full s step told answered = absurd cc
+ends_told asks old mid new a b c core next end.ReadFault s step told answered = absurd cc
+ends_told asks old mid new a b c core next end.WriteFault s step told answered = absurd cc
+ends_told asks old mid new a b c core next end.Memory s step told answered = absurd cc
+
+serves_still : {S : Type 0} (asks : S → S → Ask → Reply → Type 0) (old mid new : Peer) (a b c : S) (core : Link) → new ≡ mid → c ≡ b → IsServing asks old mid a b core → IsServing asks old new a c core
+serves_still asks old mid new a b c core peer same s = subst (λ (p : Peer). IsServing asks old p a c core) (sym peer) (subst (λ (x : _). IsServing asks old mid a x core) (sym same) s)
+
+pub ends_step : {S : Type 0} (asks : S → S → Ask → Reply → Type 0) (old mid new : Peer) (a b c : S) (core : Link) (why : LinkEnd) → IsServing asks old mid a b core → StepEnds asks mid new b c core why → LinkEnds asks old new a c why
+ends_step asks old mid new a b c core why s step = by step.done.1
+  where
+    gives : Gives core (item.Over why) step.here
+    gives = subst (λ (g : Item). Gives core g step.here) step.done.0 step.gives
+
+    by : ((has_response step.given ≡ true) × AnswersItem asks mid new b c step.here step.given) ⊎ ((has_response step.given ≡ false) × (new ≡ mid) × (c ≡ b)) → LinkEnds asks old new a c why
+    by (inl told) = ends_told asks old mid new a b c core step.here why s gives (sym (ap has_response step.done.0) ∙ told.0) (subst (λ (g : Item). AnswersItem asks mid new b c step.here g) step.done.0 told.1)
+    by (inr silent) = ends_silent asks old new a c core step.here step.given why (serves_still asks old mid new a b c core silent.1 silent.2 s) step.done.0 step.gives silent.0
+
+pub stops_step : {S : Type 0} (asks : S → S → Ask → Reply → Type 0) (old mid new : Peer) (a b c : S) (core : Link) (why : Halt) → IsServing asks old mid a b core → StepStops asks mid new b c core why → LinkEnds asks old new a c (halt_end why)
+stops_step asks old mid new a b c core _ s (steps.before peer same) = inl (ends_first asks old new a c core (serves_still asks old mid new a b c core peer same s))
+stops_step asks old mid new a b c core _ s (steps.within given here why step stopped) = by why stopped
+  where
+    by : (why : Halt) → ItemStops asks mid new b c here given why → LinkEnds asks old new a c (halt_end why)
+    by halt.ReadFault stopped = subst (λ (x : _). ServedSoFar asks old new a x × HasRisen old.faults new.faults) (sym stopped.2) (ends_reading asks old mid new a b core s (needy core here given stopped.0 step) stopped.1)
+    by halt.WriteFault stopped = (ends_within asks old mid new a b c core here given s stopped.0 step stopped.1, λ below. omega (arith, s.later, stopped.2 below))
+    by halt.Memory (inl stopped) = inl (subst (λ (x : _). ServedFirst asks old new a x) (sym stopped.2) (ends_losing asks old mid new a b core s (needy core here given stopped.0 step) stopped.1))
+    by halt.Memory (inr stopped) = inr (ends_within asks old mid new a b c core here given s stopped.0 step stopped.1)
+
+-- ---- what the calls of a step leave
+
+pub reads_end : (old new : Peer) (core after : Link) (room : List ℕ) (count : ℕ) → count ≡ 0 → Consumes old.left new.left (take count room) × (count ≡ 0 → 0 < length room → IsAtEnd new.left) → 0 < length room
+    → after ≡ ended_link core → new.holds ≡ old.holds → old.faults ≤ new.faults → ReadsOn old new core after
+reads_end old new core after room count nothing bytes some is apart later = record {
+  piece = [];
+  taken = subst (λ (n : ℕ). Consumes old.left new.left (take n room)) nothing bytes.0;
+  feeds = subst (λ (l : Link). Feeds core new.left [] l) (sym is) (steps.ended (bytes.1 nothing some));
+  apart = apart;
+  later = later;
+}
+
+pub reads_piece : (old new : Peer) (core after : Link) (room : List ℕ) (count : ℕ) → 0 < count → count ≤ length room → Consumes old.left new.left (take count room)
+    → after ≡ fed core (take count room) → new.holds ≡ old.holds → old.faults ≤ new.faults → ReadsOn old new core after
+reads_piece old new core after room count some fits taken is apart later = record {
+  piece = take count room;
+  taken = taken;
+  feeds = subst (λ (l : Link). Feeds core new.left (take count room) l) (sym is) (steps.more (take count room) (omega (arith, some, fits, length-take count room)));
+  apart = apart;
+  later = later;
+}
+
+pub leaves_none : {S : Type 0} (asks : S → S → Ask → Reply → Type 0) (old : Peer) (a b : S) (here : Link) (given : Item) (reply : Reply) → RepliesTo asks given a b reply → LeavesItem asks old old a b here given
+leaves_none asks old a b here given reply replied = record {
+  reply = reply;
+  replied = replied;
+  written = record { front = []; rest = written here given reply; split = refl; appends = Appends-nil old.holds };
+  apart = refl;
+  later = omega arith;
+}
+
+pub answer_stops : {S : Type 0} (asks : S → S → Ask → Reply → Type 0) (old new : Peer) (a b : S) (here : Link) (given : Item) (why : Halt) → has_response given ≡ true → AnswerStops asks old new a b here given why → ItemStops asks old new a b here given why
+answer_stops asks old new a b here given halt.ReadFault responds stopped = absurd stopped
+answer_stops asks old new a b here given halt.WriteFault responds stopped = (responds, stopped.0, stopped.1)
+answer_stops asks old new a b here given halt.Memory responds stopped = inr (responds, stopped)
+
+pub read_stops : {S : Type 0} (asks : S → S → Ask → Reply → Type 0) (old new : Peer) (a b : S) (here : Link) (given : Item) (why : Halt) → given ≡ item.Need → b ≡ a → ReadStops old new why → ItemStops asks old new a b here given why
+read_stops asks old new a b here given halt.ReadFault need same stopped = (need, stopped, same)
+read_stops asks old new a b here given halt.WriteFault need same stopped = absurd stopped
+read_stops asks old new a b here given halt.Memory need same stopped = inl (need, stopped, same)
+
+pub no_response : has_response item.Need ≡ true → ⊥
+no_response is = false≢true is
+
+-- what comes of the item that was given comes of the step
+pub acts_step : {S : Type 0} (asks : S → S → Ask → Reply → Type 0) (old new : Peer) (a b : S) (core here after : Link) (given : Item) (result : Result (Option LinkEnd) Halt) → Gives core given here
+    → MatchResult result (λ ended. MatchOption ended (GoesOn asks old new a b here after given) (IsDone asks old new a b here given)) (ItemStops asks old new a b here given)
+    → MatchResult result (λ ended. MatchOption ended (StepsOn asks old new a b core after) (StepEnds asks old new a b core)) (StepStops asks old new a b core)
+acts_step asks old new a b core here after given (Ok None) gives went = record { given = given; here = here; gives = gives; goes = went }
+acts_step asks old new a b core here after given (Ok (Some why)) gives done = record { given = given; here = here; gives = gives; done = done }
+acts_step asks old new a b core here after given (Err why) gives stopped = steps.within given here why gives stopped
+
+-- memory was wanting before anything was read
+pub ends_unread : {S : Type 0} (asks : S → S → Ask → Reply → Type 0) (old : Peer) (a : S) → LinkEnds asks old old a a end.Memory
+ends_unread asks old a = inl (ends_first asks old old a a new_link (serves_none asks old a new_link refl))

@@ -6,6 +6,7 @@ use Rattle.qz_terms.specs.declared.reply.Reply.{Reply}
 use Rattle.qz_http.specs.declared.items.LinkEnd.{LinkEnd}
 use Rattle.qz_http.specs.declared.items.LinkEnd.TheVariants as end
 use Rattle.qz_doors.specs.declared.door.DoorEnd.{DoorEnd}
+use Rattle.qz_links.specs.Doors.{GivesBack}
 use Rattle.qz_doors.specs.Links.{LinkEnds, Peer}
 
 -- the links left and those given back, where the door tells them, how many were given back and how many more taken, and how often it failed
@@ -22,9 +23,33 @@ pub data ServesInTurn {L S : Type 0} (asks : S → S → Ask → Reply → Type 
   one : (a b c : S) (link served : L) (why : LinkEnd) (links back : List L) (ends : List LinkEnd) → LinkEnds asks (peer link) (peer served) a b why
       → ServesInTurn asks peer b links back ends c → ServesInTurn asks peer a (link ∷ links) (served ∷ back) (why ∷ ends) c
 
+-- one link was taken, served and given back
+pub record ServesNext {L S : Type 0} (asks : S → S → Ask → Reply → Type 0) (peer : L → Peer) (old new : Entrance L) (a b : S) (why : LinkEnd) : Type 0 where
+  pub link : L
+  pub served : L
+  pub left : old.left ≡ option_map (λ left. link ∷ left) new.left
+  pub serves : LinkEnds asks (peer link) (peer served) a b why
+  pub returned : GivesBack old.returned new.returned served
+  pub returns : new.returns ≡ old.returns + 1
+  pub out : new.out ≡ old.out
+  pub later : old.faults ≤ new.faults
+
+-- no link was taken
+pub record TakesNoLink {L : Type 0} (old new : Entrance L) : Type 0 where
+  pub left : new.left ≡ old.left
+  pub returned : new.returned ≡ old.returned
+  pub returns : new.returns ≡ old.returns
+  pub out : new.out ≡ old.out
+  pub later : old.faults ≤ new.faults
+
 abbrev pub is_short : LinkEnd → Bool
 is_short end.Memory = true
 is_short why = false
+
+-- how many links are short, with one more
+abbrev pub shorter : Bool → ℕ → ℕ
+shorter true short = short + 1
+shorter false short = short
 
 -- At most so many links were taken, and each was served and given back, in order. Fewer were taken only where none is left, or where the
 -- door failed.

@@ -1,14 +1,16 @@
 //! Serving the links of a door.
 
-ghost use Rattle.std.specs.Prelude.{◌≡◌, ℕ, true};
+ghost use Rattle.std.specs.Prelude.{◌≡◌, ◌+◌, ◌-◌, ◌^◌, ◌<◌, ◌≤◌, ℕ, true, [], IfSome, MatchOption, MatchResult};
+ghost use Rattle.qz_outside.specs.Causes.{HasRisen};
 ghost use Rattle.qz_terms.specs.declared.ask.Ask.{Ask};
 ghost use Rattle.qz_terms.specs.Kept.{is_moment};
 ghost use Rattle.qz_doors.specs.Answers.{Asks};
-ghost use Rattle.qz_doors.specs.Doors.{ServesDoor};
+ghost use Rattle.qz_doors.specs.Doors.{ServesDoor, ServesNext, TakesNoLink, is_short, shorter};
 
 use crate::link::serve_link;
 use qz_http::LinkEnd;
 use qz_links::{Clock, Door};
+use qz_outside::Failed;
 use qz_terms::Desk;
 use std::alloc::Global;
 
@@ -48,18 +50,61 @@ pub fn serve_door<D: Desk, R: Door, C: Clock>(
         short: 0,
     };
     while end.taken < links {
-        let Ok(next) = door.next() else {
-            end.fault = true;
-            return end;
-        };
-        let Some(mut link) = next else {
-            return end;
-        };
-        if serve_link(alloc, desk, &mut link, clock) == LinkEnd::Memory {
-            end.short += 1;
+        match serve_next(alloc, desk, door, clock) {
+            Ok(Some(why)) => end = with_one_more(end, why),
+            Ok(None) => return end,
+            Err(Failed) => return DoorEnd { fault: true, ..end },
         }
-        door.back(link);
-        end.taken += 1;
     }
     end
+}
+
+/// One more link was served, and ended so.
+fn with_one_more(end: DoorEnd, why: LinkEnd) -> DoorEnd
+    requires few { end.short ≤ end.taken }
+    requires room { end.taken < 2 ^ 64 - 1 }
+    ensures { result ≡ record end { taken = end.taken + 1; short = shorter (is_short why) end.short } }
+{
+    let short = if why == LinkEnd::Memory {
+        end.short + 1
+    } else {
+        end.short
+    };
+    DoorEnd {
+        taken: end.taken + 1,
+        short,
+        ..end
+    }
+}
+
+/// Serves the next link, and gives it back. How it ended, if one came.
+fn serve_next<D: Desk, R: Door, C: Clock>(
+    alloc: Global,
+    desk: &mut D,
+    door: &mut R,
+    clock: &mut C,
+) -> Result<Option<LinkEnd>, Failed>
+    requires takes { (moment : ℕ) (ask : Ask) → is_moment moment ≡ true → D.takes moment ask }
+    ensures { MatchResult result
+        (λ ended. MatchOption ended
+        (TakesNoLink (record { left = R.left door.old; returned = R.returned door.old; returns = R.returns door.old; out = R.out door.old; faults = R.faults door.old })
+        (record { left = R.left door.new; returned = R.returned door.new; returns = R.returns door.new; out = R.out door.new; faults = R.faults door.new }) × (D.lists desk.new ≡ D.lists desk.old) × (clock.new ≡ clock.old) × IfSome (R.left door.new) (λ left. left ≡ []))
+        (ServesNext (Asks C.tells D.answers)
+        (λ link. record { left = R.Link.left link; holds = R.Link.holds link; faults = R.Link.faults link })
+        (record { left = R.left door.old; returned = R.returned door.old; returns = R.returns door.old; out = R.out door.old; faults = R.faults door.old })
+        (record { left = R.left door.new; returned = R.returned door.new; returns = R.returns door.new; out = R.out door.new; faults = R.faults door.new })
+        (record { lists = D.lists desk.old; clock = clock.old })
+        (record { lists = D.lists desk.new; clock = clock.new })))
+        (λ _. TakesNoLink (record { left = R.left door.old; returned = R.returned door.old; returns = R.returns door.old; out = R.out door.old; faults = R.faults door.old })
+        (record { left = R.left door.new; returned = R.returned door.new; returns = R.returns door.new; out = R.out door.new; faults = R.faults door.new }) × (D.lists desk.new ≡ D.lists desk.old) × (clock.new ≡ clock.old) × HasRisen (R.faults door.old) (R.faults door.new)) }
+{
+    let Ok(next) = door.next() else {
+        return Err(Failed);
+    };
+    let Some(mut link) = next else {
+        return Ok(None);
+    };
+    let end = serve_link(alloc, desk, &mut link, clock);
+    door.back(link);
+    Ok(Some(end))
 }

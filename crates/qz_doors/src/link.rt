@@ -3,7 +3,7 @@
 ghost use Rattle.std.specs.Prelude.{◌≡◌, ◌<◌, ℕ, false, true, length, MatchOption, MatchResult};
 ghost use Rattle.qz_terms.specs.declared.ask.Ask.{Ask};
 ghost use Rattle.qz_terms.specs.Kept.{is_moment};
-ghost use Rattle.qz_http.specs.declared.items.Item.TheVariants as item;
+ghost use Rattle.qz_http.specs.declared.items.Item.TheVariants as items;
 ghost use Rattle.qz_http.specs.Links.{new_link};
 ghost use Rattle.qz_doors.specs.Answers.{Asks, RepliesTo};
 ghost use Rattle.qz_doors.specs.Links.{LinkEnds, has_response};
@@ -66,7 +66,9 @@ fn serve_or_halt<D: Desk, L: Link, C: Clock>(
     let Ok(mut room) = vec![in alloc; 0u8; PIECE] else {
         return Err(Halt::Memory);
     };
-    let mut core = LinkCore::new(alloc)?;
+    let Ok(mut core) = LinkCore::new(alloc) else {
+        return Err(Halt::Memory);
+    };
     serve_through(alloc, desk, link, clock, &mut core, &mut room)
 }
 
@@ -90,13 +92,16 @@ fn serve_through<D: Desk, L: Link, C: Clock>(
         in MatchResult result ends (λ halt. ends (halt_end halt)) }
 {
     loop {
-        if let Some(end) = step(alloc, desk, link, clock, core, room)? {
-            return Ok(end);
+        match step(alloc, desk, link, clock, core, room) {
+            Ok(None) => {}
+            Ok(Some(end)) => return Ok(end),
+            Err(halt) => return Err(halt),
         }
     }
 }
 
 /// Takes the next item of a link, and does what it asks for. The end, if the link is over.
+#[tactic(auto, using(crate::proofs::ServeLemmas::acts_step, crate::proofs::ServeLemmas::need_unfinished))]
 fn step<D: Desk, L: Link, C: Clock>(
     alloc: Global,
     desk: &mut D,
@@ -107,7 +112,7 @@ fn step<D: Desk, L: Link, C: Clock>(
 ) -> Result<Option<LinkEnd>, Halt>
     requires takes { (moment : ℕ) (ask : Ask) → is_moment moment ≡ true → D.takes moment ask }
     requires room { 0 < length room.old }
-    ensures step { MatchResult result
+    ensures { MatchResult result
         (λ ended. MatchOption ended (StepsOn (Asks C.tells D.answers)
         (record { left = L.left link.old; holds = L.holds link.old; faults = L.faults link.old })
         (record { left = L.left link.new; holds = L.holds link.new; faults = L.faults link.new })
@@ -126,7 +131,6 @@ fn step<D: Desk, L: Link, C: Clock>(
         (record { lists = D.lists desk.old; clock = clock.old })
         (record { lists = D.lists desk.new; clock = clock.new })
         core.old) }
-    ensures room { length room.new ≡ length room.old }
 {
     let Ok(item) = core.next(alloc) else {
         return Err(Halt::Memory);
@@ -145,6 +149,7 @@ fn has_response(item: &Item) -> bool
 }
 
 /// Answers an item that has a response, and reads on where more bytes are needed. The end, if the link is over.
+#[tactic(auto, using(crate::proofs::ServeLemmas::answer_stops, crate::proofs::ServeLemmas::read_stops, crate::proofs::ServeLemmas::no_response))]
 fn act<D: Desk, L: Link, C: Clock>(
     alloc: Global,
     desk: &mut D,
@@ -155,9 +160,9 @@ fn act<D: Desk, L: Link, C: Clock>(
     item: &Item,
 ) -> Result<Option<LinkEnd>, Halt>
     requires takes { (moment : ℕ) (ask : Ask) → is_moment moment ≡ true → D.takes moment ask }
-    requires unfinished { item.now ≡ item.Need → core.old.finished ≡ false }
+    requires unfinished { item.now ≡ items.Need → core.old.finished ≡ false }
     requires room { 0 < length room.old }
-    ensures act { MatchResult result
+    ensures { MatchResult result
         (λ ended. MatchOption ended (GoesOn (Asks C.tells D.answers)
         (record { left = L.left link.old; holds = L.holds link.old; faults = L.faults link.old })
         (record { left = L.left link.new; holds = L.holds link.new; faults = L.faults link.new })
@@ -176,16 +181,17 @@ fn act<D: Desk, L: Link, C: Clock>(
         (record { lists = D.lists desk.old; clock = clock.old })
         (record { lists = D.lists desk.new; clock = clock.new })
         core.old item.now) }
-    ensures room { length room.new ≡ length room.old }
 {
     if has_response(item) {
-        answer(alloc, desk, link, clock, core, item)?;
+        if let Err(halt) = answer(alloc, desk, link, clock, core, item) {
+            return Err(halt);
+        }
     }
     match item {
-        Item::Need => {
-            read_on(link, core, room)?;
-            Ok(None)
-        }
+        Item::Need => match read_on(link, core, room) {
+            Ok(()) => Ok(None),
+            Err(halt) => Err(halt),
+        },
         Item::Ask(_) | Item::Refused(_) | Item::Bare(_) => Ok(None),
         Item::Over(end) => Ok(Some(*end)),
     }
@@ -216,6 +222,7 @@ fn read_on<L: Link>(link: &mut L, core: &mut LinkCore, room: &mut [u8]) -> Resul
 }
 
 /// Answers an item, and writes the whole response.
+#[tactic(auto, using(crate::proofs::ServeLemmas::leaves_none))]
 fn answer<D: Desk, L: Link, C: Clock>(
     alloc: Global,
     desk: &mut D,

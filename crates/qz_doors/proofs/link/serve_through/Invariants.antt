@@ -3,8 +3,8 @@ use Rattle.qz_doors.specs.Answers.{Asks}
 use Rattle.qz_doors.proofs.ServeLemmas.{IsServing, steps_left}
 use Rattle.qz_doors.proofs.link.serve_through.Given as goal
 
-abbrev pub invariant-loop-item : goal.invariant-loop-item
-invariant-loop-item g l = record {
+abbrev pub invariant-loop-end : goal.invariant-loop-end
+invariant-loop-end g l = record {
   serving : IsServing (Asks g.C.Clock.tells g.D.Desk.answers)
       (record { left = g.L.Link.left l.fn.link; holds = g.L.Link.holds l.fn.link; faults = g.L.Link.faults l.fn.link })
       (record { left = g.L.Link.left l.link; holds = g.L.Link.holds l.link; faults = g.L.Link.faults l.link })
@@ -14,5 +14,5 @@ invariant-loop-item g l = record {
   room : 0 < length l.room;
 }
 
-abbrev pub decreases-loop-item : goal.decreases-loop-item
-decreases-loop-item g l = steps_left l.core
+abbrev pub decreases-loop-end : goal.decreases-loop-end
+decreases-loop-end g l = steps_left l.core
