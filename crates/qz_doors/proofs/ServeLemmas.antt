@@ -41,7 +41,7 @@ answers_more asks link _ next a _ c _ _ _ given reply (chain.none _ _) asking gi
 answers_more asks link here next a b c _ _ _ given reply (chain.one _ mid _ _ m _ first told items said output is step replies rest) asking gives replied =
     let there = answers_more asks mid here next m b c items said output given reply rest asking gives replied in
     subst (λ (o : List ℕ). Answers asks link a (first ∷ (items ++ given ∷ [])) (told ∷ (said ++ reply ∷ [])) o next c) (sym (append_assoc (written mid first told) output (written next given reply)))
-        (chain.one link mid next a m c first told (items ++ given ∷ []) (said ++ reply ∷ []) (output ++ written next given reply) is step replies there)
+    (chain.one link mid next a m c first told (items ++ given ∷ []) (said ++ reply ∷ []) (output ++ written next given reply) is step replies there)
 
 -- what is answered is what the link gives
 answers_talk : {S : Type 0} (asks : S → S → Ask → Reply → Type 0) (link here : Link) (a b : S) (items : List Item) (said : List Reply) (output : List ℕ) (why : LinkEnd)
@@ -258,7 +258,7 @@ serves_read asks old mid new a b core after s need r = by r.piece after r.taken 
           let whole : s.bytes ++ (piece ++ more) ≡ (s.bytes ++ piece) ++ more = sym (append_assoc s.bytes piece more) in
           let left : core.left ++ (piece ++ more) ≡ (core.left ++ piece) ++ more = sym (append_assoc core.left piece more) in
           subst (λ (l : List ℕ). Answers asks (whole_link ((s.bytes ++ piece) ++ more)) a s.items s.replies s.output (ended_link (record core { left = l })) b) left
-              (subst (λ (l : List ℕ). Answers asks (whole_link l) a s.items s.replies s.output (ended_link (fed core (piece ++ more))) b) whole there);
+          (subst (λ (l : List ℕ). Answers asks (whole_link l) a s.items s.replies s.output (ended_link (fed core (piece ++ more))) b) whole there);
       at_end = λ finished. absurd (false≢true (sym need.unfinished ∙ finished));
       written = kept;
       later = omega (arith, s.later, r.later);
@@ -423,26 +423,28 @@ ends_reading asks old mid new a b core s need r =
     let now = answers_now asks old mid a b core s in
     let here = ended_link (fed core []) in
     let step : Gives here (waiting true core.left) here = stays (waiting true core.left) need.none (subst (λ (l : List ℕ). Stays true l (waiting true core.left)) (sym (append-nil core.left)) (awaiting need.awaits)) in
-    let last : Gives here (item.Over why) here = subst (λ (g : Item). Gives here g here) (waiting_open core.left) step in
-    (record {
-      why = why;
-      unfinished = open_ends core.left;
-      served = record {
-        bytes = s.bytes;
-        items = s.items;
-        here = here;
-        answered = record {
-          replies = s.replies;
-          output = s.output;
-          taken = Consumes-kept old.left mid.left new.left s.bytes s.taken r.kept;
-          answers = now;
-          written = subst (λ (h : Option (List ℕ)). Appends old.holds h (s.output ++ end_text why)) (sym r.apart)
-              (subst (λ (t : List ℕ). Appends old.holds mid.holds (s.output ++ t)) (sym (silent_ends core.left)) (subst (λ (o : List ℕ). Appends old.holds mid.holds o) (sym (append-nil s.output)) s.written));
-          later = omega (arith, s.later, r.later);
+    let last : Gives here (item.Over why) here = subst (λ (g : Item). Gives here g here) (waiting_open core.left) step in (
+      record {
+        why = why;
+        unfinished = open_ends core.left;
+        served = record {
+          bytes = s.bytes;
+          items = s.items;
+          here = here;
+          answered = record {
+            replies = s.replies;
+            output = s.output;
+            taken = Consumes-kept old.left mid.left new.left s.bytes s.taken r.kept;
+            answers = now;
+            written = subst (λ (h : Option (List ℕ)). Appends old.holds h (s.output ++ end_text why)) (sym r.apart)
+                (subst (λ (t : List ℕ). Appends old.holds mid.holds (s.output ++ t)) (sym (silent_ends core.left)) (subst (λ (o : List ℕ). Appends old.holds mid.holds o) (sym (append-nil s.output)) s.written));
+            later = omega (arith, s.later, r.later);
+          };
+          talk = answers_talk asks (whole_link s.bytes) here a b s.items s.replies s.output why now (talks.over here here why last);
         };
-        talk = answers_talk asks (whole_link s.bytes) here a b s.items s.replies s.output why now (talks.over here here why last);
-      };
-    }, λ below. omega (arith, s.later, r.risen below))
+      },
+      λ below. omega (arith, s.later, r.risen below),
+    )
 
 responds_need : (given : Item) → has_response given ≡ true → given ≡ item.Need → ⊥
 responds_need given responds is = false≢true (sym (ap has_response is) ∙ responds)

@@ -75,7 +75,10 @@ fn an_exchange_is_cut_at_each_byte(rt: HostRuntime) -> Result<(), Fail> {
     let alloc = rt.alloc();
     for most in 1..=EXCHANGE.len() {
         let mut link = link_of(alloc, EXCHANGE, most, &[])?;
-        assert!(rt; served(alloc, &mut link)? == (LinkEnd::End, 1), "{most} bytes a read");
+        assert!(rt;
+            served(alloc, &mut link)? == (LinkEnd::End, 1),
+            "{most} bytes a read"
+        );
         assert!(rt; link.bytes() == ANSWER, "{most} bytes a read");
     }
     Ok(())
@@ -144,7 +147,14 @@ fn links_are_given_back(rt: HostRuntime) -> Result<(), Fail> {
         let mut desk = Counting { asked: 0 };
         let mut clock = MemoryClock::new(listed(alloc, &[130])?);
         let end = serve_door(alloc, &mut desk, &mut door, &mut clock, links);
-        assert_eq!(rt; end, DoorEnd { taken, fault, short: 0 });
+        assert_eq!(rt;
+            end,
+            DoorEnd {
+                taken,
+                fault,
+                short: 0
+            }
+        );
         let written = [ANSWER, NOT_FOUND, b"".as_slice()];
         for (link, bytes) in door.returned().iter().zip(written) {
             assert!(rt; link.bytes() == bytes);
