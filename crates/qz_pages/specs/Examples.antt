@@ -1,5 +1,6 @@
 -- Worked dates, pages and reports.
 use Rattle.std.specs.Prelude.{◌≡◌, ℕ, List, [], ◌∷◌, ◌++◌, Some, None, pos, codes, refl}
+use Rattle.std.specs.Fmt.{digits}
 use Rattle.csv.specs.Writing.{escaped, fields_text, is_blank}
 use Rattle.qz_grading.specs.declared.outcome.State.TheVariants as state
 use Rattle.qz_grading.specs.declared.refusal.AttemptId.{AttemptId}
@@ -51,6 +52,7 @@ unfolding civil_text span_of
 the_last_date = refl
 
 pub past_the_last_date : due_text (Some 4133980800) ≡ codes "4133980800"
+unfolding digits
 past_the_last_date = refl
 
 -- ---- pages
@@ -63,6 +65,7 @@ a_fresh_slot = refl
 
 -- no hint is no paragraph, and an empty feedback is none
 pub a_graded_slot : slot_line (record sky { state = state.GradedPartial; mark = shown.Value (pos 15000000); feedback = codes "no" ∷ [] ∷ codes "a<b" ∷ []; general = codes "See \"4\"" }) ≡ codes "<li><pre>Sky</pre><p>gradedpartial 1.5000000</p><p>no</p><p>a&lt;b</p><p>See &quot;4&quot;</p></li>"
+unfolding digits
 a_graded_slot = refl
 
 -- where the state is hidden no feedback is shown, whatever there is
@@ -79,7 +82,7 @@ abbrev ann : AttemptId
 ann = record { user = 2; nth = 1 }
 
 pub a_page : page_text (done.Page ann (codes "Tom & Co") (Some 86400) (sky ∷ [])) ≡ codes "<!doctype html>\n<title>Tom &amp; Co</title>\n<h1>Tom &amp; Co: attempt 2.1</h1>\n<p>Due 1970-01-02T00:00:00Z</p>\n<ol>\n<li><pre>Sky</pre><p>todo -</p></li>\n</ol>\n"
-unfolding civil_text span_of
+unfolding civil_text digits span_of
 a_page = refl
 
 -- ---- reports
@@ -90,14 +93,16 @@ some_rows =
     ∷ record { user = 65535; name = codes "Lee, \"Bob\""; grade = None } ∷ []
 
 pub two_lines : grades_text some_rows ≡ codes "       2     10.00000 ann\n   65535            - Lee, \"Bob\"\n"
+unfolding digits
 two_lines = refl
 
 -- a number and a grade wider than their places are not cut
 pub wide_columns : grades_text (record { user = 4294967295; name = codes "b"; grade = Some (pos 123456700000) } ∷ []) ≡ codes "4294967295 1234567.00000 b\n"
+unfolding digits
 wide_columns = refl
 
 pub two_records : grades_csv some_rows ≡ codes "user,name,grade\n2,ann,10.00000\n65535,\"Lee, \"\"Bob\"\"\",\n"
-unfolding escaped fields_text is_blank
+unfolding digits escaped fields_text is_blank
 two_records = refl
 
 pub no_record : grades_csv [] ≡ codes "user,name,grade\n"
