@@ -1,16 +1,16 @@
 -- A day lies in the year and the month that jiff's calendar gives it.
-use Rattle.std.proofs.Common.{◌≡◌, ℕ, zero, suc, ◌+◌, ◌-◌, ◌*◌, ◌/◌, ◌%◌, ◌<◌, ◌≤◌, List, [], ◌∷◌, ◌++◌, nat_lt, cond, refl, sym, ap, ◌∙◌, arith, ℤ, pos, negsuc, ◌*ℤ◌, ◌+ℤ◌, ◌<ℤ◌, ◌≤ℤ◌, codes, None}
+use Rattle.std.proofs.Common.{◌≡◌, ℕ, zero, suc, ◌+◌, ◌-◌, ◌*◌, ◌/◌, ◌%◌, ◌<◌, ◌≤◌, [], ◌∷◌, ◌++◌, refl, ap, ◌∙◌, arith, ℤ, pos, negsuc, ◌≤ℤ◌, None}
 use Rattle.std.proofs.lemmas.Int.{by_lt_z}
 use Rattle.jiff.specs.Words.{iso_datetime_text, nanos_of_seconds}
 use Rattle.jiff_core.specs.Calendar.{IsCivilDate, day_count, day_of_year, days_from_civil, days_in_month, days_in_year, days_of_months}
 use Rattle.jiff_core.specs.Date.{epoch_day}
-use Rattle.jiff_core.specs.DateTime.{civil_nanos, civil_seconds}
+use Rattle.jiff_core.specs.DateTime.{civil_nanos}
 use Rattle.jiff_core.specs.Time.{time_seconds}
 use Rattle.jiff_core.specs.declared.civil.datetime.DateTime.{DateTime}
 use Rattle.jiff_core.specs.declared.civil.time.Time.{Time}
 use Rattle.jiff_core.proofs.CalendarLemmas.{day_count-day_of_year, day_count-epoch, day_count-later_year, day_count-lt_year, day_count-next_year, day_of_year_bound, days_from_civil-day_count, days_in_year_bounds, days_of_months-zero, days_of_months_more}
 use Rattle.jiff_core.proofs.DateLemmas.{civil}
-use Rattle.jiff_core.proofs.DateTimeLemmas.{civil_nanos-civil_seconds, civil_nanos-parts, time_nanos_bound}
+use Rattle.jiff_core.proofs.DateTimeLemmas.{civil_nanos-parts, time_nanos_bound}
 use Rattle.jiff_core.proofs.MarchLemmas.{day_count-early}
 use Rattle.jiff_core.proofs.SignedLemmas.{signed_arith}
 use Rattle.jiff_fmt.specs.Text.{pad2, year_text}

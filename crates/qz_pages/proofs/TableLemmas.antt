@@ -1,5 +1,5 @@
 -- Records of texts are text.
-use Rattle.std.proofs.Common.{◌≡◌, ℕ, ◌<◌, ◌≤◌, Bool, ◌==◌, ◌&&◌, true, false, if◌then◌else◌, List, [], ◌∷◌, ◌++◌, encode_utf8_all, flat_map, refl, ◌∙◌, arith, inl, inr, subst}
+use Rattle.std.proofs.Common.{◌≡◌, ℕ, ◌<◌, ◌≤◌, Bool, ◌==◌, true, false, if◌then◌else◌, List, [], ◌∷◌, ◌++◌, encode_utf8_all, flat_map, refl, ◌∙◌, arith, inl, inr, subst}
 use Rattle.std.specs.Char.{encode_utf8}
 use Rattle.std.specs.Str.{IsUtf8}
 use Rattle.std.proofs.lemmas.Bool.{and_parts, cases_lt, cond_both, ne_eqb}

@@ -1,17 +1,16 @@
 -- Worked dates, pages and reports.
-use Rattle.std.specs.Prelude.{◌≡◌, ℕ, List, [], ◌∷◌, ◌++◌, Some, None, pos, codes, refl}
+use Rattle.std.specs.Prelude.{◌≡◌, List, [], ◌∷◌, Some, None, pos, codes, refl}
 use Rattle.std.specs.Fmt.{digits}
 use Rattle.csv.specs.Writing.{escaped, fields_text, is_blank}
 use Rattle.qz_grading.specs.declared.outcome.State.TheVariants as state
 use Rattle.qz_grading.specs.declared.refusal.AttemptId.{AttemptId}
-use Rattle.qz_terms.specs.declared.reply.Done.{Done}
 use Rattle.qz_terms.specs.declared.reply.Done.TheVariants as done
 use Rattle.qz_terms.specs.declared.reply.Part.{Part}
 use Rattle.qz_terms.specs.declared.reply.Row.{Row}
 use Rattle.qz_terms.specs.declared.reply.Shown.TheVariants as shown
 use Rattle.qz_pages.specs.Dates.{civil_text, due_text, span_of}
 use Rattle.qz_pages.specs.Pages.{page_text, slot_line}
-use Rattle.qz_pages.specs.Reports.{csv_row, grades_csv, grades_text, row_fields}
+use Rattle.qz_pages.specs.Reports.{grades_csv, grades_text}
 
 -- ---- dates
 

@@ -16,11 +16,7 @@ const USER_PLACES: usize = 8;
 const GRADE_PLACES: usize = 12;
 
 /// A grade, or another text where there is none.
-pub(crate) fn grade_or(
-    alloc: Global,
-    nothing: &str,
-    grade: Option<Grade>,
-) -> Result<Text, NoMemory>
+pub(crate) fn grade_or(alloc: Global, nothing: &str, grade: Option<Grade>) -> Result<Text, NoMemory>
     ensures { IfOk result (λ text. text ≡ grade_or nothing.now grade) }
 {
     match grade {
