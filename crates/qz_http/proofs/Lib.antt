@@ -4,6 +4,7 @@ pub mod HeadLemmas
 pub mod SizeLemmas
 pub mod ResponseLemmas
 pub mod RouteLemmas
+pub mod AskedLemmas
 pub mod LinkLemmas
 pub mod PieceLemmas
 pub mod TalkLemmas

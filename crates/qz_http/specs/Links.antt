@@ -11,7 +11,7 @@ use Rattle.qz_http.specs.declared.links.Step.TheVariants as step
 use Rattle.qz_http.specs.declared.responses.Route.{Route}
 use Rattle.qz_http.specs.declared.responses.Route.TheVariants as route
 use Rattle.qz_http.specs.Heads.{body_of, closes, fields_of}
-use Rattle.qz_http.specs.Items.{item_of}
+use Rattle.qz_http.specs.Items.{AsksAskable, item_of}
 use Rattle.qz_http.specs.Judgements.{BeginsWith, IsUnfinished, Refuses, head_fault, most_bytes}
 use Rattle.qz_http.specs.Responses.{bare_response, reply_response}
 use Rattle.qz_http.specs.Routes.{Way, nowhere, ask, entry, way_of}
@@ -88,6 +88,10 @@ pub data Stays (finished : Bool) (bytes : List ℕ) : Item → Type 0 where
 abbrev pub Steps : Bool → List ℕ → Step → Type 0
 Steps finished bytes (step.Stays given) = Stays finished bytes given
 Steps finished bytes (step.Takes given rest at closing) = Takes bytes given rest.items at closing
+
+abbrev pub StepAsksAskable : Step → Type 0
+StepAsksAskable (step.Stays given) = AsksAskable given
+StepAsksAskable (step.Takes given rest at closing) = AsksAskable given
 
 -- the end that a request decides, of which so many more may come
 abbrev pub end_after : ℕ → Bool → Option LinkEnd

@@ -1,7 +1,8 @@
 //! One link: the bytes that are fed to it in any pieces, the requests that they ask, and the bytes that answer them.
 
 ghost use Rattle.std.specs.Prelude.{◌≡◌, ◌<◌, ◌^◌, false, true, length, IfOk, OnErr, OnOk};
-ghost use Rattle.qz_http.specs.Links.{Link, fed, new_link, waiting, route_by, end_after, Steps, Gives, written};
+ghost use Rattle.qz_http.specs.Items.{AsksAskable};
+ghost use Rattle.qz_http.specs.Links.{Link, fed, new_link, waiting, route_by, end_after, Steps, StepAsksAskable, Gives, written};
 ghost use Rattle.qz_http.specs.Routes.{way_of};
 
 use crate::heads::{Judgement, ROOM, judge};
@@ -57,7 +58,8 @@ pub enum Step {
 /// What is given while a request isn't whole.
 fn waiting(finished: bool, bytes: &[u8]) -> Item
     requires { length bytes.now < 2 ^ 32 }
-    ensures { result ≡ waiting finished bytes.now }
+    ensures value { result ≡ waiting finished bytes.now }
+    ensures asked { AsksAskable result }
 {
     if !finished {
         return Item::Need;
@@ -95,7 +97,8 @@ fn next_step(
     finished: bool,
 ) -> Result<Step, NoMemory>
     requires { length room.old ≡ ROOM }
-    ensures { IfOk result (Steps finished bytes.now) }
+    ensures steps { IfOk result (Steps finished bytes.now) }
+    ensures asked { IfOk result StepAsksAskable }
 {
     let head = match judge(bytes, room) {
         Judgement::More => return Ok(Step::Stays(waiting(finished, bytes))),
@@ -146,9 +149,11 @@ impl LinkCore {
         self.finished = true;
     }
 
-    /// What the bytes fed give next. After want of memory the link is as it was, and the same may be asked again.
+    /// What the bytes fed give next. An ask is by a token, its request is one that is read, and it has a key where it has to. After
+    /// want of memory the link is as it was, and the same may be asked again.
     pub fn next(&mut self, alloc: Global) -> Result<Item, NoMemory>
         ensures given { IfOk result (λ item. Gives self.old item self.new) }
+        ensures asked { IfOk result AsksAskable }
         ensures kept { OnErr result (self.new ≡ self.old) }
     {
         if let Some(end) = self.over {

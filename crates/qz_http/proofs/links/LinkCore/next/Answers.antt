@@ -16,7 +16,7 @@ returns-in-Stays-clause-given c =
     let self = c.self.inside in
     let link : Link = record { left = self.bytes.items; more = self.more; finished = self.finished; over = self.over; route = self.route } in
     subst (λ l. Gives l c.in-Stays.item link) c.self.view_is
-    (gives_stays link c.deref.result.now c.in_ok-item.field-0 c.in-Stays.item c.deref.ensures.value c.in_default.is c.in_ok-item.ensures c.in-Stays.is)
+    (gives_stays link c.deref.result.now c.in_ok-item.field-0 c.in-Stays.item c.deref.ensures.value c.in_default.is c.in_ok-item.ensures.steps c.in-Stays.is)
 
 pub returns-in-Takes-clause-given : goal.returns-in-Takes-clause-given
 returns-in-Takes-clause-given c =
@@ -25,4 +25,4 @@ returns-in-Takes-clause-given c =
     let link : Link = record { left = self.bytes.items; more = self.more; finished = self.finished; over = self.over; route = self.route } in
     let after : Link = record { left = taken.rest.items; more = c.saturating_sub-self-inside.result; finished = self.finished; over = c.end_after-self-inside.result; route = taken.route } in
     subst (λ l. Gives l taken.item after) c.self.view_is
-    (gives_takes link c.deref.result.now c.in_ok-item.field-0 taken.item taken.rest taken.route taken.closes _ _ c.deref.ensures.value c.in_default.is c.in_ok-item.ensures taken.is c.saturating_sub-self-inside.ensures c.end_after-self-inside.ensures)
+    (gives_takes link c.deref.result.now c.in_ok-item.field-0 taken.item taken.rest taken.route taken.closes _ _ c.deref.ensures.value c.in_default.is c.in_ok-item.ensures.steps taken.is c.saturating_sub-self-inside.ensures c.end_after-self-inside.ensures)
