@@ -8,3 +8,4 @@ pub mod AskedLemmas
 pub mod LinkLemmas
 pub mod PieceLemmas
 pub mod TalkLemmas
+pub mod UniqueLemmas

@@ -20,3 +20,9 @@ pub fn items_given_are_the_first_of_all()
     ensures { (after : Link) (bytes more : List ℕ) (items rest : List Item) (why : LinkEnd) → Serves new_link bytes items after
         → Talks (ended_link (fed after more)) rest why → Talk (bytes ++ more) (items ++ rest) why }
 {}
+
+/// Bytes say no two things: whatever the pieces in which they come, what a link gives to them is one list of items and one end.
+pub fn each_link_says_one_thing()
+    ensures { (bytes : List ℕ) (items others : List Item) (why other : LinkEnd) → Talk bytes items why → Talk bytes others other
+        → (items ≡ others) × (why ≡ other) }
+{}
