@@ -9,3 +9,4 @@ pub mod LinkLemmas
 pub mod PieceLemmas
 pub mod TalkLemmas
 pub mod UniqueLemmas
+pub mod EndLemmas

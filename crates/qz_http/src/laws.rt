@@ -21,7 +21,8 @@ pub fn items_given_are_the_first_of_all()
         → Talks (ended_link (fed after more)) rest why → Talk (bytes ++ more) (items ++ rest) why }
 {}
 
-/// Bytes say no two things: whatever the pieces in which they come, what a link gives to them is one list of items and one end.
+/// Bytes say no two things: all that a link gives to them, in whatever pieces they come, is one list of items and one end. That each list
+/// of bytes says something is the clause of `end_of`.
 pub fn each_link_says_one_thing()
     ensures { (bytes : List ℕ) (items others : List Item) (why other : LinkEnd) → Talk bytes items why → Talk bytes others other
         → (items ≡ others) × (why ≡ other) }
