@@ -6,27 +6,25 @@ ghost use Rattle.qz_turn.specs.Rule.{dealer, HasEvery};
 ghost use Rattle.qz_turn.specs.Steps.{IsReady, IsWaiting, Draws, Comes, CanSend, Went, MayEnd, Ends, Compares, dealing, dealt_to, noted, joining};
 
 use crate::rule::{About, Compare, Deal, Draw, InTurn, Look, Merge, Note, Serve};
+use crate::room::Room;
 use crate::told::{Errand, Told};
 use crate::view::View;
 use atomic_table::{Refused, Seat, Table};
+use crossbeam_utils::sync::EventCount;
 use std::alloc::{AllocFailed, Global};
 use std::hint::spin_loop;
 use std::snapshot::Snapshot;
 use std::sync::Wait;
-use std::sync::atomic::AtomicU32;
+use std::sync::atomic::AtomicU64;
 use std::sync::atomic::Ordering::SeqCst;
-use std::thread::yield_now;
 
 // The words: the next ticket, and the one that is served. The one slot has the value.
 const TICKET: usize = 0;
 
 const SERVED: usize = 1;
 
-// How often a waiting thread looks again before it sleeps, and how often it does so before it lets other threads run
-// between two looks.
-const LOOKS: u32 = 100;
-
-const QUICK_LOOKS: u32 = 20;
+// How often a thread that waits looks before it sleeps: for about a microsecond.
+const LOOKS: u32 = 20;
 
 // A seat at the table.
 pub type Place<T> = Seat<T, View<<T as Told>::Item, <T as Told>::Key>>;
@@ -35,8 +33,11 @@ pub type Place<T> = Seat<T, View<<T as Told>::Item, <T as Told>::Key>>;
 #[derive(Drop)]
 pub struct Board<T: Told> {
     table: Table<T, View<T::Item, T::Key>, About<T>, InTurn, Global>,
-    // How many threads sleep on the word `SERVED`, or are about to.
-    sleepers: AtomicU32,
+    // Where threads sleep that have a ticket, until the next one is served, and those that have none; and how many sleep
+    // there or are about to.
+    served: EventCount,
+    room: Room,
+    sleepers: AtomicU64,
     ghost sized: { (table.shared.table_id.words ≡ 2) × (table.shared.table_id.slots ≡ 1) },
 }
 
@@ -73,7 +74,9 @@ impl<T: Told> Board<T> {
             Ok((table, seat)) => Ok((
                 Board {
                     table,
-                    sleepers: AtomicU32::new(0),
+                    served: EventCount::new(),
+                    room: Room::new(),
+                    sleepers: AtomicU64::new(0),
                 },
                 seat,
             )),
@@ -97,23 +100,72 @@ impl<T: Told> Board<T> {
         self.table.shared.fetch_add::<Draw>(seat, TICKET, 1)
     }
 
+    // Whether no ticket is out.
+    fn is_free(&self) -> bool {
+        let served = self.table.shared.peek(SERVED);
+        self.table.shared.peek(TICKET) == served
+    }
+
+    // Looks a few times whether the lock is free, and waits in the room if it never is. Tells whether it was called.
+    fn await_call<R: Wait>(&self, rt: &R) -> bool {
+        for _ in 0..LOOKS {
+            if self.is_free() {
+                return false;
+            }
+            spin_loop();
+        }
+        self.sleepers.fetch_add(1, SeqCst);
+        let number = self.room.come();
+        // A turn that ended before that called nobody.
+        if self.is_free() {
+            self.room.call();
+        }
+        self.room.wait(rt, number);
+        self.sleepers.fetch_sub(1, SeqCst);
+        true
+    }
+
+    // Takes the next ticket once the lock is free, or this thread is called.
+    #[cold]
+    #[inline(never)]
+    fn draw_late<R: Wait>(&self, rt: &R, seat: &mut Place<T>) -> u64
+        requires own { seat.old.table_id ≡ self.now.table.shared.table_id }
+        requires ready { IsReady seat.old.me }
+        ensures own { seat.new.table_id ≡ seat.old.table_id }
+        ensures drawn { Draws seat.old.me result seat.new.me }
+    {
+        let is_called = self.await_call(rt);
+        let ticket = self.draw(seat);
+        if is_called {
+            self.room.tell_drawn();
+        }
+        ticket
+    }
+
     // Returns when another ticket than this one is served, or for no reason.
+    #[cold]
+    #[inline(never)]
     fn rest<R: Wait>(&self, rt: &R, served: u64) {
-        for look in 0..LOOKS {
+        for _ in 0..LOOKS {
             if self.table.shared.peek(SERVED) != served {
                 return;
             }
-            if look < QUICK_LOOKS {
-                spin_loop();
-            } else {
-                yield_now();
-            }
+            spin_loop();
         }
         self.sleepers.fetch_add(1, SeqCst);
-        self.table
-            .shared
-            .park(rt, SERVED, (served % (1 << 32)) as u32);
+        let sleep = self.served.prepare_wait();
+        if self.table.shared.peek(SERVED) == served {
+            sleep.wait(rt);
+        }
         self.sleepers.fetch_sub(1, SeqCst);
+    }
+
+    // Wakes those who have tickets, and calls one who has none.
+    #[cold]
+    #[inline(never)]
+    fn rouse(&self) {
+        self.served.notify_all();
+        self.room.call();
     }
 
     fn wait<R: Wait>(&self, rt: &R, seat: &mut Place<T>, ticket: u64)
@@ -139,7 +191,11 @@ impl<T: Told> Board<T> {
         ensures own { seat.new.table_id ≡ seat.old.table_id }
         ensures comes { Comes T.tells T.fits seat.old.me seat.new.me }
     {
-        let ticket = self.draw(seat);
+        let ticket = if self.is_free() {
+            self.draw(seat)
+        } else {
+            self.draw_late(rt, seat)
+        };
         self.wait(rt, seat, ticket);
     }
 
@@ -161,9 +217,9 @@ impl<T: Told> Board<T> {
         ensures ends { Ends T.tells seat.old.me seat.new.me }
     {
         self.table.shared.fetch_add::<Serve>(seat, SERVED, 1);
-        // Who isn't counted here finds the new number before it sleeps.
+        // Who isn't counted here looks once more before it sleeps.
         if self.sleepers.load(SeqCst) > 0 {
-            self.table.shared.wake_all(SERVED);
+            self.rouse();
         }
     }
 
@@ -222,7 +278,12 @@ impl<T: Told> Board<T> {
         ensures follows { Follows seat.me.0.seen (T.tells result) }
         ensures fits { T.fits self.table.shared.key.key.value result }
     {
-        let Board { table, sleepers: _ } = self;
+        let Board {
+            table,
+            served: _,
+            room: _,
+            sleepers: _,
+        } = self;
         let mut closed = table.close_with(seat);
         let value = closed.take(0);
         closed.free();

@@ -1,10 +1,11 @@
-//! A lock that threads take in turn, in the order in which they asked. The value behind it tells a list, which only
-//! grows. What one holder of a pass has seen of it is always a beginning of what it sees next, and of what any
+//! A lock that threads take in turn, in the order of the tickets that they draw. The value behind it tells a list, which
+//! only grows. What one holder of a pass has seen of it is always a beginning of what it sees next, and of what any
 //! other holder sees later: one history for everybody.
 #![tactic(auto)]
 
 mod board;
 mod pass;
+mod room;
 mod rule;
 mod told;
 mod turns;

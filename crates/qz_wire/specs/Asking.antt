@@ -27,7 +27,9 @@ attempt_verb_of word =
     else (if bytes_eq word (codes "live") then Some verb.Live
     else (if bytes_eq word (codes "view") then Some verb.View
     else (if bytes_eq word (codes "total") then Some verb.Total
-    else (if bytes_eq word (codes "grade") then Some verb.Grade else None))))))))))
+    else (if bytes_eq word (codes "page") then Some verb.Page
+    else (if bytes_eq word (codes "grade") then Some verb.Grade
+    else (if bytes_eq word (codes "report") then Some verb.Report else None))))))))))))
 
 -- all requests that are read so far
 abbrev pub verb_of : List ℕ → Option Verb
@@ -53,7 +55,9 @@ wants_key verb.Settle = false
 wants_key verb.Live = false
 wants_key verb.View = false
 wants_key verb.Total = false
+wants_key verb.Page = false
 wants_key verb.Grade = false
+wants_key verb.Report = false
 wants_key verb.Bank = false
 wants_key v = true
 
@@ -102,7 +106,9 @@ IsRead (request.Settle attempt) = Unit {0}
 IsRead (request.Live shard attempt) = Unit {0}
 IsRead (request.View attempt slot) = Unit {0}
 IsRead (request.Total attempt) = Unit {0}
+IsRead (request.Page attempt) = Unit {0}
 IsRead (request.Grade quiz owner) = Unit {0}
+IsRead (request.Report quiz) = Unit {0}
 IsRead (request.Bank entry version) = Unit {0}
 IsRead x = ⊥
 

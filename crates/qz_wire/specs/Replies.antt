@@ -17,9 +17,10 @@ use Rattle.qz_terms.specs.declared.reply.Reply.{Reply}
 use Rattle.qz_terms.specs.declared.reply.Reply.TheVariants as reply
 use Rattle.qz_terms.specs.declared.reply.Row.{Row}
 use Rattle.qz_terms.specs.declared.reply.Shown.{Shown}
-use Rattle.qz_terms.specs.declared.reply.Shown.TheVariants as shown
 use Rattle.qz_terms.specs.declared.reply.Status.{Status}
 use Rattle.qz_terms.specs.declared.reply.Status.TheVariants as status
+use Rattle.qz_pages.specs.Pages.{page_text}
+use Rattle.qz_pages.specs.Shown.{attempt_word, shown_words}
 use Rattle.qz_wire.specs.Escapes.{text_word}
 use Rattle.qz_wire.specs.Lines.{newline}
 
@@ -29,19 +30,9 @@ then_word front word = front ++ (codes " " ++ word)
 
 -- ---- values
 
--- a dash where there is none
-abbrev pub shown_words : {A : Type 0} → (A → List ℕ) → Shown A → List ℕ
-shown_words spelling shown.None = codes "-"
-shown_words spelling shown.Hidden = codes "hidden"
-shown_words spelling (shown.Value x) = spelling x
-
 abbrev pub moment_word : Option ℕ → List ℕ
 moment_word None = codes "-"
 moment_word (Some moment) = decimal moment
-
--- `USER.NTH`
-abbrev pub attempt_word : AttemptId → List ℕ
-attempt_word a = decimal a.user ++ (codes "." ++ decimal a.nth)
 
 abbrev pub attempt_or_dash : Option AttemptId → List ℕ
 attempt_or_dash None = codes "-"
@@ -90,7 +81,7 @@ row_word r = decimal r.user ++ (codes ":" ++ grade_or_dash r.grade)
 abbrev pub row_words : List Row → List ℕ
 row_words rows = flat_map (λ (r : Row). codes " " ++ row_word r) rows
 
--- the words behind the place; what a page shows isn't told by a line yet
+-- the words behind the place
 abbrev pub done_words : Done → List ℕ
 done_words (done.Made number) = then_word (codes "made") (decimal number)
 done_words done.Done = codes "done"
@@ -113,7 +104,7 @@ done_words (done.Live attempt) = then_word (codes "live") (attempt_or_dash attem
 done_words (done.Jobs count) = then_word (codes "jobs") (decimal count)
 done_words (done.SlotView state mark version steps) = then_word (then_word (standing_words (codes "slot") state mark) (decimal version)) (decimal steps)
 done_words (done.Attempt s total due) = then_word (then_word (then_word (codes "attempt") (status_word s)) (shown_words mark_text total)) (moment_word due)
-done_words (done.Page attempt quiz due parts) = codes "page"
+done_words (done.Page attempt quiz due parts) = then_word (codes "page") (text_word (page_text (done.Page attempt quiz due parts)))
 done_words (done.Grade grade) = then_word (codes "grade") (shown_words grade_text grade)
 done_words (done.Report rows) = codes "report" ++ row_words rows
 done_words (done.Gift question) = then_word (codes "gift") (text_word (canonical_question question))

@@ -195,11 +195,21 @@ total_of words = do
   attempt ← word_at attempt_of 5 words
   end_at 6 (request.Total attempt.0) attempt.1
 
+unfoldable pub page_of : List (List ℕ) → Result Request ℕ
+page_of words = do
+  attempt ← word_at attempt_of 5 words
+  end_at 6 (request.Page attempt.0) attempt.1
+
 unfoldable pub grade_of : List (List ℕ) → Result Request ℕ
 grade_of words = do
   quiz ← word_at number_of 5 words
   user ← word_at number_of 6 quiz.1
   end_at 7 (request.Grade quiz.0 user.0) user.1
+
+unfoldable pub report_of : List (List ℕ) → Result Request ℕ
+report_of words = do
+  quiz ← word_at number_of 5 words
+  end_at 6 (request.Report quiz.0) quiz.1
 
 -- ---- each command
 
@@ -227,5 +237,7 @@ request_of verb.Settle words = at_word (settle_of words)
 request_of verb.Live words = at_word (live_of words)
 request_of verb.View words = at_word (view_of words)
 request_of verb.Total words = at_word (total_of words)
+request_of verb.Page words = at_word (page_of words)
 request_of verb.Grade words = at_word (grade_of words)
+request_of verb.Report words = at_word (report_of words)
 request_of verb.Bank words = at_word (bank_of words)

@@ -9,7 +9,7 @@ ghost use Rattle.qz_wire.specs.Words.{words_of, words_after, moment_of, last_mom
 
 use crate::arguments::{malformed, token_at};
 use crate::attempt_requests::{
-    again, finish, grade, live, mark, save, settle, start, submit, total, view,
+    again, finish, grade, live, mark, page, report, save, settle, start, submit, total, view,
 };
 use crate::catalog_requests::{
     bank, edit, group, import, member, policy, quiz, ready, remax, set_otherwise, slot, times,
@@ -53,7 +53,9 @@ pub fn request(alloc: Global, verb: Verb, rest: &[u8]) -> Result<Request, Refusa
         Verb::Live => Ok(live(rest)?),
         Verb::View => Ok(view(rest)?),
         Verb::Total => Ok(total(rest)?),
+        Verb::Page => Ok(page(rest)?),
         Verb::Grade => Ok(grade(rest)?),
+        Verb::Report => Ok(report(rest)?),
         Verb::Bank => Ok(bank(rest)?),
     }
 }

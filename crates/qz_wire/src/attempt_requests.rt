@@ -1,8 +1,8 @@
-//! The requests about attempts.
+//! The requests about attempts and grades.
 
 ghost use Rattle.std.specs.Prelude.{IfOk};
 ghost use Rattle.qz_wire.specs.Asking.{IsOfVerb};
-ghost use Rattle.qz_wire.specs.Requests.{start_of, save_of, submit_of, again_of, finish_of, mark_request_of, settle_of, live_of, view_of, total_of, grade_of};
+ghost use Rattle.qz_wire.specs.Requests.{start_of, save_of, submit_of, again_of, finish_of, mark_request_of, settle_of, live_of, view_of, total_of, page_of, grade_of, report_of};
 ghost use Rattle.qz_wire.specs.Words.{words_after, Reads};
 ghost use Rattle.qz_wire.specs.declared.verbs.Verb.{Verb};
 
@@ -138,6 +138,16 @@ pub fn total(mut rest: &[u8]) -> Result<Request, WordFault>
     Ok(Request::Total { attempt })
 }
 
+#[tactic(auto, unfolding(crate::specs::Requests::page_of))]
+pub fn page(mut rest: &[u8]) -> Result<Request, WordFault>
+    ensures value { Reads (λ x. x) result (page_of (words_after rest.now)) }
+    ensures verb { IfOk result (IsOfVerb Verb.Page) }
+{
+    let attempt = attempt_at(&mut rest, 5)?;
+    end(rest, 6)?;
+    Ok(Request::Page { attempt })
+}
+
 #[tactic(auto, unfolding(crate::specs::Requests::grade_of))]
 pub fn grade(mut rest: &[u8]) -> Result<Request, WordFault>
     ensures value { Reads (λ x. x) result (grade_of (words_after rest.now)) }
@@ -147,4 +157,14 @@ pub fn grade(mut rest: &[u8]) -> Result<Request, WordFault>
     let user = number_at(&mut rest, 6)?;
     end(rest, 7)?;
     Ok(Request::Grade { quiz, user })
+}
+
+#[tactic(auto, unfolding(crate::specs::Requests::report_of))]
+pub fn report(mut rest: &[u8]) -> Result<Request, WordFault>
+    ensures value { Reads (λ x. x) result (report_of (words_after rest.now)) }
+    ensures verb { IfOk result (IsOfVerb Verb.Report) }
+{
+    let quiz = number_at(&mut rest, 5)?;
+    end(rest, 6)?;
+    Ok(Request::Report { quiz })
 }

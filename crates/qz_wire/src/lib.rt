@@ -20,8 +20,7 @@ pub use bank_words::{behaviour_in, only_question, penalty_in};
 pub use escapes::{text_in, text_word_onto};
 pub use lines::{after, number, split_line};
 pub use replies::{
-    attempt_onto, grade_onto, how_word, line_of, mark_onto, moment_onto, refused_onto, row_onto,
-    status_word, thing_number,
+    grade_onto, how_word, line_of, moment_onto, refused_onto, row_onto, status_word, thing_number,
 };
 pub use verbs::{Verb, takes_key, verb_in};
 pub use words::{WordFault, cut, first_word, next_word, token_in};

@@ -1,29 +1,21 @@
 //! The lines that a script says of replies.
 
-ghost use Rattle.std.specs.Prelude.{◌≡◌, ◌++◌, IfOk, OnOk, decimal, string_bytes};
-ghost use Rattle.qz_grading.specs.Words.{grade_text, mark_text};
+ghost use Rattle.std.specs.Prelude.{◌≡◌, ◌++◌, IfOk, IsTrue, OnOk, codes, decimal, string_bytes};
+ghost use Rattle.qz_grading.specs.Words.{grade_text};
 ghost use Rattle.qz_grading.specs.Canonical.{canonical_question};
+ghost use Rattle.qz_pages.specs.Pages.{is_page, page_text};
+ghost use Rattle.qz_pages.specs.Shown.{attempt_word, shown_words};
 ghost use Rattle.qz_wire.specs.Escapes.{text_word};
-ghost use Rattle.qz_wire.specs.Replies.{shown_words, moment_word, attempt_word, attempt_or_dash, grade_or_dash, shape_words, thing_number, slot_words, standing_words, then_word, how_word, status_word, row_word, row_words, done_words, refused_words, reply_words, reply_line};
+ghost use Rattle.qz_wire.specs.Replies.{moment_word, attempt_or_dash, grade_or_dash, shape_words, thing_number, slot_words, standing_words, then_word, how_word, status_word, row_word, row_words, done_words, refused_words, reply_words, reply_line};
 
 use crate::escapes::text_word_onto;
 use gift_write::question_onto;
 use qz_decimal::{Grade, Mark};
 use qz_grading::{AttemptId, Question, Refusal, Shape, Spelled, State, Thing};
+use qz_pages::{attempt_onto, mark_onto, page};
 use qz_terms::{Done, How, Reply, Row, Shown, Status};
 use qz_text::{NoMemory, Text};
 use std::alloc::Global;
-
-/// A mark, a dash where there is none, or `hidden`.
-pub fn mark_onto(out: &mut String, mark: Shown<Mark>) -> Result<(), NoMemory>
-    ensures { OnOk result (string_bytes out.new ≡ string_bytes out.old ++ shown_words mark_text mark) }
-{
-    match mark {
-        Shown::None => Ok(out.push_str("-")?),
-        Shown::Hidden => Ok(out.push_str("hidden")?),
-        Shown::Value(mark) => mark.spell_onto(out),
-    }
-}
 
 /// A grade, a dash where there is none, or `hidden`.
 pub fn grade_onto(out: &mut String, grade: Shown<Grade>) -> Result<(), NoMemory>
@@ -44,16 +36,6 @@ pub fn moment_onto(out: &mut String, moment: Option<u64>) -> Result<(), NoMemory
         None => out.push_str("-")?,
         Some(moment) => write!(out, "{moment}")?,
     }
-    Ok(())
-}
-
-/// An attempt as `USER.NTH`.
-pub fn attempt_onto(out: &mut String, attempt: AttemptId) -> Result<(), NoMemory>
-    ensures { OnOk result (string_bytes out.new ≡ string_bytes out.old ++ attempt_word attempt) }
-{
-    let user = attempt.user;
-    let nth = attempt.nth;
-    write!(out, "{user}.{nth}")?;
     Ok(())
 }
 
@@ -254,6 +236,17 @@ fn attempt_view_onto(
     moment_onto(out, due)
 }
 
+/// A page as one word.
+fn page_onto(out: &mut String, done: &Done) -> Result<(), NoMemory>
+    requires { IsTrue (is_page done.now) }
+    ensures { OnOk result (string_bytes out.new
+        ≡ string_bytes out.old ++ then_word (codes "page") (text_word (page_text done.now))) }
+{
+    out.push_str("page ")?;
+    let page = page(*out.allocator(), done)?;
+    text_word_onto(out, page.as_str())
+}
+
 // ---- replies about a quiz
 
 /// A row as `USER:GRADE`.
@@ -329,8 +322,7 @@ fn done_onto(out: &mut String, done: &Done) -> Result<(), NoMemory>
             steps,
         } => slot_view_onto(out, *state, *mark, *version, *steps),
         Done::Attempt { status, total, due } => attempt_view_onto(out, *status, *total, *due),
-        // What a page shows isn't told by a line yet: its word stands alone.
-        Done::Page { .. } => Ok(out.push_str("page")?),
+        Done::Page { .. } => page_onto(out, done),
         Done::Grade { grade } => {
             out.push_str("grade ")?;
             grade_onto(out, *grade)

@@ -31,7 +31,9 @@ pub enum Verb {
     Live,
     View,
     Total,
+    Page,
     Grade,
+    Report,
     Bank,
 }
 
@@ -96,8 +98,12 @@ fn attempt_verb_in(word: &[u8]) -> Option<Verb>
         Some(Verb::View)
     } else if word == b"total".as_slice() {
         Some(Verb::Total)
+    } else if word == b"page".as_slice() {
+        Some(Verb::Page)
     } else if word == b"grade".as_slice() {
         Some(Verb::Grade)
+    } else if word == b"report".as_slice() {
+        Some(Verb::Report)
     } else {
         None
     }
@@ -108,8 +114,14 @@ pub fn takes_key(verb: Verb, key: &Option<Text>) -> bool
     ensures { result ≡ takes_key verb key.now }
 {
     match verb {
-        Verb::Settle | Verb::Live | Verb::View | Verb::Total | Verb::Grade | Verb::Bank =>
-            key.is_none(),
+        Verb::Settle
+        | Verb::Live
+        | Verb::View
+        | Verb::Total
+        | Verb::Page
+        | Verb::Grade
+        | Verb::Report
+        | Verb::Bank => key.is_none(),
         Verb::User
         | Verb::Group
         | Verb::Member
