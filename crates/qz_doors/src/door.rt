@@ -4,6 +4,7 @@ ghost use Rattle.std.specs.Prelude.{◌≡◌, ◌+◌, ◌-◌, ◌^◌, ◌<�
 ghost use Rattle.qz_outside.specs.Causes.{HasRisen};
 ghost use Rattle.qz_terms.specs.declared.ask.Ask.{Ask};
 ghost use Rattle.qz_terms.specs.Kept.{is_moment};
+ghost use Rattle.qz_http.specs.Items.{IsAskable};
 ghost use Rattle.qz_doors.specs.Answers.{Asks};
 ghost use Rattle.qz_doors.specs.Doors.{ServesDoor, ServesNext, TakesNoLink, is_short, shorter};
 
@@ -34,7 +35,7 @@ pub fn serve_door<D: Desk, R: Door, C: Clock>(
     clock: &mut C,
     links: u64,
 ) -> DoorEnd
-    requires takes { (moment : ℕ) (ask : Ask) → is_moment moment ≡ true → D.takes moment ask }
+    requires takes { (moment : ℕ) (ask : Ask) → is_moment moment ≡ true → IsAskable ask → D.takes moment ask }
     ensures serves { ServesDoor (Asks C.tells D.answers)
         (λ link. record { left = R.Link.left link; holds = R.Link.holds link; faults = R.Link.faults link })
         links
@@ -84,7 +85,7 @@ fn serve_next<D: Desk, R: Door, C: Clock>(
     door: &mut R,
     clock: &mut C,
 ) -> Result<Option<LinkEnd>, Failed>
-    requires takes { (moment : ℕ) (ask : Ask) → is_moment moment ≡ true → D.takes moment ask }
+    requires takes { (moment : ℕ) (ask : Ask) → is_moment moment ≡ true → IsAskable ask → D.takes moment ask }
     ensures { MatchResult result
         (λ ended. MatchOption ended
         (TakesNoLink (record { left = R.left door.old; returned = R.returned door.old; returns = R.returns door.old; out = R.out door.old; faults = R.faults door.old })

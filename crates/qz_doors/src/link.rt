@@ -4,6 +4,7 @@ ghost use Rattle.std.specs.Prelude.{◌≡◌, ◌<◌, ℕ, false, true, length
 ghost use Rattle.qz_terms.specs.declared.ask.Ask.{Ask};
 ghost use Rattle.qz_terms.specs.Kept.{is_moment};
 ghost use Rattle.qz_http.specs.declared.items.Item.TheVariants as items;
+ghost use Rattle.qz_http.specs.Items.{AsksAskable, IsAskable};
 ghost use Rattle.qz_http.specs.Links.{new_link};
 ghost use Rattle.qz_doors.specs.Answers.{Asks, RepliesTo};
 ghost use Rattle.qz_doors.specs.Links.{LinkEnds, has_response};
@@ -35,7 +36,7 @@ pub fn serve_link<D: Desk, L: Link, C: Clock>(
     link: &mut L,
     clock: &mut C,
 ) -> LinkEnd
-    requires takes { (moment : ℕ) (ask : Ask) → is_moment moment ≡ true → D.takes moment ask }
+    requires takes { (moment : ℕ) (ask : Ask) → is_moment moment ≡ true → IsAskable ask → D.takes moment ask }
     ensures ends { LinkEnds (Asks C.tells D.answers)
         (record { left = L.left link.old; holds = L.holds link.old; faults = L.faults link.old })
         (record { left = L.left link.new; holds = L.holds link.new; faults = L.faults link.new })
@@ -55,7 +56,7 @@ fn serve_or_halt<D: Desk, L: Link, C: Clock>(
     link: &mut L,
     clock: &mut C,
 ) -> Result<LinkEnd, Halt>
-    requires takes { (moment : ℕ) (ask : Ask) → is_moment moment ≡ true → D.takes moment ask }
+    requires takes { (moment : ℕ) (ask : Ask) → is_moment moment ≡ true → IsAskable ask → D.takes moment ask }
     ensures { let ends = LinkEnds (Asks C.tells D.answers)
         (record { left = L.left link.old; holds = L.holds link.old; faults = L.faults link.old })
         (record { left = L.left link.new; holds = L.holds link.new; faults = L.faults link.new })
@@ -81,7 +82,7 @@ fn serve_through<D: Desk, L: Link, C: Clock>(
     core: &mut LinkCore,
     room: &mut [u8],
 ) -> Result<LinkEnd, Halt>
-    requires takes { (moment : ℕ) (ask : Ask) → is_moment moment ≡ true → D.takes moment ask }
+    requires takes { (moment : ℕ) (ask : Ask) → is_moment moment ≡ true → IsAskable ask → D.takes moment ask }
     requires fresh { core.old ≡ new_link }
     requires room { 0 < length room.old }
     ensures { let ends = LinkEnds (Asks C.tells D.answers)
@@ -110,7 +111,7 @@ fn step<D: Desk, L: Link, C: Clock>(
     core: &mut LinkCore,
     room: &mut [u8],
 ) -> Result<Option<LinkEnd>, Halt>
-    requires takes { (moment : ℕ) (ask : Ask) → is_moment moment ≡ true → D.takes moment ask }
+    requires takes { (moment : ℕ) (ask : Ask) → is_moment moment ≡ true → IsAskable ask → D.takes moment ask }
     requires room { 0 < length room.old }
     ensures { MatchResult result
         (λ ended. MatchOption ended (StepsOn (Asks C.tells D.answers)
@@ -159,7 +160,8 @@ fn act<D: Desk, L: Link, C: Clock>(
     room: &mut [u8],
     item: &Item,
 ) -> Result<Option<LinkEnd>, Halt>
-    requires takes { (moment : ℕ) (ask : Ask) → is_moment moment ≡ true → D.takes moment ask }
+    requires takes { (moment : ℕ) (ask : Ask) → is_moment moment ≡ true → IsAskable ask → D.takes moment ask }
+    requires asked { AsksAskable item.now }
     requires unfinished { item.now ≡ items.Need → core.old.finished ≡ false }
     requires room { 0 < length room.old }
     ensures { MatchResult result
@@ -231,7 +233,8 @@ fn answer<D: Desk, L: Link, C: Clock>(
     core: &LinkCore,
     item: &Item,
 ) -> Result<(), Halt>
-    requires takes { (moment : ℕ) (ask : Ask) → is_moment moment ≡ true → D.takes moment ask }
+    requires takes { (moment : ℕ) (ask : Ask) → is_moment moment ≡ true → IsAskable ask → D.takes moment ask }
+    requires asked { AsksAskable item.now }
     ensures { MatchResult result
         (λ _. AnswersItem (Asks C.tells D.answers)
         (record { left = L.left link.old; holds = L.holds link.old; faults = L.faults link.old })
@@ -258,7 +261,8 @@ fn answer<D: Desk, L: Link, C: Clock>(
 
 /// The reply to an item. Where it has none, nobody looks at what is answered here.
 fn reply_to<D: Desk, C: Clock>(alloc: Global, desk: &mut D, clock: &mut C, item: &Item) -> Reply
-    requires takes { (moment : ℕ) (ask : Ask) → is_moment moment ≡ true → D.takes moment ask }
+    requires takes { (moment : ℕ) (ask : Ask) → is_moment moment ≡ true → IsAskable ask → D.takes moment ask }
+    requires asked { AsksAskable item.now }
     ensures { RepliesTo (Asks C.tells D.answers) item.now
         (record { lists = D.lists desk.old; clock = clock.old })
         (record { lists = D.lists desk.new; clock = clock.new })
