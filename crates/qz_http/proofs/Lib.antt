@@ -4,6 +4,9 @@ pub mod HeadLemmas
 pub mod SizeLemmas
 pub mod ResponseLemmas
 pub mod RouteLemmas
+pub mod AskedLemmas
 pub mod LinkLemmas
 pub mod PieceLemmas
 pub mod TalkLemmas
+pub mod UniqueLemmas
+pub mod EndLemmas

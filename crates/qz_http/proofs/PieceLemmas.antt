@@ -48,7 +48,7 @@ refuses-append bytes more _ (hopeless is) =
 refuses-append bytes more _ (too_long long is) = too_long (omega (arith, long, length-append bytes more)) (unfinished-append bytes more long is)
 refuses-append bytes more status (at_fault _ h begins fault) = at_fault status h (begins-append bytes more h begins) fault
 
-head_within : (bytes : List ℕ) (h : RequestHead) → BeginsWith bytes h → head_length h ≤ length bytes
+pub head_within : (bytes : List ℕ) (h : RequestHead) → BeginsWith bytes h → head_length h ≤ length bytes
 head_within bytes h begins =
     let is : length (take 8192 bytes) ≡ length (print_request h ++ begins.0) = ap length begins.1.1 in
     omega (arith, is, length-append (print_request h) begins.0, length-take 8192 bytes)

@@ -10,12 +10,13 @@ use Rattle.qz_http.specs.Routes.{Way, ask, entry, nowhere, way_of}
 use Rattle.qz_http.specs.declared.items.Item.{Item}
 use Rattle.qz_http.specs.declared.items.Item.TheVariants as item
 use Rattle.qz_http.specs.declared.items.LinkEnd.{LinkEnd}
+use Rattle.qz_http.specs.declared.responses.Route.{Route}
 use Rattle.qz_http.specs.Heads.{authorization_of, fields_of}
-use Rattle.qz_http.specs.Links.{Gives, behind, body_length, Link, Stays, awaiting, ended, fed, refused, stays, takes, waiting}
+use Rattle.qz_http.specs.Links.{Gives, behind, body_length, Link, Stays, Takes, awaiting, ended, fed, refused, stays, takes, waiting}
 use Rattle.qz_http.specs.Talk.{Serves, Talks, ended_link, feeds, gives, is_request, needs, request, rests}
 use Rattle.qz_http.proofs.PieceLemmas.{gives-append}
 
-no_need : (given : Item) → is_request given ≡ true → given ≡ item.Need → ⊥
+pub no_need : (given : Item) → is_request given ≡ true → given ≡ item.Need → ⊥
 no_need given asks is = false≢true (sym (ap is_request is) ∙ asks)
 
 stays_at_end : (finished : Bool) (bytes : List ℕ) (given : Item) → finished ≡ false → (given ≡ item.Need → ⊥) → Stays finished bytes given → Stays true bytes given
@@ -23,38 +24,39 @@ stays_at_end finished bytes _ unended decided (awaiting awaits) = absurd (decide
 stays_at_end finished bytes _ unended decided (refused status is) = refused status is
 
 -- nor does it matter that the bytes have ended
-gives_at_end : (link after : Link) (given : Item) → link.finished ≡ false → (given ≡ item.Need → ⊥) → Gives link given after → Gives (ended_link link) given (ended_link after)
+pub gives_at_end : (link after : Link) (given : Item) → link.finished ≡ false → (given ≡ item.Need → ⊥) → Gives link given after → Gives (ended_link link) given (ended_link after)
 gives_at_end link _ _ unended decided (ended why is) = ended why is
 gives_at_end link _ given unended decided (stays _ none is) = stays given none (stays_at_end link.finished link.left given unended decided is)
 gives_at_end link _ given unended decided (takes _ rest at closing none is) = takes given rest at closing none is
 
-goes_on : (link after : Link) (given : Item) → Gives link given after → link.finished ≡ false → after.finished ≡ false
+pub goes_on : (link after : Link) (given : Item) → Gives link given after → link.finished ≡ false → after.finished ≡ false
 goes_on link _ _ (ended why is) unended = unended
 goes_on link _ _ (stays given none is) unended = unended
 goes_on link _ _ (takes given rest at closing none is) unended = unended
 
-item_by_asks : (token : Option (List ℕ)) (r : Result Ask Fault) → item_by token r ≡ item.Need → ⊥
-item_by_asks token (Err fault) is = absurd cc
-item_by_asks None (Ok asked) is = absurd cc
-item_by_asks (Some token) (Ok asked) is = absurd cc
+item_by_requests : (token : Option (List ℕ)) (r : Result Ask Fault) → is_request (item_by token r) ≡ true
+item_by_requests token (Err fault) = refl
+item_by_requests None (Ok asked) = refl
+item_by_requests (Some token) (Ok asked) = refl
 
-either_asks : (b : Bool) (x y : Item) → (x ≡ item.Need → ⊥) → (y ≡ item.Need → ⊥) → ◌≡◌ {A = Item} (if b then x else y) item.Need → ⊥
-either_asks true x y first second is = first is
-either_asks false x y first second is = second is
+either_requests : (b : Bool) (x y : Item) → is_request x ≡ true → is_request y ≡ true → is_request (if b then x else y) ≡ true
+either_requests true x y first second = first
+either_requests false x y first second = second
 
-bare_asks : (status : ℕ) → item.Bare status ≡ item.Need → ⊥
-bare_asks status is = absurd cc
+item_requests : (way : Way) (method : List ℕ) (token : Option (List ℕ)) (body : List ℕ) → is_request (item_at way method token body) ≡ true
+item_requests nowhere method token body = refl
+item_requests ask method token body = either_requests (bytes_eq method (codes "POST")) _ _ (item_by_requests token (ask_of_body (caller_of token) body)) refl
+item_requests (entry first second) method token body = either_requests (bytes_eq method (codes "GET")) _ _ (item_by_requests token (ask_of_entry (caller_of token) first second)) refl
 
-item_asks : (way : Way) (method : List ℕ) (token : Option (List ℕ)) (body : List ℕ) → item_at way method token body ≡ item.Need → ⊥
-item_asks nowhere method token body is = bare_asks 404 is
-item_asks ask method token body is = either_asks (bytes_eq method (codes "POST")) _ _ (item_by_asks token (ask_of_body (caller_of token) body)) (bare_asks 405) is
-item_asks (entry first second) method token body is = either_asks (bytes_eq method (codes "GET")) _ _ (item_by_asks token (ask_of_entry (caller_of token) first second)) (bare_asks 405) is
+-- what is taken is a request
+pub taken_requests : (bytes rest : List ℕ) (given : Item) (at : Route) (closing : Bool) → Takes bytes given rest at closing → is_request given ≡ true
+taken_requests bytes rest given at closing t =
+    ap is_request t.given_is ∙ item_requests (way_of t.read.target) t.read.method (token_in (authorization_of (fields_of t.read))) (take (body_length t.read) (behind t.read bytes))
 
-same_at_need : (link after : Link) (given : Item) → given ≡ item.Need → Gives link given after → link ≡ after
+pub same_at_need : (link after : Link) (given : Item) → given ≡ item.Need → Gives link given after → link ≡ after
 same_at_need link _ _ need (ended why is) = refl
 same_at_need link _ _ need (stays given none is) = refl
-same_at_need link _ _ need (takes given rest at closing none is) =
-    absurd (item_asks (way_of is.read.target) is.read.method (token_in (authorization_of (fields_of is.read))) (take (body_length is.read) (behind is.read link.left)) (sym is.given_is ∙ need))
+same_at_need link _ _ need (takes given rest at closing none is) = absurd (no_need given (taken_requests link.left rest given at closing is) need)
 
 pub served : (link after : Link) (bytes : List ℕ) (items : List Item) → Serves link bytes items after → link.finished ≡ false
     → (more : List ℕ) (rest : List Item) (why : LinkEnd) → Talks (ended_link (fed after more)) rest why → Talks (ended_link (fed link (bytes ++ more))) (items ++ rest) why

@@ -1,15 +1,18 @@
 -- What one request asks.
-use Rattle.std.specs.Prelude.{ℕ, List, Option, Some, None, option_and_then, Result, Ok, Err, bytes_eq, if◌then◌else◌, codes}
+use Rattle.std.specs.Prelude.{ℕ, ◌≡◌, true, List, Option, Some, None, option_and_then, Result, Ok, Err, bytes_eq, if◌then◌else◌, codes}
 use Rattle.qz_grading.specs.declared.refusal.Refusal.TheVariants as refusal
 use Rattle.qz_terms.specs.declared.ask.Ask.{Ask}
 use Rattle.qz_terms.specs.declared.people.Caller.{Caller}
 use Rattle.qz_terms.specs.declared.people.Caller.TheVariants as caller
 use Rattle.qz_terms.specs.declared.request.Request.TheVariants as request
+use Rattle.qz_terms.specs.Cause.{is_keyed}
+use Rattle.qz_terms.specs.Kept.{KeepsAsked, asks_described}
+use Rattle.qz_wire.specs.Asking.{HasToken, IsRead}
 use Rattle.qz_wire.specs.Faults.{Fault, at_word}
 use Rattle.qz_wire.specs.Lines.{after}
 use Rattle.qz_wire.specs.Numbered.{◌>>=◌, or_line as or_word}
 use Rattle.qz_wire.specs.Words.{number_of, token_of}
-use Rattle.qz_json.specs.Bodies.{ask_of_body}
+use Rattle.qz_json.specs.Bodies.{CanBeAsked, ask_of_body}
 use Rattle.httparse.specs.Grammar.{RequestHead}
 use Rattle.qz_http.specs.declared.items.Item.{Item}
 use Rattle.qz_http.specs.declared.items.Item.TheVariants as item
@@ -49,3 +52,28 @@ item_at (entry first second) method token body =
 -- what a head and a body ask
 abbrev pub item_of : RequestHead → List ℕ → Item
 item_of h body = item_at (way_of h.target) h.method (token_in (authorization_of (fields_of h))) body
+
+-- ---- what can be asked
+
+-- by a token, a request that is read, which has a key where it has to, and all is in range
+pub record IsAskable (ask : Ask) : Type 0 where
+  pub token : HasToken ask.caller
+  pub read : IsRead ask.request
+  pub keyed : is_keyed ask ≡ true
+  pub kept : KeepsAsked ask.request
+  pub described : asks_described ask.request ≡ true
+
+-- an ask that is given can be asked
+abbrev pub AsksAskable : Item → Type 0
+AsksAskable (item.Ask asked) = IsAskable asked
+AsksAskable (item.Refused refusal) = Unit {0}
+AsksAskable (item.Bare status) = Unit {0}
+AsksAskable (item.Over why) = Unit {0}
+AsksAskable item.Need = Unit {0}
+
+-- ---- what a reader of the code answers
+
+-- it can be asked by whom a head names
+pub record IsAskedBy (token : Option (List ℕ)) (ask : Ask) : Type 0 where
+  pub by : ask.caller ≡ caller_of token
+  pub asked : CanBeAsked ask

@@ -6,4 +6,5 @@ pub mod Responses
 pub mod Routes
 pub mod Items
 pub mod Links
+pub mod Fronts
 pub mod Talk

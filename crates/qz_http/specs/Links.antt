@@ -11,7 +11,7 @@ use Rattle.qz_http.specs.declared.links.Step.TheVariants as step
 use Rattle.qz_http.specs.declared.responses.Route.{Route}
 use Rattle.qz_http.specs.declared.responses.Route.TheVariants as route
 use Rattle.qz_http.specs.Heads.{body_of, closes, fields_of}
-use Rattle.qz_http.specs.Items.{item_of}
+use Rattle.qz_http.specs.Items.{AsksAskable, item_of}
 use Rattle.qz_http.specs.Judgements.{BeginsWith, IsUnfinished, Refuses, head_fault, most_bytes}
 use Rattle.qz_http.specs.Responses.{bare_response, reply_response}
 use Rattle.qz_http.specs.Routes.{Way, nowhere, ask, entry, way_of}
@@ -64,11 +64,15 @@ route_by (entry first second) = route.Entry
 
 -- ---- steps
 
+-- the bytes ended, and these are no whole request
+abbrev pub cut_end : List ℕ → LinkEnd
+cut_end [] = end.End
+cut_end (b ∷ bytes) = end.Cut (length (b ∷ bytes))
+
 -- while a request isn't whole
 abbrev pub waiting : Bool → List ℕ → Item
 waiting false left = item.Need
-waiting true [] = item.Over end.End
-waiting true (b ∷ bytes) = item.Over (end.Cut (length (b ∷ bytes)))
+waiting true left = item.Over (cut_end left)
 
 -- a whole request is taken from the front
 pub record Takes (bytes : List ℕ) (given : Item) (rest : List ℕ) (at : Route) (closing : Bool) : Type 0 where
@@ -87,7 +91,11 @@ pub data Stays (finished : Bool) (bytes : List ℕ) : Item → Type 0 where
 
 abbrev pub Steps : Bool → List ℕ → Step → Type 0
 Steps finished bytes (step.Stays given) = Stays finished bytes given
-Steps finished bytes (step.Takes given rest at closing) = Takes bytes given rest.items at closing
+Steps finished bytes (step.Takes given len at closing) = (len ≤ length bytes) × Takes bytes given (drop len bytes) at closing
+
+abbrev pub StepAsksAskable : Step → Type 0
+StepAsksAskable (step.Stays given) = AsksAskable given
+StepAsksAskable (step.Takes given len at closing) = AsksAskable given
 
 -- the end that a request decides, of which so many more may come
 abbrev pub end_after : ℕ → Bool → Option LinkEnd

@@ -1,8 +1,9 @@
 -- What the bytes of a link say: the items of their requests, one after the other, and the end of the link.
-use Rattle.std.specs.Prelude.{ℕ, ◌≡◌, Bool, true, false, List, [], ◌∷◌, ◌++◌}
+use Rattle.std.specs.Prelude.{ℕ, ◌≡◌, Bool, true, false, None, List, [], ◌∷◌, ◌++◌}
 use Rattle.qz_http.specs.declared.items.Item.{Item}
 use Rattle.qz_http.specs.declared.items.Item.TheVariants as item
 use Rattle.qz_http.specs.declared.items.LinkEnd.{LinkEnd}
+use Rattle.qz_http.specs.declared.responses.Route.{Route}
 use Rattle.qz_http.specs.Links.{Gives, Link, fed, new_link}
 
 -- neither the end nor a wish for more bytes
@@ -26,6 +27,10 @@ pub data Talks : Link → List Item → LinkEnd → Type 0 where
 -- the items and the end of these bytes, with nothing behind them
 abbrev pub Talk : List ℕ → List Item → LinkEnd → Type 0
 Talk bytes items why = Talks (ended_link (fed new_link bytes)) items why
+
+-- with these bytes left and none to come, of which so many requests may be answered, a link ends so
+pub record EndsSo (bytes : List ℕ) (more : ℕ) (why : LinkEnd) : Type 0 where
+  pub so : (at : Route) → (items : List Item) × Talks (record { left = bytes; more = more; finished = true; over = None; route = at }) items why
 
 -- ---- a link that is served
 

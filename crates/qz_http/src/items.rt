@@ -7,7 +7,8 @@ ghost use Rattle.qz_wire.specs.Faults.{Fault, ReadsOr, at_word};
 ghost use Rattle.qz_wire.specs.Numbered.{or_line as or_word};
 ghost use Rattle.qz_wire.specs.Words.{number_of};
 ghost use Rattle.qz_http.specs.Judgements.{IsHead};
-ghost use Rattle.qz_http.specs.Items.{token_in, caller_of, item_by, ask_of_entry, item_at, item_of};
+ghost use Rattle.qz_json.specs.Bodies.{ask_of_body};
+ghost use Rattle.qz_http.specs.Items.{token_in, caller_of, item_by, ask_of_entry, item_at, item_of, AsksAskable, IsAskedBy};
 ghost use Rattle.qz_http.specs.Routes.{IsPath, Way};
 
 use crate::heads::Head;
@@ -74,8 +75,9 @@ fn caller_of(alloc: Global, token: Option<&str>) -> Result<Caller, NoMemory>
 }
 
 fn item_by(token: Option<&str>, reading: Result<Ask, Refusal>) -> Result<Item, NoMemory>
-    ensures { (r : Result Ask Fault) → ReadsOr (λ x. x) reading r
+    ensures value { (r : Result Ask Fault) → ReadsOr (λ x. x) reading r
         → IfOk result (λ item. item ≡ item_by (option_copied token.entry) r) }
+    ensures asked { IfOk reading (IsAskedBy (option_copied token.entry)) → IfOk result AsksAskable }
 {
     match reading {
         Err(Refusal::Malformed { place, rule }) => Ok(Item::Refused(Refusal::Malformed {
@@ -97,10 +99,26 @@ fn parameter(word: &[u8], place: u32) -> Result<u32, Refusal>
     number(word, 0, u32::MAX).ok_or(Refusal::Malformed { place, rule: 0 })
 }
 
-#[tactic(auto, unfolding(crate::specs::Items::ask_of_entry))]
-fn ask_of_entry(caller: Caller, entry: &[u8], version: &[u8]) -> Result<Ask, Refusal>
-    ensures { ReadsOr (λ x. x) result (ask_of_entry caller entry.now version.now) }
+fn ask_of_body(alloc: Global, token: Option<&str>, body: &[u8]) -> Result<Ask, Refusal>
+    ensures value { ReadsOr (λ x. x) result (ask_of_body (caller_of (option_copied token.entry)) body.now) }
+    ensures asked { IfOk result (IsAskedBy (option_copied token.entry)) }
 {
+    let caller = caller_of(alloc, token)?;
+    ask_of_json(alloc, caller, body)
+}
+
+#[tactic(auto, unfolding(crate::specs::Items::ask_of_entry))]
+fn ask_of_entry(
+    alloc: Global,
+    token: Option<&str>,
+    entry: &[u8],
+    version: &[u8],
+) -> Result<Ask, Refusal>
+    ensures value { ReadsOr (λ x. x) result
+        (ask_of_entry (caller_of (option_copied token.entry)) entry.now version.now) }
+    ensures asked { IfOk result (IsAskedBy (option_copied token.entry)) }
+{
+    let caller = caller_of(alloc, token)?;
     let entry = parameter(entry, 5)?;
     let version = parameter(version, 6)?;
     Ok(Ask {
@@ -117,20 +135,19 @@ fn item_at(
     token: Option<&str>,
     body: &[u8],
 ) -> Result<Item, NoMemory>
-    ensures { (way : Way) → IsPath way path.entry
+    ensures value { (way : Way) → IsPath way path.entry
         → IfOk result (λ item. item ≡ item_at way method.now (option_copied token.entry) body.now) }
+    ensures asked { IfOk result AsksAskable }
 {
     match path {
         Path::Nowhere => Ok(Item::Bare(404)),
         Path::Ask => if method == b"POST".as_slice() {
-            let caller = caller_of(alloc, token)?;
-            item_by(token, ask_of_json(alloc, caller, body))
+            item_by(token, ask_of_body(alloc, token, body))
         } else {
             Ok(Item::Bare(405))
         },
         Path::Entry { entry, version } => if method == b"GET".as_slice() {
-            let caller = caller_of(alloc, token)?;
-            item_by(token, ask_of_entry(caller, entry, version))
+            item_by(token, ask_of_entry(alloc, token, entry, version))
         } else {
             Ok(Item::Bare(405))
         },
@@ -140,7 +157,8 @@ fn item_at(
 /// What a request asks by its head and its body: a bare 404 where its target leads nowhere, a bare 405 where its way takes another
 /// method, the refusal of a body or a parameter that can't be read, then that of a token that is missing, and else an ask.
 pub fn item_of(alloc: Global, head: Head<'_>, body: &[u8]) -> Result<Item, NoMemory>
-    ensures { (h : RequestHead) → IsHead h head.entry → IfOk result (λ item. item ≡ item_of h body.now) }
+    ensures value { (h : RequestHead) → IsHead h head.entry → IfOk result (λ item. item ≡ item_of h body.now) }
+    ensures asked { IfOk result AsksAskable }
 {
     item_at(
         alloc,

@@ -20,3 +20,10 @@ pub fn items_given_are_the_first_of_all()
     ensures { (after : Link) (bytes more : List ℕ) (items rest : List Item) (why : LinkEnd) → Serves new_link bytes items after
         → Talks (ended_link (fed after more)) rest why → Talk (bytes ++ more) (items ++ rest) why }
 {}
+
+/// Bytes say no two things: all that a link gives to them, in whatever pieces they come, is one list of items and one end. That each list
+/// of bytes says something is the clause of `end_of`.
+pub fn each_link_says_one_thing()
+    ensures { (bytes : List ℕ) (items others : List Item) (why other : LinkEnd) → Talk bytes items why → Talk bytes others other
+        → (items ≡ others) × (why ≡ other) }
+{}

@@ -1,10 +1,13 @@
 //! One link: the bytes that are fed to it in any pieces, the requests that they ask, and the bytes that answer them.
 
-ghost use Rattle.std.specs.Prelude.{◌≡◌, ◌<◌, ◌^◌, false, true, length, IfOk, OnErr, OnOk};
-ghost use Rattle.qz_http.specs.Links.{Link, fed, new_link, waiting, route_by, end_after, Steps, Gives, written};
+ghost use Rattle.std.specs.Prelude.{◌≡◌, ◌<◌, ◌≤◌, ◌^◌, false, true, length, drop, IfOk, OnErr, OnOk};
+ghost use Rattle.qz_http.specs.Items.{AsksAskable};
+ghost use Rattle.qz_http.specs.Links.{Link, fed, new_link, waiting, route_by, Steps, StepAsksAskable, Gives, written};
 ghost use Rattle.qz_http.specs.Routes.{way_of};
 
-use crate::heads::{Judgement, ROOM, judge};
+use crate::ends::{MOST_REQUESTS, cut_end, end_after};
+use crate::fronts::{Front, front_of};
+use crate::heads::ROOM;
 use crate::items::{Item, LinkEnd, item_of};
 use crate::responses::{Route, bare_response, reply_response};
 use crate::routes::{Path, path_in};
@@ -14,14 +17,12 @@ use qz_text::{Bytes, NoMemory};
 use std::alloc::Global;
 use std::marker::Model;
 
-/// So many requests are answered on a link.
-const MOST_REQUESTS: u32 = 1000;
-
 /// The bytes of one link, and what they ask.
 #[derive(Drop)]
 pub struct LinkCore {
-    /// Those that aren't taken yet.
+    /// Those that have come, of which the first so many are taken.
     bytes: Vec<u8>,
+    taken: usize,
     room: Vec<HeaderSpan>,
     /// How many requests may still come.
     more: u32,
@@ -35,9 +36,9 @@ pub struct LinkCore {
 impl Model for LinkCore {
     ghost Value = { Link };
 
-    ghost view = { λ c. record { left = c.bytes.items; more = c.more; finished = c.finished; over = c.over; route = c.route } };
+    ghost view = { λ c. record { left = drop c.taken c.bytes.items; more = c.more; finished = c.finished; over = c.over; route = c.route } };
 
-    ghost invariant = { λ c. length c.room.items ≡ 2731 };
+    ghost invariant = { λ c. (length c.room.items ≡ 2731) × (c.taken ≤ length c.bytes.items) };
 }
 
 /// One step of a link.
@@ -45,10 +46,10 @@ impl Model for LinkCore {
 pub enum Step {
     /// Nothing is taken of the bytes.
     Stays(Item),
-    /// A request is taken, behind which these bytes are left.
+    /// A request is taken, which has so many bytes.
     Takes {
         item: Item,
-        rest: Vec<u8>,
+        len: usize,
         route: Route,
         closes: bool,
     },
@@ -57,16 +58,13 @@ pub enum Step {
 /// What is given while a request isn't whole.
 fn waiting(finished: bool, bytes: &[u8]) -> Item
     requires { length bytes.now < 2 ^ 32 }
-    ensures { result ≡ waiting finished bytes.now }
+    ensures value { result ≡ waiting finished bytes.now }
+    ensures asked { AsksAskable result }
 {
-    if !finished {
-        return Item::Need;
-    }
-    match bytes {
-        [] => Item::Over(LinkEnd::End),
-        _ => Item::Over(LinkEnd::Cut {
-            left: bytes.len() as u32,
-        }),
+    if finished {
+        Item::Over(cut_end(bytes))
+    } else {
+        Item::Need
     }
 }
 
@@ -79,15 +77,6 @@ fn route_of(target: &[u8]) -> Route
     }
 }
 
-fn end_after(more: u32, closes: bool) -> Option<LinkEnd>
-    ensures { result ≡ end_after more closes }
-{
-    if more == 0 {
-        return Some(LinkEnd::Full);
-    }
-    if closes { Some(LinkEnd::Closed) } else { None }
-}
-
 fn next_step(
     alloc: Global,
     bytes: &[u8],
@@ -95,24 +84,19 @@ fn next_step(
     finished: bool,
 ) -> Result<Step, NoMemory>
     requires { length room.old ≡ ROOM }
-    ensures { IfOk result (Steps finished bytes.now) }
+    ensures steps { IfOk result (Steps finished bytes.now) }
+    ensures asked { IfOk result StepAsksAskable }
 {
-    let head = match judge(bytes, room) {
-        Judgement::More => return Ok(Step::Stays(waiting(finished, bytes))),
-        Judgement::Bad(status) => return Ok(Step::Stays(Item::Over(LinkEnd::Bad { status }))),
-        Judgement::Whole(head) => head,
-    };
-    let (_, behind) = bytes.split_at(head.len);
-    if behind.len() < head.body {
-        return Ok(Step::Stays(waiting(finished, bytes)));
+    match front_of(bytes, room) {
+        Front::Part => Ok(Step::Stays(waiting(finished, bytes))),
+        Front::Bad(status) => Ok(Step::Stays(Item::Over(LinkEnd::Bad { status }))),
+        Front::Request { head, body, len } => Ok(Step::Takes {
+            item: item_of(alloc, head, body)?,
+            len,
+            route: route_of(head.target),
+            closes: head.closes,
+        }),
     }
-    let (body, rest) = behind.split_at(head.body);
-    Ok(Step::Takes {
-        item: item_of(alloc, head, body)?,
-        rest: Vec::from_slice(alloc, rest)?,
-        route: route_of(head.target),
-        closes: head.closes,
-    })
 }
 
 impl LinkCore {
@@ -122,6 +106,7 @@ impl LinkCore {
     {
         Ok(LinkCore {
             bytes: Vec::new(alloc),
+            taken: 0,
             room: vec![in alloc; EMPTY_HEADER_SPAN; ROOM]?,
             more: MOST_REQUESTS,
             finished: false,
@@ -136,7 +121,18 @@ impl LinkCore {
         ensures fed { OnOk result (self.new ≡ fed self.old piece.now) }
         ensures kept { OnErr result (self.new ≡ self.old) }
     {
+        self.drop_taken();
         Ok(self.bytes.extend_from_slice(piece)?)
+    }
+
+    /// Drops the bytes that are taken, where they are at least half of all: so each byte that is moved stands for one that was taken.
+    fn drop_taken(&mut self)
+        ensures { self.new ≡ self.old }
+    {
+        if self.taken >= self.bytes.len() - self.taken {
+            self.bytes.drain(..self.taken);
+            self.taken = 0;
+        }
     }
 
     /// The bytes have ended. This takes no memory.
@@ -146,25 +142,28 @@ impl LinkCore {
         self.finished = true;
     }
 
-    /// What the bytes fed give next. After want of memory the link is as it was, and the same may be asked again.
+    /// What the bytes fed give next. An ask is by a token, its request is one that is read, and it has a key where it has to. After
+    /// want of memory the link is as it was, and the same may be asked again.
     pub fn next(&mut self, alloc: Global) -> Result<Item, NoMemory>
         ensures given { IfOk result (λ item. Gives self.old item self.new) }
+        ensures asked { IfOk result AsksAskable }
         ensures kept { OnErr result (self.new ≡ self.old) }
     {
         if let Some(end) = self.over {
             return Ok(Item::Over(end));
         }
-        match next_step(alloc, &self.bytes, &mut self.room, self.finished)? {
+        let (_, left) = self.bytes.split_at(self.taken);
+        match next_step(alloc, left, &mut self.room, self.finished)? {
             Step::Stays(item) => Ok(item),
             Step::Takes {
                 item,
-                rest,
+                len,
                 route,
                 closes,
             } => {
                 self.more = self.more.saturating_sub(1);
                 self.over = end_after(self.more, closes);
-                self.bytes = rest;
+                self.taken += len;
                 self.route = route;
                 Ok(item)
             }

@@ -59,6 +59,7 @@ fn verb_in(body: &Value) -> Result<Verb, Refusal>
 #[tactic(auto, unfolding(crate::specs::Bodies::ask_of_data))]
 fn ask_in(alloc: Global, caller: Caller, body: &Value) -> Result<Ask, Refusal>
     ensures value { ReadsOr (λ x. x) result (ask_of_data caller (view body.now)) }
+    ensures caller { IfOk result (λ ask. ask.caller ≡ caller) }
     ensures asked { IfOk result CanBeAsked }
 {
     let Some(members) = body.as_object() else {
@@ -91,6 +92,7 @@ fn ask_in(alloc: Global, caller: Caller, body: &Value) -> Result<Ask, Refusal>
 #[tactic(auto, unfolding(crate::specs::Bodies::ask_of_body))]
 pub fn ask_of_json(alloc: Global, token: Caller, body: &[u8]) -> Result<Ask, Refusal>
     ensures value { ReadsOr (λ x. x) result (ask_of_body token body.now) }
+    ensures caller { IfOk result (λ ask. ask.caller ≡ token) }
     ensures asked { IfOk result CanBeAsked }
 {
     let body = data_in(alloc, body)?;

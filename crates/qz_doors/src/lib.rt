@@ -1,0 +1,13 @@
+//! Links that are served over a desk: each request is answered before the next bytes are read; and doors, whose links are served one after
+//! the other.
+#![tactic(auto)]
+
+mod door;
+mod halt;
+mod link;
+
+pub use door::{DoorEnd, serve_door};
+pub use link::serve_link;
+
+#[cfg(test)]
+mod tests;
