@@ -1,5 +1,5 @@
 -- One more record that is granted: the list stays legal, kept and few, and the bank follows it.
-use Rattle.std.proofs.Common.{◌≡◌, ℕ, suc, ◌+◌, ◌-◌, ◌≤◌, ◌⊎◌, inl, inr, max, Bool, true, false, not, List, [], ◌∷◌, ◌++◌, Option, Some, None, length, map, refl, sym, ap, subst, arith, All}
+use Rattle.std.proofs.Common.{◌≡◌, ℕ, suc, ◌+◌, ◌-◌, ◌≤◌, inl, inr, max, Bool, true, false, not, List, [], ◌∷◌, ◌++◌, Option, Some, None, length, map, refl, sym, ap, subst, arith, All}
 use Rattle.std.specs.List.{enumerate_from, last_or}
 use Rattle.std.specs.Prelude.{◌==◌, filter, filter_map, if◌then◌else◌, is_none, is_some, slice_get, unwrap_or}
 use Rattle.std.proofs.lemmas.Bool.{eqb-true, le-leb, leb-true}

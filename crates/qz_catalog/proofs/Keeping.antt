@@ -50,7 +50,7 @@ own-by c q (Some s) kept is =
     let t = last_told_in (λ (r : Record). times_by q (asked r)) c s is in
     times-kept q (asked t.item) s (request-kept c t.front t.item t.rest kept t.stands) t.tells
 
-own-kept : (c : List Record) (q : ℕ) → All IsKept c → are_settings (own_settings c q) ≡ true
+pub own-kept : (c : List Record) (q : ℕ) → All IsKept c → are_settings (own_settings c q) ≡ true
 own-kept c q kept = own-by c q (last_of (filter_map (λ (r : Record). times_by q (asked r)) c)) kept refl
 
 -- ---- what is set otherwise

@@ -14,4 +14,5 @@ pub mod KeyLemmas
 pub mod Deciding
 pub mod Versions
 pub mod Kept
+pub mod Staying
 pub mod Answering

@@ -126,7 +126,7 @@ entry-stays l rest e there =
     let below : e ≤ length (entries l) = leb-true e (length (entries l)) (and-right (nat_le 1 e) (nat_le e (length (entries l))) inside) in
     there-is (entries (l ++ rest)) e ∙ rw (le-leb 1 e above, le-leb e (length (entries (l ++ rest))) (omega (arith, longer, below))) refl
 
-first-entries : (c : List Record) (q : ℕ) → IsLegalCatalog c → list_all (λ (s : ℕ × ℤ). is_some (at_place (entries c) s.0)) (slots_made c q) ≡ true
+pub first-entries : (c : List Record) (q : ℕ) → IsLegalCatalog c → list_all (λ (s : ℕ × ℤ). is_some (at_place (entries c) s.0)) (slots_made c q) ≡ true
 first-entries c q legal = all-told (λ (s : ℕ × ℤ). is_some (at_place (entries c) s.0)) (λ (r : Record). slot_by q (asked r)) c (λ l r rest s e told.
     let missing = first-none (missing_quiz l q) (missing_entry l s.0 ∷ []) (slot-made c l r rest q s legal e told).there in
     let entry = first-none (missing_entry l s.0) [] missing.1 in
@@ -144,7 +144,7 @@ latest-by : (c : List Record) (e : ℕ) (b : Bool) → is_some (at_place (entrie
 latest-by c e true is there = rw is refl
 latest-by c e false is there = absurd cc
 
-newest-there : (c : List Record) (e : ℕ) → is_some (at_place (entries c) e) ≡ true → is_some (version c e (latest c e)) ≡ true
+pub newest-there : (c : List Record) (e : ℕ) → is_some (at_place (entries c) e) ≡ true → is_some (version c e (latest c e)) ≡ true
 newest-there c e there = ap (λ n. is_some (version c e n)) (latest-by c e (is_some (at_place (entries c) e)) refl there) ∙ newest-by c e (length (changes c e)) (at_place (entries c) e) refl there refl
 
 questions-step : (c : List Record) (s : Planned) (ss : List Planned) (o : Option Question) → version c s.entry s.version ≡ o → is_some o ≡ true → length (questions c ss) ≡ length ss → length (questions c (s ∷ ss)) ≡ length (s ∷ ss)

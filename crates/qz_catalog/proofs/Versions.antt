@@ -109,7 +109,7 @@ place-by P xs n x false is found all =
     let get : slice_get xs (n - 1) ≡ Some x = rw is at found in
     subst P (get_or_from_slice_get xs (n - 1) x x get) (all (n - 1) x (slice_get_within xs (n - 1) x get))
 
-place-kept : {A : Type 0} (P : A → Type 0) (xs : List A) (n : ℕ) (x : A) → at_place xs n ≡ Some x → All P xs → P x
+pub place-kept : {A : Type 0} (P : A → Type 0) (xs : List A) (n : ℕ) (x : A) → at_place xs n ≡ Some x → All P xs → P x
 place-kept P xs n x found all = place-by P xs n x (n == 0) refl found all
 
 version-by : (es : List Entry) (e n : ℕ) (q : Question) (o : Option Entry) → at_place es e ≡ o → option_and_then (λ (x : Entry). at_place x.versions n) o ≡ Some q → IsKeptBank es → IsKeptVersion q

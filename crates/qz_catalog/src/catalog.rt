@@ -5,7 +5,7 @@ ghost use Rattle.qz_decimal.specs.Numbers.{IsMaxSum, IsQuizGrade};
 ghost use Rattle.qz_grading.specs.declared.refusal.Refusal.TheVariants as refusal;
 ghost use Rattle.qz_grading.specs.Behaviours.{first_some};
 ghost use Rattle.qz_terms.specs.declared.people.User.{User};
-ghost use Rattle.qz_terms.specs.Catalog.{plan, policy, user_of_token, users};
+ghost use Rattle.qz_terms.specs.Catalog.{job, plan, policy, user_of_token, users};
 ghost use Rattle.qz_terms.specs.CatalogAnswer.{asks_catalog, catalog_after, catalog_answer, catalog_verdict, is_look_in};
 ghost use Rattle.qz_terms.specs.Cause.{Denied, missing_quiz, missing_user};
 ghost use Rattle.qz_terms.specs.Kept.{IsKeptPlan};
@@ -15,13 +15,14 @@ ghost use Rattle.qz_catalog.specs.declared.decision.Decision.TheVariants as deci
 ghost use Rattle.qz_catalog.specs.Holdings.{founded, lean};
 
 use crate::decision::{Decision, decide};
+use crate::jobs::job;
 use crate::people::{names, user, user_of_token};
 use crate::planning::{plan, policy_of};
 use crate::putting::put;
 use crate::replies::{look, said};
 use qz_bank::Entries;
-use qz_grading::Refusal;
-use qz_terms::{Ask, Event, Plan, Policy, Record, Reply, Request, User};
+use qz_grading::{Refusal, Thing};
+use qz_terms::{Ask, Event, Job, Plan, Policy, Record, Reply, Request, User};
 use qz_text::{Listed, NoMemory, Text, TryCopy};
 use std::alloc::Global;
 use std::marker::Model;
@@ -136,6 +137,19 @@ impl Catalog {
         ensures refused { IfErr result (λ r. (r ≡ Refusal.Memory) ⊎ (missing_quiz self.now quiz ≡ Some r)) }
     {
         policy_of(alloc, self.records.as_slice(), &self.entries, quiz)
+    }
+
+    /// A job: its position, and the plan of its quiz over the records up to there, with the quiz's own settings and a question for
+    /// each slot. All its numbers are in range, and its questions keep what every question keeps.
+    ///
+    /// A job that isn't there is `Unknown`.
+    pub fn job(&self, alloc: Global, number: u32) -> Result<Job, Refusal>
+        ensures job { IfOk result (λ j. job self.now number ≡ Some j) }
+        ensures kept { IfOk result (λ j. IsKeptPlan j.plan) }
+        ensures each { IfOk result (λ j. length j.plan.questions ≡ length j.plan.slots) }
+        ensures refused { IfErr result (λ r. (r ≡ Refusal.Memory) ⊎ ((r ≡ Refusal.Unknown Thing.Job) × (job self.now number ≡ None))) }
+    {
+        job(alloc, self.records.as_slice(), &self.entries, number)
     }
 }
 

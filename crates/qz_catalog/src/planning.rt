@@ -1,22 +1,24 @@
 //! The plan of a quiz for a user.
 
-ghost use Rattle.std.specs.Prelude.{option_copied, if◌then◌else◌, ◌≡◌, ◌⊎◌, ◌≤◌, ◌*◌, List, [], ◌∷◌, filter_map, length, map, true, Some, None, option_map, unwrap_or, IfOk, IfErr, OnOk};
+ghost use Rattle.std.specs.Prelude.{option_copied, if◌then◌else◌, ◌≡◌, ◌⊎◌, ◌≤◌, ◌<◌, ◌*◌, ◌-◌, ◌^◌, List, [], ◌∷◌, filter_map, length, map, take, true, Some, None, option_map, unwrap_or, IfOk, IfErr, IfSome, OnOk};
 ghost use Rattle.std.specs.List.{list_all};
 ghost use Rattle.qz_grading.specs.Behaviours.{first_some};
 ghost use Rattle.qz_grading.specs.declared.refusal.Refusal.TheVariants as refusal;
 ghost use Rattle.qz_terms.specs.declared.plan.Planned.{Planned};
 ghost use Rattle.qz_terms.specs.declared.record.Record.{Record};
 ghost use Rattle.qz_bank.specs.Laws.{IsBankOf};
-ghost use Rattle.qz_terms.specs.Catalog.{asked, latest, plan, policy, questions, remax_by, remaxed, slots, version};
+ghost use Rattle.qz_terms.specs.Catalog.{asked, latest, own_settings, plan, plan_under, policy, questions, remax_by, remaxed, slots, version};
 ghost use Rattle.qz_terms.specs.Cause.{missing_quiz, missing_user};
 ghost use Rattle.qz_terms.specs.Kept.{is_planned};
+ghost use Rattle.qz_terms.specs.Legal.{IsLegalCatalog};
 ghost use Rattle.qz_terms.specs.Rows.{sum_of};
 ghost use Rattle.qz_catalog.specs.Holdings.{IsHeld, lean};
 ghost use Rattle.qz_catalog.specs.Readings.{slot_over};
 
+use crate::counts;
 use crate::missing::{missing_quiz, missing_user};
 use crate::quizzes::{is_ready, quiz, slot_by};
-use crate::settings::{policy_terms, settings};
+use crate::settings::{own_settings, policy_terms, settings};
 use qz_bank::Entries;
 use qz_bank::laws::follows_the_records;
 use qz_decimal::Mark;
@@ -52,41 +54,59 @@ fn remaxed(records: &[Record], quiz: u32, slot: u16) -> Option<Mark>
     last
 }
 
-/// The number of an entry's latest version, or 0 where the entry isn't there.
-fn latest(entries: &Entries, entry: u32) -> u32
+/// The number of an entry's latest version by a bank, or 0 where the entry isn't there.
+fn latest_in(entries: &Entries, entry: u32) -> u32
     ensures { (c : List Record) → IsBankOf c entries.now → result ≡ latest c entry }
 {
     follows_the_records();
     entries.latest(entry).unwrap_or(0)
 }
 
+/// The number of an entry's latest version, or 0 where the entry isn't there: by the bank that the records make, where it is at
+/// hand, and else by the records.
+fn latest(records: &[Record], bank: Option<&Entries>, entry: u32) -> u32
+    requires few { length records.now < 2 ^ 32 - 1 }
+    requires legal { IsLegalCatalog records.now }
+    requires bank { IfSome bank (λ entries. IsBankOf records.now entries.now) }
+    ensures { result ≡ latest records.now entry }
+{
+    match bank {
+        Some(entries) => latest_in(entries, entry),
+        None => counts::latest(records, entry),
+    }
+}
+
 /// A slot with its entry, that entry's latest version, and the last max mark.
 fn planned(
     records: &[Record],
-    entries: &Entries,
+    bank: Option<&Entries>,
     quiz: u32,
     slot: u16,
     made: (u32, Mark),
 ) -> Planned
-    requires { IsBankOf records.now entries.now }
+    requires few { length records.now < 2 ^ 32 - 1 }
+    requires legal { IsLegalCatalog records.now }
+    requires bank { IfSome bank (λ entries. IsBankOf records.now entries.now) }
     ensures { result ≡ slot_over records.now quiz (slot, made) }
 {
     let (entry, max) = made;
     Planned {
         entry,
-        version: latest(entries, entry),
+        version: latest(records, bank, entry),
         max: remaxed(records, quiz, slot).unwrap_or(max),
     }
 }
 
-/// The slots of a quiz, in order.
+/// The slots of a quiz, in order, by the bank that the records make, where it is at hand.
 fn slots(
     alloc: Global,
     records: &[Record],
-    entries: &Entries,
+    bank: Option<&Entries>,
     quiz: u32,
 ) -> Result<Listed<Planned>, NoMemory>
-    requires { IsHeld records.now entries.now }
+    requires few { length records.now < 2 ^ 32 - 1 }
+    requires legal { IsLegalCatalog records.now }
+    requires bank { IfSome bank (λ entries. IsBankOf records.now entries.now) }
     ensures value { IfOk result (λ found. found ≡ slots records.now quiz) }
     ensures few { IfOk result (λ found. length found ≤ 200) }
     ensures marks { IfOk result (λ found. list_all is_planned found ≡ true) }
@@ -95,7 +115,7 @@ fn slots(
     for record in records {
         if let Some(made) = slot_by(quiz, record) {
             let slot = items.len() as u16 + 1;
-            items.push(planned(records, entries, quiz, slot, made))?;
+            items.push(planned(records, bank, quiz, slot, made))?;
         }
     }
     Ok(Listed { items })
@@ -144,7 +164,7 @@ pub(crate) fn policy_of(
     if let Some(refusal) = missing_quiz(records, number) {
         return Err(refusal);
     }
-    let slots = slots(alloc, records, entries, number)?;
+    let slots = slots(alloc, records, Some(entries), number)?;
     Ok(policy(records, number, slots.as_slice()))
 }
 
@@ -156,7 +176,7 @@ fn question<'a>(entries: &'a Entries, slot: &Planned) -> Option<&'a Question>
     entries.version(slot.entry, slot.version)
 }
 
-/// The questions of the slots, in order.
+/// The questions of the slots, in order, by the bank that all the records make.
 fn questions(
     alloc: Global,
     records: &[Record],
@@ -213,7 +233,7 @@ pub(crate) fn plan(
     if let Some(refusal) = missing_user(records, user) {
         return Err(refusal);
     }
-    let slots = slots(alloc, records, entries, number)?;
+    let slots = slots(alloc, records, Some(entries), number)?;
     Ok(Plan {
         at: records.len() as u64,
         quiz: number,
@@ -225,4 +245,34 @@ pub(crate) fn plan(
         questions: questions_if(alloc, records, entries, slots.as_slice(), whole)?,
         slots,
     })
+}
+
+/// The plan of a quiz over the first records of a catalogue, with the quiz's own settings and its questions, if it is there.
+pub(crate) fn own_plan(
+    alloc: Global,
+    all: &[Record],
+    entries: &Entries,
+    first: usize,
+    number: u32,
+) -> Result<Option<Plan>, NoMemory>
+    requires held { IsHeld all.now entries.now }
+    requires inside { first ≤ length all.now }
+    ensures { IfOk result (λ p. p ≡ plan_under (own_settings (take first all.now) number) (take first all.now) number) }
+{
+    let records = &all[..first];
+    let Some(named) = quiz(records, number) else {
+        return Ok(None);
+    };
+    let slots = slots(alloc, records, None, number)?;
+    Ok(Some(Plan {
+        at: records.len() as u64,
+        quiz: number,
+        name: named.name.try_copy(alloc)?,
+        ready: is_ready(records, number),
+        behaviour: named.behaviour,
+        settings: own_settings(records, number),
+        policy: policy(records, number, slots.as_slice()),
+        questions: questions(alloc, all, entries, slots.as_slice())?,
+        slots,
+    }))
 }

@@ -58,7 +58,7 @@ pub(crate) fn quiz_count(records: &[Record]) -> usize
 }
 
 /// What is told with the number that is meant.
-fn numbered<T: Copy>(told: Option<T>, number: usize, meant: usize) -> Option<T>
+pub(crate) fn numbered<T: Copy>(told: Option<T>, number: usize, meant: usize) -> Option<T>
     ensures { result ≡ if number == meant then told else None }
 {
     if number == meant { told } else { None }

@@ -1,4 +1,4 @@
-use Rattle.std.proofs.Common.{◌∷◌, [], ◌++◌, List, Option, ℕ, Some, take, sym, ap, ◌∙◌, append-nil}
+use Rattle.std.proofs.Common.{◌∷◌, [], ◌++◌, List, Option, ℕ, take, sym, ap, ◌∙◌, append-nil}
 use Rattle.std.specs.Prelude.{filter_map, option_copied, option_to_list}
 use Rattle.std.proofs.lemmas.List.{take_all}
 use Rattle.qz_terms.proofs.Walks.{all_kept}
