@@ -1,3 +1,5 @@
+ghost use Rattle.std.specs.Prelude.{◌≡◌, None, IfOk};
+
 use super::*;
 use qz_disks::{Fill, KeepErr, Keeper, MemoryDisk};
 use qz_text::{Bytes, Listed};
@@ -7,7 +9,9 @@ use std::test::Fail;
 type Loaded = Result<(Journal<MemoryDisk>, Listed<Bytes>), JournalFault>;
 
 // The journal of a file with these bytes, on a disk whose calls of these numbers fail.
-fn loaded(alloc: Global, image: &[u8], failing: &[u64]) -> Loaded {
+fn loaded(alloc: Global, image: &[u8], failing: &[u64]) -> Loaded
+    ensures { IfOk result (λ made. made.0.doubt ≡ None) }
+{
     let items = Vec::from_slice(alloc, failing)?;
     let disk = MemoryDisk::holding(alloc, image, Listed { items })?;
     match Journal::load(alloc, disk) {
