@@ -1,5 +1,5 @@
 -- How runs of calls go on in time.
-use Rattle.std.proofs.Common.{◌≡◌, ◌⊎◌, inl, inr, ⊎_elim, ℕ, ◌<◌, ◌≤◌, List, length, take, min, max, refl, sym, ◌∙◌, ap, subst, arith}
+use Rattle.std.proofs.Common.{◌≡◌, ◌⊎◌, inl, inr, ⊎_elim, ℕ, ◌<◌, ◌≤◌, List, length, refl, sym, subst, arith}
 use Rattle.std.proofs.lemmas.Bool.{cases_lt}
 use Rattle.std.proofs.lemmas.List.{take_all}
 use Rattle.qz_disks.specs.Disks.{Torn, Cut, Same, Elapses, LeavesOnly}
@@ -11,9 +11,9 @@ split_lt a b le = ⊎_elim (λ less. inr less) (λ same. inl (omega arith)) (cas
 pub at_end : (step : List ℕ → List ℕ → Type 0) (before now : ℕ) (past since : ℕ → List ℕ → Type 0) (Q : List ℕ → Type 0) → Elapses step before now past since
     → ((c : List ℕ) → past before c → Q c) → ((d c : List ℕ) → past before d → step d c → Q c) → (c : List ℕ) → since now c → Q c
 at_end step before now past since Q time stays steps c left = ⊎_elim
-  (λ same. stays c (time.adds_nothing before c (omega arith) (subst (λ t. since t c) (sym same) left)))
-  (λ later. let from = time.follows now c later (omega arith) left in steps from.0 c from.1 from.2)
-  (split_lt before now time.later)
+    (λ same. stays c (time.adds_nothing before c (omega arith) (subst (λ t. since t c) (sym same) left)))
+    (λ later. let from = time.follows now c later (omega arith) left in steps from.0 c from.1 from.2)
+    (split_lt before now time.later)
 
 -- a call that writes nothing behind another call
 pub then_same : (step : List ℕ → List ℕ → Type 0) → ((d : List ℕ) → step d d) → (a b c : ℕ) (p q r : ℕ → List ℕ → Type 0)
@@ -23,15 +23,15 @@ then_same step whole a b c p q r first second = record {
   keeps = λ t x le had. second.keeps t x (omega (arith, first.later)) (first.keeps t x le had);
   adds_nothing = λ t x le has. first.adds_nothing t x le (second.adds_nothing t x (omega (arith, first.later)) has);
   follows = λ t x after le has. ⊎_elim
-    (λ past_it.
-        let from = second.follows t x past_it le has in
-        let was : q b x = subst (q b) (sym from.2) from.1 in
-        ⊎_elim
-          (λ same. (x, first.adds_nothing a x (omega arith) (subst (λ s. q s x) (sym same) was), whole x))
-          (λ later. first.follows b x later (omega arith) was)
-          (split_lt a b first.later))
-    (λ within. first.follows t x after within (second.adds_nothing t x within has))
-    (cases_lt b t);
+      (λ past_it.
+      let from = second.follows t x past_it le has in
+      let was : q b x = subst (q b) (sym from.2) from.1 in
+      ⊎_elim
+      (λ same. (x, first.adds_nothing a x (omega arith) (subst (λ s. q s x) (sym same) was), whole x))
+      (λ later. first.follows b x later (omega arith) was)
+      (split_lt a b first.later))
+      (λ within. first.follows t x after within (second.adds_nothing t x within has))
+      (cases_lt b t);
 }
 
 pub same_whole : (d : List ℕ) → Same d d
@@ -57,9 +57,9 @@ pub goes_on : (P : List ℕ → Type 0) (step : List ℕ → List ℕ → Type 0
 goes_on P step a b c p q r so_far time steps = record {
   later = omega (arith, so_far.later, time.later);
   each = λ t x lower upper left. ⊎_elim
-    (λ past_it. let from = time.follows t x past_it upper left in steps from.0 x from.1 from.2)
-    (λ within. so_far.each t x lower within (time.adds_nothing t x within left))
-    (cases_lt b t);
+      (λ past_it. let from = time.follows t x past_it upper left in steps from.0 x from.1 from.2)
+      (λ within. so_far.each t x lower within (time.adds_nothing t x within left))
+      (cases_lt b t);
   adds_nothing = λ t x le left. so_far.adds_nothing t x le (time.adds_nothing t x (omega (arith, so_far.later)) left);
 }
 

@@ -1,5 +1,5 @@
 -- What a write and a cut make of the bytes is an outcome of a crash in them.
-use Rattle.std.proofs.Common.{◌≡◌, ℕ, ◌+◌, ◌≤◌, List, ◌++◌, length, take, drop, min, max, sym, ◌∙◌, ap, arith, length-append, length-take, length-drop}
+use Rattle.std.proofs.Common.{◌≡◌, ℕ, ◌+◌, ◌≤◌, List, ◌++◌, length, take, drop, max, ◌∙◌, ap, arith, length-append, length-take, length-drop}
 use Rattle.std.proofs.lemmas.List.{append_assoc, take_at, drop_at, take_min}
 use Rattle.qz_disks.specs.Disks.{overwritten, Torn, Cut}
 

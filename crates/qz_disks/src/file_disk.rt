@@ -10,7 +10,6 @@ use std::fs::File;
 use std::io;
 use std::os::unix::fs::FileExt;
 
-
 /// A file as a disk, which tells nothing of its bytes. Std makes an interrupted call again, and any other error is a
 /// failure. What a sync answered `Ok` for is on the medium: nothing is kept back in a buffer of its own.
 #[derive(Drop)]

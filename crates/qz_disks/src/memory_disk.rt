@@ -66,14 +66,19 @@ impl Model for MemoryDisk {
 
     ghost invariant = { λ d. IsLogged d.bytes.items d.written.items d.log.items
         × HasCapacity d.calls_left d.bytes_left (vec_len d.bytes) (vec_capacity d.bytes)
-            (vec_len d.written) (vec_capacity d.written) (vec_len d.log) (vec_capacity d.log) };
+        (vec_len d.written) (vec_capacity d.written) (vec_len d.log) (vec_capacity d.log) };
 }
 
 impl MemoryDisk {
     /// An empty disk. Its calls whose numbers, from 1, are in `failing` fail; `reserve` has no number.
     pub fn new(alloc: Global, failing: Listed<u64>) -> MemoryDisk
-        ensures { result ≡ record { changes = []; room = record { calls = 0; bytes = 0 };
-            failing = failing; calls = 0; faults = 0 } }
+        ensures { result ≡ record {
+          changes = [];
+          room = record { calls = 0; bytes = 0 };
+          failing = failing;
+          calls = 0;
+          faults = 0;
+        } }
     {
         MemoryDisk {
             bytes: Vec::new(alloc),
@@ -86,9 +91,18 @@ impl MemoryDisk {
     }
 
     /// A disk on which these bytes stand, all of them synced.
-    pub fn holding(alloc: Global, bytes: &[u8], failing: Listed<u64>) -> Result<MemoryDisk, NoMemory>
-        ensures { IfOk result (λ made. made ≡ record { changes = holding bytes.now;
-            room = record { calls = 0; bytes = 0 }; failing = failing; calls = 0; faults = 0 }) }
+    pub fn holding(
+        alloc: Global,
+        bytes: &[u8],
+        failing: Listed<u64>,
+    ) -> Result<MemoryDisk, NoMemory>
+        ensures { IfOk result (λ made. made ≡ record {
+          changes = holding bytes.now;
+          room = record { calls = 0; bytes = 0 };
+          failing = failing;
+          calls = 0;
+          faults = 0;
+        }) }
     {
         let mut log = Vec::with_capacity(alloc, 2)?;
         log.push_reserved(Done::Wrote {
@@ -110,8 +124,12 @@ impl MemoryDisk {
     /// where each byte written since that sync is as `fill` says. None of its calls fails.
     pub fn stopped(&self, alloc: Global, fill: Fill) -> Result<MemoryDisk, NoMemory>
         ensures { IfOk result (λ made. made ≡ record {
-            changes = holding (left_by fill self.now.changes [] []);
-            room = record { calls = 0; bytes = 0 }; failing = []; calls = 0; faults = 0 }) }
+          changes = holding (left_by fill self.now.changes [] []);
+          room = record { calls = 0; bytes = 0 };
+          failing = [];
+          calls = 0;
+          faults = 0;
+        }) }
     {
         let mut pieces = self.written.as_slice();
         let mut reads = Vec::new(alloc);

@@ -30,7 +30,10 @@ fn a_stop_leaves_what_its_fill_says(rt: HostRuntime) -> Result<(), Fail> {
         assert_eq!(rt; disk.stopped(alloc, fill)?.bytes(), bytes);
     }
     disk.sync()?;
-    assert_eq!(rt; disk.stopped(alloc, Fill::Full)?.bytes(), b"abcxy".as_slice());
+    assert_eq!(rt;
+        disk.stopped(alloc, Fill::Full)?.bytes(),
+        b"abcxy".as_slice()
+    );
     Ok(())
 }
 

@@ -1,12 +1,12 @@
 -- What the calls of an append and of a mending leave, in the words of a disk that may tell its bytes.
-use Rattle.std.proofs.Common.{◌≡◌, ◌≢◌, ◌⊎◌, inl, inr, ⊎_elim, ℕ, ◌+◌, ◌^◌, ◌≤◌, ◌<◌, List, [], ◌∷◌, ◌++◌, length, take, Ok, Option, Some, None, option_map, IfSome, refl, sym, ◌∙◌, ap, subst, arith}
+use Rattle.std.proofs.Common.{◌≡◌, inl, ℕ, ◌+◌, ◌≤◌, ◌<◌, List, [], ◌∷◌, ◌++◌, length, take, Ok, Option, Some, None, option_map, IfSome, refl, sym, ◌∙◌, ap, subst, arith}
 use Rattle.std.proofs.lemmas.List.{append-nil}
 use Rattle.qz_disks.specs.Disks.{overwritten, Torn, Cut, Elapses, LeavesOnly, IsDurable}
 use Rattle.qz_disks.specs.Keepers.{with_one_more}
 use Rattle.qz_disks.proofs.Moments.{one_call, goes_on, at_end}
 use Rattle.qz_journal.specs.Frames.{header, shut_frame, stands_for}
-use Rattle.qz_journal.specs.Journals.{gate_behind, payloads_of, payloads_before, StandsFor, StandFor, StandsLike, IsAtRest, IsKept, IsPut, IsRead}
-use Rattle.qz_journal.proofs.Images.{Framed, framed_of, short_image, kept_before, Resting, resting, at_rest, resting_stands, resting_place}
+use Rattle.qz_journal.specs.Journals.{gate_behind, payloads_of, payloads_before, StandsFor, StandsLike, IsAtRest, IsKept, IsPut, IsRead}
+use Rattle.qz_journal.proofs.Images.{framed_of, short_image, kept_before, Resting, resting, at_rest, resting_stands, resting_place}
 use Rattle.qz_journal.proofs.Crashes.{torn_behind, written_behind, torn_gate, written_gate, length-framed, cut_behind, cut_rests, cut_short, torn_short}
 
 -- a file at rest is a journal without a doubt
@@ -64,8 +64,8 @@ mend_begun None size gate a b c p q r read durable short first second = read
 mend_begun (Some bytes) size gate a b c p q r read durable short first second =
     let within : length bytes ≤ 9 = let whole = read.whole in omega arith in
     let after : (d : List ℕ) → q b d → length d ≤ 9 = at_end (Cut 0) a b p q (λ d. length d ≤ 9) first
-        (λ d left. let sizes = ap length (durable.only d left) in omega arith)
-        (λ e d left cut. cut_short bytes d within (subst (λ x. Cut 0 x d) (durable.only e left) cut)) in
+    (λ d left. let sizes = ap length (durable.only d left) in omega arith)
+    (λ e d left cut. cut_short bytes d within (subst (λ x. Cut 0 x d) (durable.only e left) cut)) in
     goes_on (StandsLike bytes) (Torn 0 9) a b c p q r (mend_emptied (Some bytes) size gate a b p q read durable short first) second
     (λ d x left torn. record { same = short_image x (torn_short d x (after d left) torn) ∙ sym (short_image bytes within) })
 
@@ -94,7 +94,7 @@ put_opened (Some bytes) n gate a b c frame payload p q r now kept is fits first 
     let staged_is = written_behind L gate bytes rests frame in
     goes_on (StandsFor L (Some payload)) (Torn gate 1) a b c p q r (put_behind (Some bytes) gate (length frame) a b payload p q now kept first) second
     (λ d x left torn. torn_gate L gate bytes rests payload (omega arith) x
-        (subst (λ f. Torn gate 1 (header ++ (rests.front ++ rests.gate ∷ f)) x) is (subst (λ e. Torn gate 1 e x) (durable_here.only d left ∙ staged_is) torn)))
+    (subst (λ f. Torn gate 1 (header ++ (rests.front ++ rests.gate ∷ f)) x) is (subst (λ e. Torn gate 1 e x) (durable_here.only d left ∙ staged_is) torn)))
 
 pub put_kept : (o n m : Option (List ℕ)) (gate : ℕ) (frame payload : List ℕ) (before outcomes : List ℕ → Type 0) → IfSome o before → IfSome o (IsKept gate None before) → frame ≡ shut_frame payload → length payload ≤ 67108864
     → n ≡ option_map (overwritten (gate + 1) frame) o → m ≡ option_map (overwritten gate (1 ∷ [])) n → IfSome m (λ bytes. IsDurable bytes outcomes)
@@ -108,6 +108,6 @@ put_kept (Some bytes) n m gate frame payload before outcomes now kept is fits wr
     let durable_here = subst (λ m. IfSome m (λ bytes. IsDurable bytes outcomes)) m_is durable in
     let staged_is = written_behind L gate bytes rests frame ∙ ap (λ (f : List ℕ). header ++ (rests.front ++ rests.gate ∷ f)) is in
     let longer : Resting (with_one_more payload L) (gate + 5 + length payload) after =
-        subst (Resting (with_one_more payload L) (gate + 5 + length payload)) (ap (overwritten gate (1 ∷ [])) (sym staged_is)) (written_gate L gate bytes rests payload (omega arith)) in
+    subst (Resting (with_one_more payload L) (gate + 5 + length payload)) (ap (overwritten gate (1 ∷ [])) (sym staged_is)) (written_gate L gate bytes rests payload (omega arith)) in
     let both = kept_resting (with_one_more payload L) (gate + 5 + length payload) after outcomes longer durable_here in
     subst (λ m. IfSome m (IsPut gate payload L outcomes)) (sym m_is) (record { kept = both.0; list = both.1 })

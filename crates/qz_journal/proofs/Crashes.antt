@@ -1,5 +1,5 @@
 -- What a crash leaves of a journal in each step of an append, and of a mending.
-use Rattle.std.proofs.Common.{◌≡◌, ◌≢◌, ◌⊎◌, inl, inr, ⊎_elim, ℕ, zero, suc, ◌+◌, ◌-◌, ◌^◌, ◌≤◌, ◌<◌, min, max, List, [], ◌∷◌, ◌++◌, length, take, drop, get_or, Ok, Option, Some, None, refl, sym, ◌∙◌, ap, subst, arith, length-append, length-take, length-drop, take-append-drop}
+use Rattle.std.proofs.Common.{◌≡◌, inl, inr, ℕ, zero, suc, ◌+◌, ◌-◌, ◌^◌, ◌≤◌, ◌<◌, List, [], ◌∷◌, ◌++◌, length, take, drop, get_or, Ok, Some, refl, sym, ◌∙◌, ap, arith, length-append, length-take, take-append-drop}
 use Rattle.std.specs.Int.{to_le_bytes, w32}
 use Rattle.std.proofs.lemmas.Bool.{cases_eq}
 use Rattle.std.proofs.lemmas.List.{append_assoc, append-nil, take_at, drop_at, take_all, drop_all, drop_more}
@@ -8,7 +8,7 @@ use Rattle.qz_disks.specs.Keepers.{with_one_more}
 use Rattle.qz_journal.specs.Frames.{header, open_frame, shut_frame, stands_for}
 use Rattle.qz_journal.specs.Journals.{gate_behind, StandsFor}
 use Rattle.qz_journal.proofs.Fronts.{IsFront, length-front, one_frame, front_and}
-use Rattle.qz_journal.proofs.Images.{framed, Framed, framed_of, short_image, Resting, resting_size}
+use Rattle.qz_journal.proofs.Images.{framed, Framed, Resting, resting_size}
 
 take_past : (xs ys : List ℕ) (m n : ℕ) → m ≡ length xs + n → take m (xs ++ ys) ≡ xs ++ take n ys
 take_past [] ys m n is = let same : m ≡ n = omega arith in ap (λ (k : ℕ). take k ys) same
@@ -25,8 +25,8 @@ module _ (payloads : List (List ℕ)) (place : ℕ) (bytes : List ℕ) (r : Rest
       let behind = drop (place + 1) c in
       let front : take (place + 1) c ≡ header ++ (r.front ++ r.gate ∷ []) = torn.before ∙ take_all (place + 1) bytes (omega (arith, size)) ∙ r.split in
       let whole : c ≡ header ++ (r.front ++ r.gate ∷ behind) =
-          sym (take-append-drop (place + 1) c) ∙ ap (λ (l : List ℕ). l ++ behind) front
-          ∙ ap (λ (l : List ℕ). header ++ l) (append_assoc r.front (r.gate ∷ []) behind) in
+      sym (take-append-drop (place + 1) c) ∙ ap (λ (l : List ℕ). l ++ behind) front
+      ∙ ap (λ (l : List ℕ). header ++ l) (append_assoc r.front (r.gate ∷ []) behind) in
       ap stands_for whole ∙ framed payloads r.front r.gate behind r.front_is r.shut
 
   -- the file with a frame behind the shut gate

@@ -1,8 +1,8 @@
 -- The bytes of open frames, one behind the other, and how `frames_from` reads them.
-use Rattle.std.proofs.Common.{◌≡◌, ◌≢◌, inl, inr, ⊎_elim, ℕ, zero, suc, ◌+◌, ◌-◌, ◌^◌, ◌≤◌, ◌<◌, Bool, true, false, not, nat_lt, nat_eq, ◌==◌, if◌then◌else◌, List, [], ◌∷◌, ◌++◌, length, take, drop, Ok, Err, Result, is_ok, refl, sym, ◌∙◌, ap, subst, arith, length-append, length-take, length-drop, take-append-drop}
+use Rattle.std.proofs.Common.{◌≡◌, ◌≢◌, inl, inr, ℕ, zero, suc, ◌+◌, ◌^◌, ◌≤◌, ◌<◌, true, false, not, ◌==◌, if◌then◌else◌, List, [], ◌∷◌, ◌++◌, length, take, drop, Ok, Err, Result, is_ok, refl, sym, ◌∙◌, ap, subst, arith, length-append, length-take, length-drop, take-append-drop}
 use Rattle.std.specs.Int.{from_le_bytes, to_le_bytes, w32}
 use Rattle.std.proofs.lemmas.Nat.{from_le_bytes-to_le_bytes_4}
-use Rattle.std.proofs.lemmas.Bool.{cases_eq, cases_Bool, lt-ltb, ltb-true, true≢false, false≢true}
+use Rattle.std.proofs.lemmas.Bool.{cases_eq, cases_Bool, lt-ltb, ltb-true, false≢true}
 use Rattle.std.proofs.lemmas.Bool.Decides.{nat_tests}
 use Rattle.std.proofs.lemmas.List.{append_assoc, append-nil, take_at, drop_at, drop-drop}
 use Rattle.std.specs.Result.{result_unwrap_or}
@@ -82,7 +82,7 @@ read_front [] front (suc most) place gate behind is shut enough = rw is (shut_ga
 read_front (payload ∷ rest) front (suc most) place gate behind (size, more, four, says, is, within) shut enough =
     let after = more ++ gate ∷ behind in
     let bytes_are : front ++ gate ∷ behind ≡ 1 ∷ (size ++ (payload ++ after)) =
-        ap (λ (l : List ℕ). l ++ gate ∷ behind) is ∙ ap (λ (l : List ℕ). 1 ∷ l) (append_assoc size (payload ++ more) (gate ∷ behind) ∙ ap (λ (l : List ℕ). size ++ l) (append_assoc payload more (gate ∷ behind))) in
+    ap (λ (l : List ℕ). l ++ gate ∷ behind) is ∙ ap (λ (l : List ℕ). 1 ∷ l) (append_assoc size (payload ++ more) (gate ∷ behind) ∙ ap (λ (l : List ℕ). size ++ l) (append_assoc payload more (gate ∷ behind))) in
     let counts = ap length bytes_are in
     let size_parts = length-append size (payload ++ after) in
     let payload_parts = length-append payload after in
@@ -126,7 +126,7 @@ in_front_ok payload (Err place) payloads same = absurd (err_not_ok place payload
 -- bytes that begin with a whole open frame
 pub frame_parts : (rest : List ℕ) → is_whole rest ≡ true
     → (length (take 4 rest) ≡ 4) × (payload_length rest ≡ length (take (payload_length rest) (drop 4 rest)))
-      × (rest ≡ take 4 rest ++ (take (payload_length rest) (drop 4 rest) ++ drop (4 + payload_length rest) rest)) × (0 < length (drop (4 + payload_length rest) rest))
+    × (rest ≡ take 4 rest ++ (take (payload_length rest) (drop 4 rest) ++ drop (4 + payload_length rest) rest)) × (0 < length (drop (4 + payload_length rest) rest))
 frame_parts rest whole =
     let fits = ltb-true (4 + payload_length rest) (length rest) whole in
     let inner = length-drop 4 rest in
@@ -145,24 +145,24 @@ at_gate (suc most) place (gate ∷ rest) payloads reads some enough = elim (case
       let none : [] ≡ payloads = same_ok [] payloads (sym (shut_gate most place gate rest shut) ∙ reads) in
       record { front = []; gate = gate; behind = rest; split = refl; front_is = subst (λ l. IsFront l []) none refl; shut = shut }
   | inl is_open ↦ elim (cases_Bool (is_whole rest)) [
-      | inr short ↦ absurd (err_not_ok place payloads (sym (open_damaged most place gate rest is_open short) ∙ reads))
-      | inl whole ↦
-          let payload = take (payload_length rest) (drop 4 rest) in
-          let after = drop (4 + payload_length rest) rest in
-          let parts = frame_parts rest whole in
-          let found = in_front_ok payload (frames_from most (place + 5 + payload_length rest) after) payloads (sym (open_whole most place gate rest is_open whole) ∙ reads) in
-          let inner = at_gate most (place + 5 + payload_length rest) after found.0 found.1 parts.3 (omega (arith, length-drop (4 + payload_length rest) rest)) in
-          let rest_is : rest ≡ (take 4 rest ++ (payload ++ inner.front)) ++ inner.gate ∷ inner.behind =
-              parts.2 ∙ ap (λ (l : List ℕ). take 4 rest ++ (payload ++ l)) inner.split
-              ∙ ap (λ (l : List ℕ). take 4 rest ++ l) (sym (append_assoc payload inner.front (inner.gate ∷ inner.behind)))
-              ∙ sym (append_assoc (take 4 rest) (payload ++ inner.front) (inner.gate ∷ inner.behind)) in
-          record {
-            front = 1 ∷ (take 4 rest ++ (payload ++ inner.front));
-            gate = inner.gate;
-            behind = inner.behind;
-            split = (λ i. is_open i ∷ rest_is i);
-            front_is = subst (λ l. IsFront l (1 ∷ (take 4 rest ++ (payload ++ inner.front)))) (sym found.2) (take 4 rest, inner.front, parts.0, parts.1, refl, inner.front_is);
-            shut = inner.shut;
-          }
-    ]
+    | inr short ↦ absurd (err_not_ok place payloads (sym (open_damaged most place gate rest is_open short) ∙ reads))
+    | inl whole ↦
+        let payload = take (payload_length rest) (drop 4 rest) in
+        let after = drop (4 + payload_length rest) rest in
+        let parts = frame_parts rest whole in
+        let found = in_front_ok payload (frames_from most (place + 5 + payload_length rest) after) payloads (sym (open_whole most place gate rest is_open whole) ∙ reads) in
+        let inner = at_gate most (place + 5 + payload_length rest) after found.0 found.1 parts.3 (omega (arith, length-drop (4 + payload_length rest) rest)) in
+        let rest_is : rest ≡ (take 4 rest ++ (payload ++ inner.front)) ++ inner.gate ∷ inner.behind =
+        parts.2 ∙ ap (λ (l : List ℕ). take 4 rest ++ (payload ++ l)) inner.split
+        ∙ ap (λ (l : List ℕ). take 4 rest ++ l) (sym (append_assoc payload inner.front (inner.gate ∷ inner.behind)))
+        ∙ sym (append_assoc (take 4 rest) (payload ++ inner.front) (inner.gate ∷ inner.behind)) in
+        record {
+          front = 1 ∷ (take 4 rest ++ (payload ++ inner.front));
+          gate = inner.gate;
+          behind = inner.behind;
+          split = (λ i. is_open i ∷ rest_is i);
+          front_is = subst (λ l. IsFront l (1 ∷ (take 4 rest ++ (payload ++ inner.front)))) (sym found.2) (take 4 rest, inner.front, parts.0, parts.1, refl, inner.front_is);
+          shut = inner.shut;
+        }
+  ]
 ]

@@ -1,14 +1,13 @@
 -- What images of a journal stand for.
-use Rattle.std.proofs.Common.{◌≡◌, ◌≢◌, ◌⊎◌, inl, inr, ⊎_elim, ℕ, suc, ◌+◌, ◌-◌, ◌^◌, ◌≤◌, ◌<◌, min, max, true, false, nat_le, bytes_eq, List, [], ◌∷◌, ◌++◌, length, take, drop, get_or, Ok, Err, Result, Option, Some, None, refl, sym, ◌∙◌, ap, subst, arith, length-append, length-take, length-drop, take-append-drop}
+use Rattle.std.proofs.Common.{◌≡◌, ◌≢◌, inl, inr, ⊎_elim, ℕ, ◌+◌, ◌≤◌, ◌<◌, true, false, bytes_eq, List, [], ◌∷◌, ◌++◌, length, take, drop, Ok, Err, Result, refl, sym, ◌∙◌, ap, subst, arith, length-append, length-take, length-drop, take-append-drop}
 use Rattle.std.specs.Result.{result_unwrap_or}
-use Rattle.std.proofs.lemmas.Bool.{cases_eq, cases_lt, le-leb, lt-leb, cases_Bool}
-use Rattle.std.proofs.lemmas.List.{append_assoc, append-nil, take_at, drop_at, drop-drop, take_all, drop_all, drop_more, take-append-le, nil_from_length, take-take}
+use Rattle.std.proofs.lemmas.Bool.{cases_lt, le-leb, lt-leb, cases_Bool}
+use Rattle.std.proofs.lemmas.List.{append_assoc, take_at, nil_from_length}
 use Rattle.std.proofs.lemmas.Slice.Eq.{bytes_eq-Decides}
-use Rattle.qz_disks.specs.Disks.{overwritten, Torn, Cut, IsDurable}
-use Rattle.qz_disks.specs.Keepers.{with_one_more}
-use Rattle.qz_journal.specs.Frames.{header, open_frame, frames_from, stands_for}
-use Rattle.qz_journal.specs.Journals.{gate_behind, payloads_before, StandsFor, IsAtRest}
-use Rattle.qz_journal.proofs.Fronts.{IsFront, length-front, one_frame, front_and, Parted, parted, read_front, AtGate, at_gate, same_ok, err_not_ok}
+use Rattle.qz_disks.specs.Disks.{IsDurable}
+use Rattle.qz_journal.specs.Frames.{header, frames_from, stands_for}
+use Rattle.qz_journal.specs.Journals.{gate_behind, payloads_before, IsAtRest}
+use Rattle.qz_journal.proofs.Fronts.{IsFront, length-front, parted, read_front, at_gate, same_ok, err_not_ok}
 
 -- the two readings of an image
 
@@ -28,9 +27,9 @@ gate_least (payload ∷ rest) = omega (arith, gate_least rest)
 -- a header, open frames, and a gate that isn't open, whatever stands behind it
 pub framed : (payloads : List (List ℕ)) (front : List ℕ) (gate : ℕ) (behind : List ℕ) → IsFront payloads front → gate ≢ 1 → stands_for (header ++ (front ++ gate ∷ behind)) ≡ Ok payloads
 framed [] front gate behind is shut = ⊎_elim
-  (λ long. long_image (header ++ (front ++ gate ∷ behind)) long refl ∙ read_front [] front (length (header ++ (front ++ gate ∷ behind))) 8 gate behind is shut (omega arith))
-  (λ short. short_image (header ++ (front ++ gate ∷ behind)) short)
-  (cases_lt 9 (length (header ++ (front ++ gate ∷ behind))))
+    (λ long. long_image (header ++ (front ++ gate ∷ behind)) long refl ∙ read_front [] front (length (header ++ (front ++ gate ∷ behind))) 8 gate behind is shut (omega arith))
+    (λ short. short_image (header ++ (front ++ gate ∷ behind)) short)
+    (cases_lt 9 (length (header ++ (front ++ gate ∷ behind))))
 framed (payload ∷ rest) front gate behind is shut =
     let size = length-front (payload ∷ rest) front is in
     let parts = length-append front (gate ∷ behind) in
@@ -73,10 +72,11 @@ kept_before image payloads more gate stands place = ap (λ (r : Result (List (Li
         let p = parted payloads more f.front f.front_is in
         let size = length-front payloads p.first p.first_is in
         let split : image ≡ (header ++ p.first) ++ (p.second ++ f.gate ∷ f.behind) =
-            f.split ∙ ap (λ (l : List ℕ). header ++ (l ++ f.gate ∷ f.behind)) p.split
-            ∙ ap (λ (l : List ℕ). header ++ l) (append_assoc p.first p.second (f.gate ∷ f.behind)) in
+        f.split ∙ ap (λ (l : List ℕ). header ++ (l ++ f.gate ∷ f.behind)) p.split
+        ∙ ap (λ (l : List ℕ). header ++ l) (append_assoc p.first p.second (f.gate ∷ f.behind)) in
         let front : take gate image ≡ header ++ p.first = ap (λ (l : List ℕ). take gate l) split ∙ take_at (header ++ p.first) (p.second ++ f.gate ∷ f.behind) gate (omega (arith, size, place)) in
         ap (λ (l : List ℕ). stands_for (l ++ 0 ∷ [])) front ∙ framed payloads p.first 0 [] p.first_is (omega arith)
+
     short : length image ≤ 9 → stands_for (take gate image ++ 0 ∷ []) ≡ Ok payloads
     short le = none payloads more place (same_ok [] (payloads ++ more) (sym (short_image image le) ∙ stands))
       where
@@ -114,6 +114,7 @@ resting payloads place bytes outcomes rest stands at = ⊎_elim long short (case
           shut = f.shut;
           size = omega (arith, size, at);
         }
+
     short : length bytes ≤ 9 → Resting payloads place bytes
     short le =
         let whole = file_size place rest.shut bytes rest.file in
@@ -140,6 +141,7 @@ at_rest payloads place bytes outcomes r durable = record {
   where
     joined : bytes ≡ (header ++ r.front) ++ r.gate ∷ []
     joined = r.split
+
     front : take place bytes ≡ header ++ r.front
     front = ap (λ (l : List ℕ). take place l) joined ∙ take_at (header ++ r.front) (r.gate ∷ []) place (let size = r.size in omega (arith, size))
 

@@ -1,15 +1,15 @@
 -- What stays kept in a run of calls, in the words of a disk that may tell its bytes.
-use Rattle.std.proofs.Common.{◌≡◌, ◌⊎◌, inl, inr, ⊎_elim, ℕ, ◌+◌, ◌-◌, ◌^◌, ◌≤◌, ◌<◌, Bool, true, false, is_some, is_none, List, [], ◌∷◌, ◌++◌, length, take, drop, Ok, Err, Option, Some, None, option_map, IfSome, refl, sym, ◌∙◌, ap, subst, arith, length-append}
+use Rattle.std.proofs.Common.{◌≡◌, inl, inr, ⊎_elim, ℕ, ◌+◌, ◌-◌, false, is_some, is_none, List, [], ◌∷◌, ◌++◌, length, Ok, Option, Some, None, option_map, IfSome, refl, sym, ◌∙◌, ap, subst, arith, length-append}
 use Rattle.std.specs.Int.{to_le_bytes, w32}
 use Rattle.std.proofs.lemmas.Bool.{cases_lt, true≢false, false≢true}
-use Rattle.std.proofs.lemmas.List.{append-nil, append_assoc, take_at, drop_at}
-use Rattle.qz_disks.specs.Disks.{Same, Elapses, LeavesOnly, IsDurable}
+use Rattle.std.proofs.lemmas.List.{append-nil, take_at}
+use Rattle.qz_disks.specs.Disks.{Same, Elapses, LeavesOnly}
 use Rattle.qz_disks.specs.Keepers.{with_one_more, MayStand}
-use Rattle.qz_disks.proofs.Moments.{started, one_call, goes_on, at_end, run_end}
+use Rattle.qz_disks.proofs.Moments.{started, one_call, run_end}
 use Rattle.qz_journal.specs.Frames.{shut_frame, stands_for}
-use Rattle.qz_journal.specs.Journals.{gate_behind, payloads_of, payloads_before, payload_of, StandsFor, StandFor, StandsAs, StandsLike, IsAtRest, IsKept, IsLoaded, IsRead}
+use Rattle.qz_journal.specs.Journals.{gate_behind, payloads_before, payload_of, StandsFor, StandFor, StandsAs, StandsLike, IsAtRest, IsKept, IsLoaded, IsRead}
 use Rattle.qz_journal.proofs.Fronts.{same_ok}
-use Rattle.qz_journal.proofs.Images.{kept_before, Resting, resting}
+use Rattle.qz_journal.proofs.Images.{kept_before, resting}
 use Rattle.qz_journal.proofs.Calls.{kept_resting}
 
 -- one run behind another
@@ -17,9 +17,9 @@ pub runs_on : (P Q : List ℕ → Type 0) (a b c : ℕ) (p q r : ℕ → List �
 runs_on P Q a b c p q r first second gives = record {
   later = omega (arith, first.later, second.later);
   each = λ t x lower upper left. ⊎_elim
-    (λ past_it. gives x (second.each t x (omega arith) upper left))
-    (λ within. first.each t x lower within (second.adds_nothing t x within left))
-    (cases_lt b t);
+      (λ past_it. gives x (second.each t x (omega arith) upper left))
+      (λ within. first.each t x lower within (second.adds_nothing t x within left))
+      (cases_lt b t);
   adds_nothing = λ t x le left. first.adds_nothing t x le (second.adds_nothing t x (omega (arith, first.later)) left);
 }
 
@@ -133,6 +133,7 @@ append_doubtful o mid n gate b c doubt written before q r same tells kept put no
     places : (o : Option (List ℕ)) → IfSome o (IsKept gate doubt before) → IfSome o (λ bytes. gate ≡ gate_behind (payloads_before gate bytes))
     places None kept = kept
     places (Some bytes) kept = kept.place
+
     stands : (o : Option (List ℕ)) → IfSome o (λ bytes. LeavesOnly (StandsFor (payloads_before gate bytes) (Some written)) b c q r) → IfSome o (λ bytes. StandFor (payloads_before gate bytes) (Some written) (r c))
     stands None put = put
     stands (Some bytes) put = record { each = run_end (StandsFor (payloads_before gate bytes) (Some written)) b c q r put }
@@ -149,6 +150,7 @@ reopen_still o mid n gate b c doubt before q r same tells now kept mended later 
     places : (o : Option (List ℕ)) → IfSome o (IsKept gate doubt before) → IfSome o (λ bytes. gate ≡ gate_behind (payloads_before gate bytes))
     places None kept = kept
     places (Some bytes) kept = kept.place
+
     stands : (o : Option (List ℕ)) → IfSome o before → IfSome o (IsKept gate doubt before) → IfSome o (λ bytes. LeavesOnly (StandsLike bytes) b c q r) → IfSome o (λ bytes. StandFor (payloads_before gate bytes) doubt (r c))
     stands None now kept run = run
     stands (Some bytes) now kept run = record { each = λ x left. like_stands (payloads_before gate bytes) doubt bytes x (stands_now bytes x b c q r run left) (kept.stand.each bytes now) }

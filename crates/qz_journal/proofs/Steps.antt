@@ -1,9 +1,9 @@
 -- Reading frame by frame.
-use Rattle.std.proofs.Common.{◌≡◌, ◌≢◌, ℕ, zero, suc, ◌+◌, ◌-◌, ◌≤◌, ◌<◌, ◌==◌, if◌then◌else◌, Bool, true, false, nat_lt, nat_le, List, [], ◌∷◌, ◌++◌, length, take, drop, get_or, Ok, Err, Result, Option, Some, None, IfSome, refl, sym, ◌∙◌, ap, subst, arith, length-append, length-take, length-drop, take-append-drop}
+use Rattle.std.proofs.Common.{◌≡◌, ℕ, ◌+◌, ◌<◌, true, List, [], ◌∷◌, ◌++◌, length, take, drop, get_or, Ok, Err, Result, Option, Some, None, IfSome, refl, sym, ◌∙◌, ap, subst, arith, length-take, length-drop}
 use Rattle.std.specs.Int.{from_le_bytes, w32}
-use Rattle.std.proofs.lemmas.Bool.{cases_eq, lt-ltb, le-leb, lt-leb}
+use Rattle.std.proofs.lemmas.Bool.{lt-ltb}
 use Rattle.std.proofs.lemmas.Bool.Decides.{nat_tests}
-use Rattle.std.proofs.lemmas.List.{append_assoc, append-nil, take-take, drop-drop, drop_more, drop-take}
+use Rattle.std.proofs.lemmas.List.{append_assoc, append-nil, take-take, drop-drop, drop_more}
 use Rattle.qz_journal.specs.Frames.{header, in_front, payload_length, is_whole, frames_from, stands_for}
 use Rattle.qz_journal.specs.Journals.{gate_behind, frames_at, StandsAt, NextFrame, length_behind, IsRead, TellsDamage}
 use Rattle.qz_journal.specs.declared.fault.JournalFault.{JournalFault}

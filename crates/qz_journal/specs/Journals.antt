@@ -1,5 +1,5 @@
 -- What a journal on a disk keeps: its list, the place of the closed gate behind it, and the payload in doubt.
-use Rattle.std.specs.Prelude.{◌≡◌, ◌⊎◌, ◌≢◌, ℕ, ◌+◌, ◌^◌, ◌<◌, List, [], ◌∷◌, ◌++◌, ◌-◌, ◌≤◌, length, take, drop, Option, Some, None, Ok, Err, Result, IsErrOf, ⊤, ◌==◌, if◌then◌else◌}
+use Rattle.std.specs.Prelude.{◌≡◌, ◌⊎◌, ◌≢◌, ℕ, ◌+◌, ◌<◌, List, [], ◌∷◌, ◌++◌, ◌-◌, ◌≤◌, length, take, drop, Option, Some, None, Ok, Err, Result, IsErrOf, ⊤, ◌==◌, if◌then◌else◌}
 use Rattle.std.specs.Int.{from_le_bytes, w32}
 use Rattle.std.specs.Result.{result_unwrap_or}
 use Rattle.qz_disks.specs.Disks.{IsDurable}

@@ -66,10 +66,7 @@ impl<D: Disk> Journal<D> {
     ///
     /// An error gives the disk back. `Fault`: the disk failed. `Damaged`: the bytes are, and nothing was written.
     /// `Memory`: nothing was written.
-    pub fn load(
-        alloc: Global,
-        disk: D,
-    ) -> Result<(Journal<D>, Listed<Bytes>), (D, JournalFault)>
+    pub fn load(alloc: Global, disk: D) -> Result<(Journal<D>, Listed<Bytes>), (D, JournalFault)>
         ensures list { IfOk result (λ made.
             IfSome (D.reads disk) (λ bytes. stands_for bytes ≡ Ok made.1)) }
         ensures kept { IfOk result (λ made.
@@ -134,7 +131,7 @@ fn put<D: Disk>(disk: &mut D, gate: u64, frame: &[u8]) -> Result<(), Failed>
     requires room { HasRoom 4 (length frame.now) (D.room disk.old) }
     ensures put { OnOk result (IfSome (D.reads disk.old) (λ bytes. IfSome (D.reads disk.new)
         (IsPut gate (payload_of frame.now) (payloads_before gate bytes)
-            (D.left_at disk.new (D.moment disk.new))))) }
+        (D.left_at disk.new (D.moment disk.new))))) }
     ensures bound { OnOk result (gate + 1 + length frame.now < 2 ^ 64) }
     ensures tells { is_some (D.reads disk.new) ≡ is_some (D.reads disk.old) }
     ensures crash { IfSome (D.reads disk.old) (λ bytes. LeavesOnly
@@ -213,7 +210,7 @@ impl<D: Disk> Keeper for Journal<D> {
         // From then on each crash leaves the payload.
         ensures acknowledged { OnOk result (IfSome self.old.kept (λ payloads.
             StandFor (with_one_more payload.now payloads) None
-                (D.left_at self.new.disk (D.moment self.new.disk)))) }
+            (D.left_at self.new.disk (D.moment self.new.disk)))) }
     {
         let gate = self.gate;
         let frame = framed(alloc, payload)?;

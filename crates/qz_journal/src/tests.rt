@@ -1,3 +1,5 @@
+ghost use Rattle.std.specs.Prelude.{◌≡◌, None, IfOk};
+
 use super::*;
 use qz_disks::{Fill, KeepErr, Keeper, MemoryDisk};
 use qz_text::{Bytes, Listed};
@@ -7,7 +9,9 @@ use std::test::Fail;
 type Loaded = Result<(Journal<MemoryDisk>, Listed<Bytes>), JournalFault>;
 
 // The journal of a file with these bytes, on a disk whose calls of these numbers fail.
-fn loaded(alloc: Global, image: &[u8], failing: &[u64]) -> Loaded {
+fn loaded(alloc: Global, image: &[u8], failing: &[u64]) -> Loaded
+    ensures { IfOk result (λ made. made.0.doubt ≡ None) }
+{
     let items = Vec::from_slice(alloc, failing)?;
     let disk = MemoryDisk::holding(alloc, image, Listed { items })?;
     match Journal::load(alloc, disk) {
@@ -56,7 +60,10 @@ fn images_are_judged(rt: HostRuntime) -> Result<(), Fail> {
         (b"QZJ1\x01\0\0\0\x01\x01\0\0\0\x09\x01\x02\0\0\0\x09\0", 14),
     ];
     for (image, place) in rows {
-        assert_eq!(rt; loaded(alloc, image, &[]).err(), Some(JournalFault::Damaged { place }));
+        assert_eq!(rt;
+            loaded(alloc, image, &[]).err(),
+            Some(JournalFault::Damaged { place })
+        );
     }
     Ok(())
 }
@@ -66,15 +73,26 @@ fn each_call_fails_in_turn(rt: HostRuntime) -> Result<(), Fail> {
     let alloc = rt.alloc();
     // Loading an empty file makes five calls: sync, size, cut, write, sync.
     for number in 1..6 {
-        assert_eq!(rt; loaded(alloc, b"", &[number]).err(), Some(JournalFault::Fault));
+        assert_eq!(rt;
+            loaded(alloc, b"", &[number]).err(),
+            Some(JournalFault::Fault)
+        );
     }
     // An append makes four: frame, sync, gate, sync. Only where the last one fails is the payload kept.
     for (number, count) in [(6, 0), (7, 0), (8, 0), (9, 1)] {
         let (mut journal, _) = loaded(alloc, b"", &[number])?;
-        assert_eq!(rt; journal.append(alloc, b"one"), Err(KeepErr::Fault), "call {number}");
+        assert_eq!(rt;
+            journal.append(alloc, b"one"),
+            Err(KeepErr::Fault),
+            "call {number}"
+        );
         assert_eq!(rt; journal.reopen(alloc)?.items.len(), count, "call {number}");
         journal.append(alloc, b"two")?;
-        assert_eq!(rt; journal.reopen(alloc)?.items.len(), count + 1, "call {number}");
+        assert_eq!(rt;
+            journal.reopen(alloc)?.items.len(),
+            count + 1,
+            "call {number}"
+        );
         let disk = journal.into_disk();
         let (_, payloads) = loaded(alloc, disk.bytes(), &[])?;
         assert_eq!(rt; payloads.items.len(), count + 1, "call {number}");
@@ -98,7 +116,10 @@ fn each_stop_leaves_the_payload_or_not(rt: HostRuntime) -> Result<(), Fail> {
         let (mut journal, _) = loaded(alloc, b"", &[number])?;
         assert_eq!(rt; journal.append(alloc, b"one").is_ok(), number == 10);
         let disk = journal.into_disk();
-        for (fill, count) in [Fill::Old, Fill::New, Fill::Ones, Fill::Full].into_iter().zip(counts) {
+        for (fill, count) in [Fill::Old, Fill::New, Fill::Ones, Fill::Full]
+            .into_iter()
+            .zip(counts)
+        {
             let left = disk.stopped(alloc, fill)?;
             let (_, payloads) = loaded(alloc, left.bytes(), &[])?;
             assert_eq!(rt; payloads.items.len(), count, "call {number}");

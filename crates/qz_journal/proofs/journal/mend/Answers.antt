@@ -1,4 +1,4 @@
-use Rattle.std.proofs.Common.{rules, arith}
+use Rattle.std.proofs.Common.{arith}
 use Rattle.qz_journal.proofs.Calls.{mend_place, mend_rests, mend_cut, mend_emptied, mend_begun}
 use Rattle.qz_journal.proofs.Results.{on_ok_both}
 use Rattle.qz_journal.proofs.journal.mend.Goals as goal

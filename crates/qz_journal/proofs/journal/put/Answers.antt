@@ -1,4 +1,3 @@
-use Rattle.std.proofs.Common.{rules, arith}
 use Rattle.qz_journal.specs.Journals.{payload_of}
 use Rattle.qz_journal.proofs.Calls.{put_behind, put_opened, put_kept}
 use Rattle.qz_journal.proofs.Results.{on_ok_both}

@@ -1,4 +1,3 @@
-use Rattle.std.proofs.Common.{rules, arith}
 use Rattle.qz_journal.proofs.Keeping.{recover_crash, recover_loaded}
 use Rattle.qz_journal.proofs.journal.recover.Goals as goal
 

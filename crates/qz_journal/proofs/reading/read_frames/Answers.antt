@@ -1,8 +1,7 @@
-use Rattle.std.proofs.Common.{rules, ◌≡◌, ◌+◌, ◌++◌, ◌∷◌, [], length, ◌∙◌, ap, arith}
+use Rattle.std.proofs.Common.{rules, ◌≡◌, length, ◌∙◌, ap, arith}
 use Rattle.qz_disks.specs.Disks.{Same}
 use Rattle.qz_disks.proofs.Moments.{then_same, same_whole}
-use Rattle.qz_journal.specs.Frames.{header}
-use Rattle.qz_journal.proofs.Steps.{SoFar, none_yet, one_more}
+use Rattle.qz_journal.proofs.Steps.{none_yet, one_more}
 use Rattle.qz_journal.proofs.reading.read_frames.Goals as goal
 
 pub loop-payloads-init : goal.loop-payloads-init

@@ -1,4 +1,4 @@
-use Rattle.std.proofs.Common.{◌≡◌, ◌+◌, [], ◌∷◌, ◌++◌, length, vec_len, ◌∙◌, ap, Some, arith, rules}
+use Rattle.std.proofs.Common.{◌≡◌, ◌+◌, [], ◌∷◌, ◌++◌, length, vec_len, ap, arith, rules}
 use Rattle.qz_disks.specs.Changes.{Wrote}
 use Rattle.qz_disks.specs.Log.{told}
 use Rattle.qz_disks.proofs.Pieces.{length-overwritten}
@@ -24,13 +24,12 @@ invariant_of-self-2 c =
     let now : vec_len c.overwrite.new.bytes ≡ length (c.overwrite.new.bytes).items = search rules in
     let wider = length-overwritten c.args.at c.args.piece.now s.bytes.items (omega (arith, size)) in
     let after = ap length c.overwrite.ensures.items in
-    let longer : vec_len c.extend_from_slice.new.self ≡ vec_len s.written + length c.args.piece.now = rw c.unwrap.ensures at c.extend_from_slice.ensures.len in
-    (
+    let longer : vec_len c.extend_from_slice.new.self ≡ vec_len s.written + length c.args.piece.now = rw c.unwrap.ensures at c.extend_from_slice.ensures.len in (
       rw (c.overwrite.ensures.items, rw c.unwrap.ensures at c.extend_from_slice.ensures.items, c.push_reserved.ensures.items) (logged_wrote s.bytes.items s.written.items c.args.piece.now s.log.items c.args.at _ c.self.invariant.0 (search rules)),
       rw c.push_reserved.ensures.capacity (capacity_wrote s.calls_left s.bytes_left _ _ _ _ _ _ _ _ _ _ _ _ (length c.args.piece.now) c.self.invariant.1 some
-        (omega (arith, s.bytes.ok.0))
-        (omega (arith, s.bytes.ok.0))
-        c.overwrite.ensures.capacity longer c.extend_from_slice.ensures.capacity c.push_reserved.ensures.len),
+          (omega (arith, s.bytes.ok.0))
+          (omega (arith, s.bytes.ok.0))
+          c.overwrite.ensures.capacity longer c.extend_from_slice.ensures.capacity c.push_reserved.ensures.len),
     )
 
 pub returns-clause-written : goal.returns-clause-written

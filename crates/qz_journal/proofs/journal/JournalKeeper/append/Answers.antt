@@ -1,4 +1,4 @@
-use Rattle.std.proofs.Common.{rules, ◌≡◌, None, Some, option_map, ◌∙◌, ap, arith}
+use Rattle.std.proofs.Common.{Some, ◌∙◌, ap}
 use Rattle.qz_journal.specs.Journals.{payload_of}
 use Rattle.qz_journal.proofs.Keeping.{payload_framed, append_started, append_run, append_doubtful}
 use Rattle.qz_journal.proofs.journal.JournalKeeper.append.Goals as goal
@@ -9,8 +9,7 @@ returns-in_err-frame-clause-any_moment g c =
 
 pub invariant_of-self-in-Err : goal.invariant_of-self-in-Err
 invariant_of-self-in-Err g c =
-    let made = c.in_ok-reserve.ensures in
-    (
+    let made = c.in_ok-reserve.ensures in (
       rw (← c.as_slice.ensures) (append_doubtful _ _ _ c.self.inside.gate _ _ _ (payload_of c.as_slice.result.now) _ _ _ made.reads c.put.ensures.tells c.self.invariant.0 c.put.ensures.crash (g.met.D.Disk.reads_now c.put.new.disk)).0,
       c.self.invariant.1,
     )
@@ -19,7 +18,7 @@ pub returns-in-Ok-clause-any_moment : goal.returns-in-Ok-clause-any_moment
 returns-in-Ok-clause-any_moment g c =
     let made = c.in_ok-reserve.ensures in
     rw (← c.self.view_is) (append_run _ _ c.self.inside.gate _ _ _ _ c.args.payload.now (payload_of c.as_slice.result.now) _ _ _ made.reads c.self.invariant.0 (rw (← c.self.view_is) at c.requires.settled)
-        (ap payload_of (c.as_slice.ensures ∙ c.in_ok-frame.ensures) ∙ payload_framed c.args.payload.now) made.crash c.put.ensures.crash)
+    (ap payload_of (c.as_slice.ensures ∙ c.in_ok-frame.ensures) ∙ payload_framed c.args.payload.now) made.crash c.put.ensures.crash)
 
 pub returns-in-Err-clause-list : goal.returns-in-Err-clause-list
 returns-in-Err-clause-list g c =
@@ -33,4 +32,4 @@ pub returns-in-Err-clause-any_moment : goal.returns-in-Err-clause-any_moment
 returns-in-Err-clause-any_moment g c =
     let made = c.in_ok-reserve.ensures in
     rw (← c.self.view_is) (append_run _ _ c.self.inside.gate _ _ _ _ c.args.payload.now (payload_of c.as_slice.result.now) _ _ _ made.reads c.self.invariant.0 (rw (← c.self.view_is) at c.requires.settled)
-        (ap payload_of (c.as_slice.ensures ∙ c.in_ok-frame.ensures) ∙ payload_framed c.args.payload.now) made.crash c.put.ensures.crash)
+    (ap payload_of (c.as_slice.ensures ∙ c.in_ok-frame.ensures) ∙ payload_framed c.args.payload.now) made.crash c.put.ensures.crash)

@@ -6,8 +6,7 @@ use Rattle.qz_journal.proofs.journal.JournalKeeper.reopen.Goals as goal
 pub invariant_of-self-in_err-mend-in-Ok : goal.invariant_of-self-in_err-mend-in-Ok
 invariant_of-self-in_err-mend-in-Ok g c =
     let read = c.in-Ok.ensures in
-    let some : is_none c.self.inside.doubt ≡ false = search rules in
-    (
+    let some : is_none c.self.inside.doubt ≡ false = search rules in (
       (reopen_still _ _ _ c.self.inside.gate _ _ _ _ _ _ read.reads c.mend.ensures.tells (g.met.D.Disk.reads_now c.self.inside.disk) c.self.invariant.0 c.mend.ensures.crash (g.met.D.Disk.reads_now c.mend.new.disk) (doubtful c.self.inside.doubt some)).0,
       c.self.invariant.1,
     )
@@ -30,8 +29,7 @@ returns-in_err-mend-in-Ok-clause-any_moment g c =
 pub invariant_of-self-in-Ok : goal.invariant_of-self-in-Ok
 invariant_of-self-in-Ok g c =
     let read = c.in-Ok.ensures in
-    let loaded = recover_loaded _ _ _ _ _ _ _ _ _ _ read.reads c.mend.ensures.tells read.found c.mend.ensures.crash c.in_ok-mend-in-Ok.ensures.rests (g.met.D.Disk.reads_now c.mend.new.disk) in
-    (
+    let loaded = recover_loaded _ _ _ _ _ _ _ _ _ _ read.reads c.mend.ensures.tells read.found c.mend.ensures.crash c.in_ok-mend-in-Ok.ensures.rests (g.met.D.Disk.reads_now c.mend.new.disk) in (
       (loaded_kept _ _ c.self.inside.gate _ _ _ (c.mend.ensures.tells ∙ ap is_some read.reads) loaded).0,
       read.bound,
     )
