@@ -31,8 +31,8 @@ not_begun bytes h begins is = is.no_head h begins.0 begins.1
 goes_on_or_never : (bytes : List ℕ) → IsUnfinished bytes → IsHopeless (first_bytes bytes) → ⊥
 goes_on_or_never bytes unfinished is =
     elim unfinished.goes_on [
-      inl some ↦ is.never some.0 some.1 [] some.2
-    | inr inside ↦ false≢true (sym inside ∙ is.past)
+      | inl some ↦ is.never some.0 some.1 [] some.2
+      | inr inside ↦ false≢true (sym inside ∙ is.past)
     ]
 
 one_fault : (bytes : List ℕ) (h k : RequestHead) (o p : Option ℕ) → BeginsWith bytes h → BeginsWith bytes k → head_fault h ≡ o → head_fault k ≡ p → o ≡ p

@@ -47,12 +47,12 @@ pub user-new : (x : ℕ) (us : List ℕ) (i : ℕ) → AreRising us → i ≤ le
 user-new x us i order inside lesser greater =
     let split = take-append-drop i us in
     let front : All (λ u. nat_lt u x ≡ true) (take i us) = λ k d within.
-        let long = length-take i us in
-        let less : k < i = omega arith in
-        rw (get_or-take i us k d less, get_or_default us k d 0 (omega arith)) (lt-ltb (get_or us k 0) x (lesser k less)) in
+    let long = length-take i us in
+    let less : k < i = omega arith in
+    rw (get_or-take i us k d less, get_or_default us k d 0 (omega arith)) (lt-ltb (get_or us k 0) x (lesser k less)) in
     let behind : All (λ u. nat_lt x u ≡ true) (drop i us) = λ k d within.
-        let long = length-drop i us in
-        rw (get_or-drop i us k d, get_or_default us (i + k) d 0 (omega arith)) (lt-ltb x (get_or us (i + k) 0) (greater (i + k) (omega arith) (omega arith))) in
+    let long = length-drop i us in
+    rw (get_or-drop i us k d, get_or_default us (i + k) d 0 (omega arith)) (lt-ltb x (get_or us (i + k) 0) (greater (i + k) (omega arith) (omega arith))) in
     let not_behind : All (λ u. nat_lt x u ≡ false) (take i us) = λ k d within. never (get_or (take i us) k d) x (front k d within) in
     record {
       placed_so = sym (ap (placed nat_lt x) (sym split) ∙ placed-between nat_lt x (take i us) (drop i us) front not_behind behind);

@@ -39,13 +39,7 @@ fn is_skipped(records: &[Record], job: u32, attempt: AttemptId, slot: u16) -> bo
 }
 
 /// Whether a slot is left to a job: it was bound before the job's position, and the job hasn't skipped it.
-fn is_target(
-    records: &[Record],
-    job: u32,
-    position: u64,
-    attempt: AttemptId,
-    slot: u16,
-) -> bool
+fn is_target(records: &[Record], job: u32, position: u64, attempt: AttemptId, slot: u16) -> bool
     ensures { result ≡ is_target records.now job position attempt slot }
 {
     match bound(records, attempt, slot) {

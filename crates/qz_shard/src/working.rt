@@ -41,9 +41,7 @@ fn is_done_in(job: u32, record: &Record) -> bool
 fn done_at(records: &[Record], job: u32) -> Option<usize>
     ensures { result ≡ position (is_done_in job) records.now }
 {
-    records
-        .iter()
-        .position(|record| is_done_in(job, record))
+    records.iter().position(|record| is_done_in(job, record))
 }
 
 /// The slot of a plan with this number, from 1.
