@@ -159,8 +159,8 @@ fn slots_onto(out: &mut String, parts: &[Part]) -> Result<(), NoMemory>
 }
 
 /// The page of an attempt, as HTML in UTF-8: the quiz's name, the attempt, when it is due in UTC, and for each slot the
-/// question's text, the state and the mark, and what else its state shows. No text of a quiz can end an element or begin
-/// one. Only want of memory is an error.
+/// question's text, the state and the mark as they are shown, the hint where there is one, and the feedbacks where that state
+/// shows them. Texts stand in it as [`escape`] leaves them. Only want of memory is an error.
 pub fn page(alloc: Global, done: &Done) -> Result<Text, NoMemory>
     requires { IsTrue (is_page done.now) }
     ensures { IfOk result (λ text. text ≡ page_text done.now) }
