@@ -1,5 +1,5 @@
 -- How a link ends.
-use Rattle.std.proofs.Common.{◌≡◌, ℕ, ◌-◌, Bool, true, List, [], ◌∷◌, drop, refl, sym, subst}
+use Rattle.std.proofs.Common.{◌≡◌, ℕ, ◌-◌, true, List, [], ◌∷◌, drop, refl, sym, subst}
 use Rattle.std.specs.Prelude.{Option, Some, None}
 use Rattle.qz_http.specs.declared.heads.Head.{Head}
 use Rattle.qz_http.specs.declared.items.Item.{Item}
@@ -31,17 +31,18 @@ ends_badly bytes more status is =
 -- a whole request stands at the front, and these come after it
 further : (bytes part : List ℕ) (len more : ℕ) (h : Head) (o : Option LinkEnd) (why : LinkEnd) → IsRequest bytes h part len → o ≡ end_after (more - 1) h.closes
     → ((at : Route) → (items : List Item) × Talks (link_at (drop len bytes) (more - 1) o at) items why) → EndsSo bytes more why
-further bytes part len more h o why is decided rest = record { so = λ at.
-    let given = item_of is.whole.read part in
-    let to = route_by (way_of h.target.now) in
-    let take = taken bytes part len given to h.closes h is refl refl refl in
-    let link = link_at bytes more None at in
-    let step : Gives link given (link_at (drop len bytes) (more - 1) o to) =
-        subst (λ e. Gives link given (link_at (drop len bytes) (more - 1) e to)) (sym decided) (takes given (drop len bytes) to h.closes refl take.1) in
-    let asks : is_request given ≡ true = taken_requests bytes (drop len bytes) given to h.closes take.1 in
-    let later = rest to in
-    (given ∷ later.0, request link (link_at (drop len bytes) (more - 1) o to) given later.0 why asks step later.1)
-  }
+further bytes part len more h o why is decided rest = record {
+  so = λ at.
+      let given = item_of is.whole.read part in
+      let to = route_by (way_of h.target.now) in
+      let take = taken bytes part len given to h.closes h is refl refl refl in
+      let link = link_at bytes more None at in
+      let step : Gives link given (link_at (drop len bytes) (more - 1) o to) =
+      subst (λ e. Gives link given (link_at (drop len bytes) (more - 1) e to)) (sym decided) (takes given (drop len bytes) to h.closes refl take.1) in
+      let asks : is_request given ≡ true = taken_requests bytes (drop len bytes) given to h.closes take.1 in
+      let later = rest to in
+      (given ∷ later.0, request link (link_at (drop len bytes) (more - 1) o to) given later.0 why asks step later.1);
+}
 
 pub ends_here : (bytes part : List ℕ) (len more : ℕ) (h : Head) (why : LinkEnd) → IsRequest bytes h part len → end_after (more - 1) h.closes ≡ Some why → EndsSo bytes more why
 ends_here bytes part len more h why is decided =

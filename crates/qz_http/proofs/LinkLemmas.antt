@@ -1,7 +1,7 @@
 -- The steps of a link.
 use Rattle.std.proofs.Common.{◌≡◌, ℕ, ◌<◌, ◌≤◌, Bool, List, ◌++◌, length, take, drop, sym, ap, subst, ◌∙◌, arith, length-append}
 use Rattle.std.proofs.lemmas.List.{drop-drop, length-drop, length-take}
-use Rattle.httparse.specs.Grammar.{RequestHead, print_request}
+use Rattle.httparse.specs.Grammar.{print_request}
 use Rattle.qz_http.specs.declared.heads.Head.{Head}
 use Rattle.qz_http.specs.declared.items.Item.{Item}
 use Rattle.qz_http.specs.declared.responses.Route.{Route}
@@ -9,7 +9,7 @@ use Rattle.qz_http.specs.Heads.{body_of, fields_of}
 use Rattle.qz_http.specs.Items.{item_of}
 use Rattle.qz_http.proofs.HeadLemmas.{body_within}
 use Rattle.qz_http.specs.Fronts.{IsRequest}
-use Rattle.qz_http.specs.Judgements.{IsHead, IsWhole}
+use Rattle.qz_http.specs.Judgements.{IsWhole}
 use Rattle.std.specs.Prelude.{Option, None, ◌-◌}
 use Rattle.qz_http.specs.declared.items.LinkEnd.{LinkEnd}
 use Rattle.qz_http.specs.declared.links.Step.{Step}
@@ -48,16 +48,18 @@ pub taken : (bytes part : List ℕ) (len : ℕ) (given : Item) (at : Route) (clo
 taken bytes part len given at closing h is told route_is closing_is =
     let whole = is.whole in
     let parts = whole.parts in
-    let behind : drop h.len bytes ≡ drop (head_length whole.read) bytes = ap (λ n. drop n bytes) parts.len in
-    (is.fits, record {
-      read = whole.read;
-      has_head = has_head bytes h whole;
-      whole = omega (arith, is.body_fits, parts.body, ap length behind);
-      given_is = told ∙ ap (λ b. item_of whole.read b) is.body_is ∙ ap (λ n. item_of whole.read (take n (drop h.len bytes))) parts.body ∙ ap (λ b. item_of whole.read (take (body_length whole.read) b)) behind;
-      rest_is = ap (λ n. drop n bytes) is.len_is ∙ sym (drop-drop h.body h.len bytes) ∙ ap (λ n. drop n (drop h.len bytes)) parts.body ∙ ap (λ b. drop (body_length whole.read) b) behind;
-      route_is = route_is ∙ ap (λ t. route_by (way_of t)) parts.target;
-      closing_is = closing_is ∙ parts.closes;
-    })
+    let behind : drop h.len bytes ≡ drop (head_length whole.read) bytes = ap (λ n. drop n bytes) parts.len in (
+      is.fits,
+      record {
+        read = whole.read;
+        has_head = has_head bytes h whole;
+        whole = omega (arith, is.body_fits, parts.body, ap length behind);
+        given_is = told ∙ ap (λ b. item_of whole.read b) is.body_is ∙ ap (λ n. item_of whole.read (take n (drop h.len bytes))) parts.body ∙ ap (λ b. item_of whole.read (take (body_length whole.read) b)) behind;
+        rest_is = ap (λ n. drop n bytes) is.len_is ∙ sym (drop-drop h.body h.len bytes) ∙ ap (λ n. drop n (drop h.len bytes)) parts.body ∙ ap (λ b. drop (body_length whole.read) b) behind;
+        route_is = route_is ∙ ap (λ t. route_by (way_of t)) parts.target;
+        closing_is = closing_is ∙ parts.closes;
+      },
+    )
 
 pub gives_stays : (link : Link) (bytes : List ℕ) (s : Step) (given : Item) → bytes ≡ link.left → link.over ≡ None → Steps link.finished bytes s → s ≡ step.Stays given → Gives link given link
 gives_stays link bytes s given left none did is =

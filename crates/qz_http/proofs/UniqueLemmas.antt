@@ -1,5 +1,5 @@
 -- A link gives one thing, and its bytes say one thing.
-use Rattle.std.proofs.Common.{◌≡◌, ℕ, ◌-◌, ◌<◌, ◌≤◌, inl, inr, Bool, true, false, List, [], ◌∷◌, length, take, drop, refl, sym, ap, subst, ◌∙◌, arith}
+use Rattle.std.proofs.Common.{◌≡◌, ℕ, ◌-◌, ◌<◌, ◌≤◌, inl, inr, Bool, List, [], ◌∷◌, length, take, drop, refl, sym, ap, subst, ◌∙◌, arith}
 use Rattle.std.proofs.lemmas.Bool.{false≢true}
 use Rattle.std.specs.Prelude.{Option, Some, None}
 use Rattle.httparse.specs.Grammar.{RequestHead}
@@ -12,7 +12,7 @@ use Rattle.qz_http.specs.declared.responses.Route.{Route}
 use Rattle.qz_http.specs.Heads.{closes, fields_of}
 use Rattle.qz_http.specs.Items.{item_of}
 use Rattle.qz_http.specs.Judgements.{BeginsWith, IsHopeless, IsUnfinished, Refuses, at_fault, first_bytes, head_fault, hopeless, too_long}
-use Rattle.qz_http.specs.Links.{Awaits, Gives, HasHead, Link, Stays, Takes, awaiting, behind, body, body_length, end_after, ended, head, refused, route_by, stays, takes, waiting}
+use Rattle.qz_http.specs.Links.{Awaits, Gives, HasHead, Link, Stays, Takes, awaiting, behind, body, body_length, end_after, ended, head, refused, route_by, stays, takes}
 use Rattle.qz_http.specs.Routes.{way_of}
 use Rattle.qz_http.specs.Talk.{Talks, is_request, over, request}
 use Rattle.qz_http.proofs.HeadLemmas.{none_yet}
@@ -31,8 +31,8 @@ not_begun bytes h begins is = is.no_head h begins.0 begins.1
 goes_on_or_never : (bytes : List ℕ) → IsUnfinished bytes → IsHopeless (first_bytes bytes) → ⊥
 goes_on_or_never bytes unfinished is =
     elim unfinished.goes_on [
-      inl some ↦ is.never some.0 some.1 [] some.2
-    | inr inside ↦ false≢true (sym inside ∙ is.past)
+      | inl some ↦ is.never some.0 some.1 [] some.2
+      | inr inside ↦ false≢true (sym inside ∙ is.past)
     ]
 
 one_fault : (bytes : List ℕ) (h k : RequestHead) (o p : Option ℕ) → BeginsWith bytes h → BeginsWith bytes k → head_fault h ≡ o → head_fault k ≡ p → o ≡ p

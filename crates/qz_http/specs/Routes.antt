@@ -1,5 +1,5 @@
 -- Where a target leads.
-use Rattle.std.specs.Prelude.{ℕ, ◌≡◌, ◌||◌, ◌==◌, List, [], ◌∷◌, length, Option, Some, None, option_map, unwrap_or, bytes_eq, if◌then◌else◌, codes}
+use Rattle.std.specs.Prelude.{ℕ, ◌≡◌, ◌||◌, ◌==◌, List, [], ◌∷◌, length, option_map, unwrap_or, bytes_eq, if◌then◌else◌, codes}
 use Rattle.qz_wire.specs.Lines.{after}
 use Rattle.qz_wire.specs.Words.{parts_at}
 use Rattle.qz_http.specs.declared.routes.Path.{Path}
@@ -46,7 +46,7 @@ abbrev pub way_of : List ℕ → Way
 way_of target =
     if bytes_eq target (codes "/api/ask") then ask
     else below (codes "/entry/") two_parameters target
-        (below (codes "/attempt/") one_parameter target (below (codes "/quiz/") report_below target nowhere))
+    (below (codes "/attempt/") one_parameter target (below (codes "/quiz/") report_below target nowhere))
 
 -- what a reader of the code answers
 abbrev pub IsPath : Way → Path → Type 0
