@@ -1,13 +1,11 @@
 -- By whom a request asks.
-use Rattle.std.proofs.Common.{◌≡◌, ℕ, List, Option, Some, Ok, Err, ap, sym, subst, ◌∙◌}
+use Rattle.std.proofs.Common.{◌≡◌, ℕ, List, Option, Ok, Err, ◌∙◌}
 use Rattle.std.specs.Prelude.{IfOk, Result}
 use Rattle.qz_grading.specs.declared.refusal.Refusal.{Refusal}
 use Rattle.qz_terms.specs.declared.ask.Ask.{Ask}
 use Rattle.qz_terms.specs.declared.people.Caller.{Caller}
-use Rattle.qz_terms.specs.declared.people.Caller.TheVariants as caller
-use Rattle.qz_wire.specs.Asking.{HasToken}
 use Rattle.qz_json.specs.Bodies.{CanBeAsked}
-use Rattle.qz_http.specs.Items.{IsAskable, IsAskedBy, caller_of}
+use Rattle.qz_http.specs.Items.{IsAskedBy, caller_of}
 
 pub asked-by : (r : Result Ask Refusal) (token : Option (List ℕ)) (who : Caller) → who ≡ caller_of token
     → IfOk r (λ ask. ask.caller ≡ who) → IfOk r CanBeAsked → IfOk r (IsAskedBy token)

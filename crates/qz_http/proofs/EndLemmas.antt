@@ -1,5 +1,5 @@
 -- How a link ends.
-use Rattle.std.proofs.Common.{◌≡◌, ℕ, ◌-◌, Bool, true, List, [], ◌∷◌, drop, refl, sym, subst}
+use Rattle.std.proofs.Common.{◌≡◌, ℕ, ◌-◌, true, List, [], ◌∷◌, drop, refl, sym, subst}
 use Rattle.std.specs.Prelude.{Option, Some, None}
 use Rattle.qz_http.specs.declared.heads.Head.{Head}
 use Rattle.qz_http.specs.declared.items.Item.{Item}

@@ -1,7 +1,7 @@
 -- The steps of a link.
 use Rattle.std.proofs.Common.{◌≡◌, ℕ, ◌<◌, ◌≤◌, Bool, List, ◌++◌, length, take, drop, sym, ap, subst, ◌∙◌, arith, length-append}
 use Rattle.std.proofs.lemmas.List.{drop-drop, length-drop, length-take}
-use Rattle.httparse.specs.Grammar.{RequestHead, print_request}
+use Rattle.httparse.specs.Grammar.{print_request}
 use Rattle.qz_http.specs.declared.heads.Head.{Head}
 use Rattle.qz_http.specs.declared.items.Item.{Item}
 use Rattle.qz_http.specs.declared.responses.Route.{Route}
@@ -9,7 +9,7 @@ use Rattle.qz_http.specs.Heads.{body_of, fields_of}
 use Rattle.qz_http.specs.Items.{item_of}
 use Rattle.qz_http.proofs.HeadLemmas.{body_within}
 use Rattle.qz_http.specs.Fronts.{IsRequest}
-use Rattle.qz_http.specs.Judgements.{IsHead, IsWhole}
+use Rattle.qz_http.specs.Judgements.{IsWhole}
 use Rattle.std.specs.Prelude.{Option, None, ◌-◌}
 use Rattle.qz_http.specs.declared.items.LinkEnd.{LinkEnd}
 use Rattle.qz_http.specs.declared.links.Step.{Step}

@@ -6,15 +6,26 @@ use Rattle.qz_text.specs.declared.memory.NoMemory.{NoMemory}
 use Rattle.qz_wire.specs.Words.{parts_at, IsCutAt}
 use Rattle.qz_http.specs.declared.items.Item.{Item}
 use Rattle.qz_http.specs.Items.{item_at, token_in}
-use Rattle.qz_http.specs.Routes.{nowhere, two_parameters, way_of}
+use Rattle.qz_http.specs.Routes.{nowhere, one_parameter, report_below, two_parameters, way_of}
 
-three : (first second : List ℕ) (more : List (List ℕ)) (n : ℕ) → length more ≡ n + 1 → two_parameters (first ∷ second ∷ more) ≡ nowhere
-three first second [] n is = absurd (omega (arith, is))
-three first second (third ∷ more) n is = refl
+-- there is always a part
+parted : (P : List (List ℕ) → Type 0) → ((part : List ℕ) (more : List (List ℕ)) → P (part ∷ more)) → (bytes : List ℕ) → P (parts_at 47 bytes)
+parted P holds bytes = some (parts_at 47 bytes) _ (length-slice_split (λ b. b == 47) bytes)
+  where
+    some : (parts : List (List ℕ)) (n : ℕ) → length parts ≡ n + 1 → P parts
+    some [] n is = absurd (omega (arith, is))
+    some (part ∷ more) n is = holds part more
+
+pub second_parameter : (rest first behind : List ℕ) → IsCutAt 47 rest first behind → one_parameter (parts_at 47 rest) ≡ nowhere
+second_parameter rest first behind once = rw once.parts (parted (λ l. one_parameter (first ∷ l) ≡ nowhere) (λ second more. refl) behind)
 
 pub three_parameters : (rest first behind second more : List ℕ) → IsCutAt 47 rest first behind → IsCutAt 47 behind second more → two_parameters (parts_at 47 rest) ≡ nowhere
 three_parameters rest first behind second more once twice =
-    rw (once.parts, twice.parts) (three first second (parts_at 47 more) _ (length-slice_split (λ b. b == 47) more))
+    rw (once.parts, twice.parts) (parted (λ l. two_parameters (first ∷ second ∷ l) ≡ nowhere) (λ third last. refl) more)
+
+pub below_report : (rest first behind second more : List ℕ) → IsCutAt 47 rest first behind → IsCutAt 47 behind second more → report_below (parts_at 47 rest) ≡ nowhere
+below_report rest first behind second more once twice =
+    rw (once.parts, twice.parts) (parted (λ l. report_below (first ∷ second ∷ l) ≡ nowhere) (λ third last. refl) more)
 
 pub item_by_parts : (r : Result Item NoMemory) (t target m method : List ℕ) (token a authorization : Option (List ℕ)) (body : List ℕ)
     → t ≡ target → m ≡ method → a ≡ authorization → token ≡ token_in a

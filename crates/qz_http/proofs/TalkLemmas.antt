@@ -5,8 +5,8 @@ use Rattle.std.specs.Prelude.{Option, Some, None, Result, Ok, Err, bytes_eq, cod
 use Rattle.qz_terms.specs.declared.ask.Ask.{Ask}
 use Rattle.qz_wire.specs.Faults.{Fault}
 use Rattle.qz_json.specs.Bodies.{ask_of_body}
-use Rattle.qz_http.specs.Items.{ask_of_entry, caller_of, item_at, item_by, token_in}
-use Rattle.qz_http.specs.Routes.{Way, ask, entry, nowhere, way_of}
+use Rattle.qz_http.specs.Items.{ask_of_entry, ask_of_page, ask_of_report, caller_of, item_got, item_at, item_by, token_in}
+use Rattle.qz_http.specs.Routes.{Way, ask, csv_report, entry, nowhere, page, text_report, way_of}
 use Rattle.qz_http.specs.declared.items.Item.{Item}
 use Rattle.qz_http.specs.declared.items.Item.TheVariants as item
 use Rattle.qz_http.specs.declared.items.LinkEnd.{LinkEnd}
@@ -43,10 +43,16 @@ either_requests : (b : Bool) (x y : Item) → is_request x ≡ true → is_reque
 either_requests true x y first second = first
 either_requests false x y first second = second
 
+item_got_requests : (method : List ℕ) (token : Option (List ℕ)) (r : Result Ask Fault) → is_request (item_got method token r) ≡ true
+item_got_requests method token r = either_requests (bytes_eq method (codes "GET")) _ _ (item_by_requests token r) refl
+
 item_requests : (way : Way) (method : List ℕ) (token : Option (List ℕ)) (body : List ℕ) → is_request (item_at way method token body) ≡ true
 item_requests nowhere method token body = refl
 item_requests ask method token body = either_requests (bytes_eq method (codes "POST")) _ _ (item_by_requests token (ask_of_body (caller_of token) body)) refl
-item_requests (entry first second) method token body = either_requests (bytes_eq method (codes "GET")) _ _ (item_by_requests token (ask_of_entry (caller_of token) first second)) refl
+item_requests (entry first second) method token body = item_got_requests method token (ask_of_entry (caller_of token) first second)
+item_requests (page attempt) method token body = item_got_requests method token (ask_of_page (caller_of token) attempt)
+item_requests (text_report quiz) method token body = item_got_requests method token (ask_of_report (caller_of token) quiz)
+item_requests (csv_report quiz) method token body = item_got_requests method token (ask_of_report (caller_of token) quiz)
 
 -- what is taken is a request
 pub taken_requests : (bytes rest : List ℕ) (given : Item) (at : Route) (closing : Bool) → Takes bytes given rest at closing → is_request given ≡ true

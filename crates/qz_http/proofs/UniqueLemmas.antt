@@ -1,5 +1,5 @@
 -- A link gives one thing, and its bytes say one thing.
-use Rattle.std.proofs.Common.{◌≡◌, ℕ, ◌-◌, ◌<◌, ◌≤◌, inl, inr, Bool, true, false, List, [], ◌∷◌, length, take, drop, refl, sym, ap, subst, ◌∙◌, arith}
+use Rattle.std.proofs.Common.{◌≡◌, ℕ, ◌-◌, ◌<◌, ◌≤◌, inl, inr, Bool, List, [], ◌∷◌, length, take, drop, refl, sym, ap, subst, ◌∙◌, arith}
 use Rattle.std.proofs.lemmas.Bool.{false≢true}
 use Rattle.std.specs.Prelude.{Option, Some, None}
 use Rattle.httparse.specs.Grammar.{RequestHead}
@@ -12,7 +12,7 @@ use Rattle.qz_http.specs.declared.responses.Route.{Route}
 use Rattle.qz_http.specs.Heads.{closes, fields_of}
 use Rattle.qz_http.specs.Items.{item_of}
 use Rattle.qz_http.specs.Judgements.{BeginsWith, IsHopeless, IsUnfinished, Refuses, at_fault, first_bytes, head_fault, hopeless, too_long}
-use Rattle.qz_http.specs.Links.{Awaits, Gives, HasHead, Link, Stays, Takes, awaiting, behind, body, body_length, end_after, ended, head, refused, route_by, stays, takes, waiting}
+use Rattle.qz_http.specs.Links.{Awaits, Gives, HasHead, Link, Stays, Takes, awaiting, behind, body, body_length, end_after, ended, head, refused, route_by, stays, takes}
 use Rattle.qz_http.specs.Routes.{way_of}
 use Rattle.qz_http.specs.Talk.{Talks, is_request, over, request}
 use Rattle.qz_http.proofs.HeadLemmas.{none_yet}

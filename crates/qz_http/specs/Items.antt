@@ -11,13 +11,13 @@ use Rattle.qz_wire.specs.Asking.{HasToken, IsRead}
 use Rattle.qz_wire.specs.Faults.{Fault, at_word}
 use Rattle.qz_wire.specs.Lines.{after}
 use Rattle.qz_wire.specs.Numbered.{◌>>=◌, or_line as or_word}
-use Rattle.qz_wire.specs.Words.{number_of, token_of}
+use Rattle.qz_wire.specs.Words.{attempt_of, number_of, token_of}
 use Rattle.qz_json.specs.Bodies.{CanBeAsked, ask_of_body}
 use Rattle.httparse.specs.Grammar.{RequestHead}
 use Rattle.qz_http.specs.declared.items.Item.{Item}
 use Rattle.qz_http.specs.declared.items.Item.TheVariants as item
 use Rattle.qz_http.specs.Heads.{authorization_of, fields_of}
-use Rattle.qz_http.specs.Routes.{Way, nowhere, ask, entry, way_of}
+use Rattle.qz_http.specs.Routes.{Way, nowhere, ask, csv_report, entry, page, text_report, way_of}
 
 -- the token behind `Bearer `
 abbrev pub token_in : Option (List ℕ) → Option (List ℕ)
@@ -41,13 +41,30 @@ ask_of_entry who first second = do
   version ← at_word (or_word 6 (number_of second))
   Ok (record { caller = who; key = None; request = request.Bank number version })
 
+-- the page of an attempt, by the parameter of its path
+unfoldable pub ask_of_page : Caller → List ℕ → Result Ask Fault
+ask_of_page who word = do
+  attempt ← at_word (or_word 5 (attempt_of word))
+  Ok (record { caller = who; key = None; request = request.Page attempt })
+
+-- the grades of a quiz, by the parameter of its path
+unfoldable pub ask_of_report : Caller → List ℕ → Result Ask Fault
+ask_of_report who word = do
+  quiz ← at_word (or_word 5 (number_of word))
+  Ok (record { caller = who; key = None; request = request.Report quiz })
+
+abbrev pub item_got : List ℕ → Option (List ℕ) → Result Ask Fault → Item
+item_got method token asked = if bytes_eq method (codes "GET") then item_by token asked else item.Bare 405
+
 -- a way leads to one method
 abbrev pub item_at : Way → List ℕ → Option (List ℕ) → List ℕ → Item
 item_at nowhere method token body = item.Bare 404
 item_at ask method token body =
     if bytes_eq method (codes "POST") then item_by token (ask_of_body (caller_of token) body) else item.Bare 405
-item_at (entry first second) method token body =
-    if bytes_eq method (codes "GET") then item_by token (ask_of_entry (caller_of token) first second) else item.Bare 405
+item_at (entry first second) method token body = item_got method token (ask_of_entry (caller_of token) first second)
+item_at (page attempt) method token body = item_got method token (ask_of_page (caller_of token) attempt)
+item_at (text_report quiz) method token body = item_got method token (ask_of_report (caller_of token) quiz)
+item_at (csv_report quiz) method token body = item_got method token (ask_of_report (caller_of token) quiz)
 
 -- what a head and a body ask
 abbrev pub item_of : RequestHead → List ℕ → Item

@@ -14,7 +14,7 @@ use Rattle.qz_http.specs.Heads.{body_of, closes, fields_of}
 use Rattle.qz_http.specs.Items.{AsksAskable, item_of}
 use Rattle.qz_http.specs.Judgements.{BeginsWith, IsUnfinished, Refuses, head_fault, most_bytes}
 use Rattle.qz_http.specs.Responses.{bare_response, reply_response}
-use Rattle.qz_http.specs.Routes.{Way, nowhere, ask, entry, way_of}
+use Rattle.qz_http.specs.Routes.{Way, nowhere, ask, csv_report, entry, page, text_report, way_of}
 
 -- the bytes fed and not taken yet, how many requests may still come, whether the bytes have ended, the end that the last request
 -- decided, and its route
@@ -61,6 +61,9 @@ abbrev pub route_by : Way → Route
 route_by nowhere = route.Ask
 route_by ask = route.Ask
 route_by (entry first second) = route.Entry
+route_by (page attempt) = route.Page
+route_by (text_report quiz) = route.TextReport
+route_by (csv_report quiz) = route.CsvReport
 
 -- ---- steps
 

@@ -5,9 +5,12 @@ use Rattle.qz_grading.specs.Canonical.{canonical_question}
 use Rattle.qz_grading.specs.declared.refusal.Refusal.{Refusal}
 use Rattle.qz_grading.specs.declared.refusal.Refusal.TheVariants as refusal
 use Rattle.qz_json.specs.Replies.{reply_text}
+use Rattle.qz_terms.specs.declared.reply.Done.{Done}
 use Rattle.qz_terms.specs.declared.reply.Done.TheVariants as done
 use Rattle.qz_terms.specs.declared.reply.Reply.{Reply}
 use Rattle.qz_terms.specs.declared.reply.Reply.TheVariants as reply
+use Rattle.qz_pages.specs.Pages.{is_page, page_text}
+use Rattle.qz_pages.specs.Reports.{grades_csv, grades_text, is_report, rows_of}
 use Rattle.qz_http.specs.declared.responses.Body.{Body}
 use Rattle.qz_http.specs.declared.responses.Body.TheVariants as body
 use Rattle.qz_http.specs.declared.responses.Route.{Route}
@@ -19,6 +22,8 @@ phrase status = if nat_le 100 status && nat_lt status 1000 then unwrap_or (reaso
 abbrev pub type_text : Body → List ℕ
 type_text body.Empty = codes "text/plain"
 type_text body.Text = codes "text/plain; charset=utf-8"
+type_text body.Html = codes "text/html; charset=utf-8"
+type_text body.Csv = codes "text/csv; charset=utf-8"
 type_text body.Json = codes "application/json"
 
 abbrev pub connection_text : Bool → List ℕ
@@ -75,16 +80,37 @@ abbrev pub reply_status : Reply → ℕ
 reply_status (reply.Ok place accepted) = 200
 reply_status (reply.Refused refusal) = refusal_status refusal
 
--- the question that an entry's route shows as its text
+abbrev pub is_gift : Done → Bool
+is_gift (done.Gift question) = true
+is_gift d = false
+
+abbrev pub gift_text : Done → List ℕ
+gift_text (done.Gift question) = canonical_question question
+gift_text d = []
+
+-- an accepted reply that is what its route asks for is shown so, and any other reply as JSON
+abbrev pub done_body : Route → Done → Body
+done_body route.Ask d = body.Json
+done_body route.Entry d = if is_gift d then body.Text else body.Json
+done_body route.Page d = if is_page d then body.Html else body.Json
+done_body route.TextReport d = if is_report d then body.Text else body.Json
+done_body route.CsvReport d = if is_report d then body.Csv else body.Json
+
 abbrev pub shown_body : Route → Reply → Body
-shown_body route.Ask r = body.Json
-shown_body route.Entry (reply.Ok place (done.Gift question)) = body.Text
-shown_body route.Entry r = body.Json
+shown_body at (reply.Ok place d) = done_body at d
+shown_body at (reply.Refused refusal) = body.Json
+
+-- beside what it is as JSON
+abbrev pub done_text : Route → Done → List ℕ → List ℕ
+done_text route.Ask d json = json
+done_text route.Entry d json = if is_gift d then gift_text d else json
+done_text route.Page d json = if is_page d then page_text d else json
+done_text route.TextReport d json = if is_report d then grades_text (rows_of d) else json
+done_text route.CsvReport d json = if is_report d then grades_csv (rows_of d) else json
 
 abbrev pub shown_text : Route → Reply → List ℕ
-shown_text route.Ask r = reply_text r
-shown_text route.Entry (reply.Ok place (done.Gift question)) = canonical_question question
-shown_text route.Entry r = reply_text r
+shown_text at (reply.Ok place d) = done_text at d (reply_text (reply.Ok place d))
+shown_text at (reply.Refused refusal) = reply_text (reply.Refused refusal)
 
 -- the response to a request of this route
 abbrev pub reply_response : Route → Bool → Reply → List ℕ

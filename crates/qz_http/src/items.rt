@@ -8,7 +8,7 @@ ghost use Rattle.qz_wire.specs.Numbered.{or_line as or_word};
 ghost use Rattle.qz_wire.specs.Words.{number_of};
 ghost use Rattle.qz_http.specs.Judgements.{IsHead};
 ghost use Rattle.qz_json.specs.Bodies.{ask_of_body};
-ghost use Rattle.qz_http.specs.Items.{token_in, caller_of, item_by, ask_of_entry, item_at, item_of, AsksAskable, IsAskedBy};
+ghost use Rattle.qz_http.specs.Items.{token_in, caller_of, item_by, item_got, ask_of_entry, ask_of_page, ask_of_report, item_at, item_of, AsksAskable, IsAskedBy};
 ghost use Rattle.qz_http.specs.Routes.{IsPath, Way};
 
 use crate::heads::Head;
@@ -17,7 +17,7 @@ use qz_grading::Refusal;
 use qz_json::ask_of_json;
 use qz_terms::{Ask, Caller, Request};
 use qz_text::{NoMemory, Text};
-use qz_wire::{after, number};
+use qz_wire::{after, attempt_in, number};
 use std::alloc::Global;
 
 /// How a link ended.
@@ -128,6 +128,52 @@ fn ask_of_entry(
     })
 }
 
+/// The page of an attempt.
+#[tactic(auto, unfolding(crate::specs::Items::ask_of_page))]
+fn ask_of_page(alloc: Global, token: Option<&str>, attempt: &[u8]) -> Result<Ask, Refusal>
+    ensures value { ReadsOr (λ x. x) result (ask_of_page (caller_of (option_copied token.entry)) attempt.now) }
+    ensures asked { IfOk result (IsAskedBy (option_copied token.entry)) }
+{
+    let caller = caller_of(alloc, token)?;
+    let attempt = attempt_in(attempt).ok_or(Refusal::Malformed { place: 5, rule: 0 })?;
+    Ok(Ask {
+        caller,
+        key: None,
+        request: Request::Page { attempt },
+    })
+}
+
+/// The grades of a quiz.
+#[tactic(auto, unfolding(crate::specs::Items::ask_of_report))]
+fn ask_of_report(alloc: Global, token: Option<&str>, quiz: &[u8]) -> Result<Ask, Refusal>
+    ensures value { ReadsOr (λ x. x) result (ask_of_report (caller_of (option_copied token.entry)) quiz.now) }
+    ensures asked { IfOk result (IsAskedBy (option_copied token.entry)) }
+{
+    let caller = caller_of(alloc, token)?;
+    let quiz = parameter(quiz, 5)?;
+    Ok(Ask {
+        caller,
+        key: None,
+        request: Request::Report { quiz },
+    })
+}
+
+fn item_got(
+    method: &[u8],
+    token: Option<&str>,
+    reading: Result<Ask, Refusal>,
+) -> Result<Item, NoMemory>
+    ensures value { (r : Result Ask Fault) → ReadsOr (λ x. x) reading r
+        → IfOk result (λ item. item ≡ item_got method.now (option_copied token.entry) r) }
+    ensures asked { IfOk reading (IsAskedBy (option_copied token.entry)) → IfOk result AsksAskable }
+{
+    if method == b"GET".as_slice() {
+        item_by(token, reading)
+    } else {
+        Ok(Item::Bare(405))
+    }
+}
+
 fn item_at(
     alloc: Global,
     path: Path<'_>,
@@ -146,11 +192,13 @@ fn item_at(
         } else {
             Ok(Item::Bare(405))
         },
-        Path::Entry { entry, version } => if method == b"GET".as_slice() {
-            item_by(token, ask_of_entry(alloc, token, entry, version))
-        } else {
-            Ok(Item::Bare(405))
-        },
+        Path::Entry { entry, version } => {
+            item_got(method, token, ask_of_entry(alloc, token, entry, version))
+        }
+        Path::Page(attempt) => item_got(method, token, ask_of_page(alloc, token, attempt)),
+        Path::TextReport(quiz) | Path::CsvReport(quiz) => {
+            item_got(method, token, ask_of_report(alloc, token, quiz))
+        }
     }
 }
 

@@ -74,6 +74,9 @@ fn route_of(target: &[u8]) -> Route
     match path_in(target) {
         Path::Nowhere | Path::Ask => Route::Ask,
         Path::Entry { .. } => Route::Entry,
+        Path::Page(_) => Route::Page,
+        Path::TextReport(_) => Route::TextReport,
+        Path::CsvReport(_) => Route::CsvReport,
     }
 }
 

@@ -1,12 +1,16 @@
 //! Responses, byte for byte.
 
-ghost use Rattle.std.specs.Prelude.{◌≡◌, ◌++◌, IfOk, OnOk, codes, decimal, string_bytes};
-ghost use Rattle.qz_http.specs.Responses.{phrase, type_text, connection_text, status_line, field_line, head_text, response, bare_response, refusal_status, reply_status, shown_body, shown_text, reply_response};
+ghost use Rattle.std.specs.Prelude.{◌≡◌, ◌++◌, IfOk, IsTrue, OnOk, codes, decimal, string_bytes};
+ghost use Rattle.qz_http.specs.Responses.{phrase, type_text, connection_text, status_line, field_line, head_text, response, bare_response, refusal_status, reply_status, is_gift, gift_text, done_body, done_text, shown_body, shown_text, reply_response};
+ghost use Rattle.qz_json.specs.Replies.{reply_text};
+ghost use Rattle.qz_pages.specs.Pages.{is_page};
+ghost use Rattle.qz_pages.specs.Reports.{is_report};
 
 use gift_write::question_onto;
 use http::StatusCode;
 use qz_grading::Refusal;
 use qz_json::json_of;
+use qz_pages::{page, report_csv, report_text};
 use qz_terms::{Done, Reply};
 use qz_text::{Bytes, NoMemory, Text};
 use std::alloc::Global;
@@ -17,6 +21,10 @@ pub enum Body {
     Empty,
     /// A text in UTF-8.
     Text,
+    /// A page in UTF-8.
+    Html,
+    /// A table of comma-separated values in UTF-8.
+    Csv,
     Json,
 }
 
@@ -27,6 +35,12 @@ pub enum Route {
     Ask,
     /// `GET /entry/{entry}/{version}`, the text of a question.
     Entry,
+    /// `GET /attempt/{attempt}`, the page of an attempt.
+    Page,
+    /// `GET /quiz/{quiz}/grades.txt`.
+    TextReport,
+    /// `GET /quiz/{quiz}/grades.csv`.
+    CsvReport,
 }
 
 fn phrase(status: u16) -> &'static str
@@ -44,6 +58,8 @@ fn type_text(kind: Body) -> &'static str
     match kind {
         Body::Empty => "text/plain",
         Body::Text => "text/plain; charset=utf-8",
+        Body::Html => "text/html; charset=utf-8",
+        Body::Csv => "text/csv; charset=utf-8",
         Body::Json => "application/json",
     }
 }
@@ -159,37 +175,83 @@ fn reply_status(reply: &Reply) -> u16
     }
 }
 
+// ---- what a route asks for
+
+fn is_gift(done: &Done) -> bool
+    ensures { result ≡ is_gift done.now }
+{
+    matches!(done, Done::Gift { .. })
+}
+
+fn is_page(done: &Done) -> bool
+    ensures { result ≡ is_page done.now }
+{
+    matches!(done, Done::Page { .. })
+}
+
+fn is_report(done: &Done) -> bool
+    ensures { result ≡ is_report done.now }
+{
+    matches!(done, Done::Report { .. })
+}
+
+/// The question as GIFT.
+fn gift_text(alloc: Global, done: &Done) -> Result<Text, NoMemory>
+    requires { IsTrue (is_gift done.now) }
+    ensures { IfOk result (λ text. text ≡ gift_text done.now) }
+{
+    let Done::Gift { question } = done else {
+        unreachable!()
+    };
+    let mut items = String::new(alloc);
+    question_onto(&mut items, question)?;
+    Ok(Text { items })
+}
+
+fn done_body(route: Route, done: &Done) -> Body
+    ensures { result ≡ done_body route done.now }
+{
+    match route {
+        Route::Entry if is_gift(done) => Body::Text,
+        Route::Page if is_page(done) => Body::Html,
+        Route::TextReport if is_report(done) => Body::Text,
+        Route::CsvReport if is_report(done) => Body::Csv,
+        Route::Ask | Route::Entry | Route::Page | Route::TextReport | Route::CsvReport => {
+            Body::Json
+        }
+    }
+}
+
 fn shown_body(route: Route, reply: &Reply) -> Body
     ensures { result ≡ shown_body route reply.now }
 {
-    match (route, reply) {
-        (
-            Route::Entry,
-            Reply::Ok {
-                done: Done::Gift { .. },
-                ..
-            },
-        ) => Body::Text,
-        (_, _) => Body::Json,
+    match reply {
+        Reply::Ok { done, .. } => done_body(route, done),
+        Reply::Refused(_) => Body::Json,
+    }
+}
+
+/// An accepted reply as its route shows it.
+fn done_text(alloc: Global, route: Route, done: &Done, reply: &Reply) -> Result<Text, NoMemory>
+    ensures { IfOk result (λ text. text ≡ done_text route done.now (reply_text reply.now)) }
+{
+    match route {
+        Route::Entry if is_gift(done) => gift_text(alloc, done),
+        Route::Page if is_page(done) => page(alloc, done),
+        Route::TextReport if is_report(done) => report_text(alloc, done),
+        Route::CsvReport if is_report(done) => report_csv(alloc, done),
+        Route::Ask | Route::Entry | Route::Page | Route::TextReport | Route::CsvReport => {
+            json_of(alloc, reply)
+        }
     }
 }
 
 fn shown_text(alloc: Global, route: Route, reply: &Reply) -> Result<Text, NoMemory>
     ensures { IfOk result (λ text. text ≡ shown_text route reply.now) }
 {
-    match (route, reply) {
-        (
-            Route::Entry,
-            Reply::Ok {
-                done: Done::Gift { question },
-                ..
-            },
-        ) => {
-            let mut text = String::new(alloc);
-            question_onto(&mut text, question)?;
-            Ok(Text { items: text })
-        }
-        (_, _) => json_of(alloc, reply),
+    match reply {
+        Reply::Ok { done, .. } => done_text(alloc, route, done, reply),
+        Reply::Refused(_) => json_of(alloc, reply),
     }
 }
 

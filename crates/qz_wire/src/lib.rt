@@ -23,7 +23,7 @@ pub use replies::{
     grade_onto, how_word, line_of, moment_onto, refused_onto, row_onto, status_word, thing_number,
 };
 pub use verbs::{Verb, takes_key, verb_in};
-pub use words::{WordFault, cut, first_word, next_word, token_in};
+pub use words::{WordFault, attempt_in, cut, first_word, next_word, token_in};
 
 #[cfg(test)]
 mod tests;

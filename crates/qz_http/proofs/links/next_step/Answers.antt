@@ -1,5 +1,5 @@
 use Rattle.qz_http.specs.Links.{refused}
-use Rattle.qz_http.proofs.LinkLemmas.{stays_waiting, taken}
+use Rattle.qz_http.proofs.LinkLemmas.{stays_waiting}
 use Rattle.qz_http.proofs.links.next_step.Goals as goal
 
 pub returns-in-Part-clause-steps : goal.returns-in-Part-clause-steps
