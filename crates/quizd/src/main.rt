@@ -2,7 +2,6 @@
 #![tactic(auto)]
 
 mod command;
-mod desk;
 mod gift;
 #[cfg(test)]
 mod gift_tests;

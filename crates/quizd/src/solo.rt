@@ -15,12 +15,11 @@ ghost use Rattle.qz_wire.specs.Asking.{CanBeAsked, HasToken};
 ghost use Rattle.quizd.specs.Retries.{IsAskedOnce};
 ghost use Rattle.quizd.specs.Solo.{IsPlanned, IsUnplanned, NoJobIsDone, asks_shard, one_shard};
 
-use crate::desk::Desk;
 use qz_catalog::Catalog;
 use qz_grading::{AttemptId, Refusal, Steps, Thing};
 use qz_shard::{Older, Shard};
 use qz_terms::{
-    Ask, Caller, Done, Plan, Reply, Request, User, asks_catalog, attempt_named, forbidden,
+    Ask, Caller, Desk, Done, Plan, Reply, Request, User, asks_catalog, attempt_named, forbidden,
 };
 use qz_text::{NoMemory, Text};
 use std::alloc::Global;
@@ -235,6 +234,10 @@ impl Solo {
 
 impl Desk for Solo {
     ghost lists = { λ s. s };
+
+    ghost takes = { λ moment ask. CanBeAsked ask moment };
+
+    ghost answers = { IsAskedOnce };
 
     fn ask(&mut self, alloc: Global, ask: &Ask, moment: u64) -> Reply {
         match self.answer(alloc, ask, moment) {
