@@ -54,11 +54,11 @@ settled : (c h : List Record) (ask : Ask) → is_settled (one_shard c h) ask ≡
 settled c h ask = ap not (none-of (is_in_doubt (one_shard c h)) (route (one_shard c h) ask ask.caller) (no-doubt c h))
 
 -- it is answered so, and no keeper fails
-record IsTurned (c h : List Record) (now : ℕ) (ask : Ask) (b : Lists) (r : Reply) : Type 0 where
-  asks : Asks (one_shard c h) b now ask r
-  keeper : is_keep_fault r ≡ false
+pub record IsTurned (c h : List Record) (now : ℕ) (ask : Ask) (b : Lists) (r : Reply) : Type 0 where
+  pub asks : Asks (one_shard c h) b now ask r
+  pub keeper : is_keep_fault r ≡ false
 
-turned : (c h : List Record) (now : ℕ) (ask : Ask) (b : Lists) (r : Reply) → lists_over (one_shard c h) now ask ≡ b → reply_over (one_shard c h) now ask ≡ r → IsTurned c h now ask b r
+pub turned : (c h : List Record) (now : ℕ) (ask : Ask) (b : Lists) (r : Reply) → lists_over (one_shard c h) now ask ≡ b → reply_over (one_shard c h) now ask ≡ r → IsTurned c h now ask b r
 turned c h now ask b r lists said = record {
   asks = turns c h now ask b r (subst (λ (l : Lists). Turn (one_shard c h) l now ask r) lists (subst (λ (x : Reply). Turn (one_shard c h) (lists_over (one_shard c h) now ask) now ask x) said (answered (one_shard c h) now ask (settled c h ask))));
   keeper = own_reply (one_shard c h) now ask r said;
@@ -90,7 +90,7 @@ among-first c user (request.Work job shard) served = absurd cc
 among-first c user (request.Live shard attempt) served = absurd cc
 among-first c user x served = only-first (first_refusal c user x)
 
-part-zero : (n : ℕ) → n % 1 ≡ 0
+pub part-zero : (n : ℕ) → n % 1 ≡ 0
 part-zero n = omega arith
 
 first_part : (user : User) (x : Request) → is_served x ≡ true → part_of 1 user x ≡ 0
@@ -117,7 +117,7 @@ not_catalog (request.Grade q u) shard = refl
 not_catalog x shard = absurd cc
 
 -- where nothing is asked of it, the catalogue stays as it is
-catalog-kept : (c : List Record) (now : ℕ) (ask : Ask) → asks_catalog ask.request ≡ false → catalog_list c now ask ≡ c
+pub catalog-kept : (c : List Record) (now : ℕ) (ask : Ask) → asks_catalog ask.request ≡ false → catalog_list c now ask ≡ c
 catalog-kept c now ask other = by (catalog.user_of c ask.caller) refl
   where
     by : (u : Option User) → catalog.user_of c ask.caller ≡ u → catalog_list c now ask ≡ c
@@ -135,7 +135,7 @@ held-by : (b : Bool) (g c : List Record) → g ≡ c → (if b then with_list g 
 held-by true g c same = ap with_list same
 held-by false g c same = refl
 
-catalog-held : (c h : List Record) (now : ℕ) (ask : Ask) → catalog_list c now ask ≡ c → records_over (one_shard c h) now ask ≡ with_list c
+pub catalog-held : (c h : List Record) (now : ℕ) (ask : Ask) → catalog_list c now ask ≡ c → records_over (one_shard c h) now ask ≡ with_list c
 catalog-held c h now ask kept = held-by (reads_catalog (one_shard c h) ask) (catalog_list c now ask) c kept
 
 said_by : (c h : List Record) (now : ℕ) (ask : Ask) (user : User) → is_served ask.request ≡ true → catalog.user_of c ask.caller ≡ Some user → reply_over (one_shard c h) now ask ≡ user_answer c h now ask user
@@ -159,7 +159,7 @@ if-none : (b : Bool) (o : Option ℕ) → b ≡ false → (if b then o else None
 if-none true o e = absurd cc
 if-none false o e = refl
 
-if-there : (b : Bool) (o : Option ℕ) → b ≡ true → (if b then o else None) ≡ o
+pub if-there : (b : Bool) (o : Option ℕ) → b ≡ true → (if b then o else None) ≡ o
 if-there true o e = refl
 if-there false o e = absurd cc
 
@@ -254,7 +254,7 @@ nowhere_asks c h now ask user shard a is found may past =
     let test : nat_le 1 shard ≡ true = grind (arith, nat_tests) in
     refused-among c h now ask user (refusal.Unknown thing.Shard) (rw is refl) found (rw (is, none, test) refl) (λ told s. live-stands c h ask told user shard a is found s)
 
-no-key : (key : Option (List ℕ)) → is_none key ≡ true → is_some key ≡ true → ⊥
+pub no-key : (key : Option (List ℕ)) → is_none key ≡ true → is_some key ≡ true → ⊥
 no-key None none some = absurd cc
 no-key (Some key) none some = absurd cc
 

@@ -5,5 +5,9 @@ pub mod ScriptLemmas
 pub mod StandingLemmas
 pub mod DeskLemmas
 pub mod JobLemmas
+pub mod ReportLemmas
+pub mod FollowLemmas
+pub mod MarkLemmas
+pub mod BulkLemmas
 pub mod SoloLemmas
 pub mod GiftLemmas

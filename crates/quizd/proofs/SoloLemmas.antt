@@ -252,6 +252,14 @@ no-first c h a q r agree of_quiz first =
     there-none None some = absurd cc
     there-none (Some x) some = refl
 
+-- the quiz and the user of an attempt are there
+first-none : (c h : List Record) (a : AttemptId) (q : ℕ) (o : Option Refusal) → AllAgree c h → history.quiz h a ≡ Some q → first_some (missing_quiz c q ∷ missing_user c a.user ∷ []) ≡ o → o ≡ None
+first-none c h a q None agree of_quiz first = refl
+first-none c h a q (Some r) agree of_quiz first = absurd (no-first c h a q r agree of_quiz first)
+
+pub plan_there : (c h : List Record) (a : AttemptId) (q : ℕ) → AllAgree c h → history.quiz h a ≡ Some q → first_some (missing_quiz c q ∷ missing_user c a.user ∷ []) ≡ None
+plan_there c h a q agree of_quiz = first-none c h a q (first_some (missing_quiz c q ∷ missing_user c a.user ∷ [])) agree of_quiz refl
+
 pub plans_named : (c h : List Record) (user : User) (x : Request) (a : AttemptId) (q : ℕ) (told : Result Plan Refusal) → AllAgree c h → forbidden user x ≡ None → attempt_named x ≡ Some a → history.quiz h a ≡ Some q → GivesPlan c q a.user false told → Plans c h user x told
 plans_named c h user x a q (Ok p) agree may named of_quiz g =
     let n = named-by c h user x a named in
@@ -279,33 +287,35 @@ plans_absent c h user x a r may named none is =
 
 -- ---- the two kinds of requests
 
-pub shard_read : (x : Request) → IsRead x → asks_catalog x ≡ false → ((shard : ℕ) (a : AttemptId) → x ≡ request.Live shard a → ⊥) → asks_shard x ≡ true
-shard_read (request.Start quiz) read other still = refl
-shard_read (request.Save a k certainty response) read other still = refl
-shard_read (request.Submit a k certainty response) read other still = refl
-shard_read (request.Again a k) read other still = refl
-shard_read (request.Finish a) read other still = refl
-shard_read (request.Mark a k mark) read other still = refl
-shard_read (request.Settle a) read other still = refl
-shard_read (request.View a k) read other still = refl
-shard_read (request.Total a) read other still = refl
-shard_read (request.Grade quiz owner) read other still = refl
-shard_read (request.Live shard a) read other still = absurd (still shard a refl)
-shard_read (request.User name role token) read other still = absurd cc
-shard_read (request.Group name) read other still = absurd cc
-shard_read (request.Member group user) read other still = absurd cc
-shard_read (request.Import gift) read other still = absurd cc
-shard_read (request.Edit entry gift) read other still = absurd cc
-shard_read (request.Tune entry penalty hints) read other still = absurd cc
-shard_read (request.Quiz name behaviour) read other still = absurd cc
-shard_read (request.Slot quiz entry max) read other still = absurd cc
-shard_read (request.Ready quiz) read other still = absurd cc
-shard_read (request.Remax quiz slot max) read other still = absurd cc
-shard_read (request.Policy quiz method grade) read other still = absurd cc
-shard_read (request.Times quiz opens closes limit allowed handling grace review) read other still = absurd cc
-shard_read (request.Override quiz whom number opens closes limit allowed) read other still = absurd cc
-shard_read (request.Bank entry version) read other still = absurd cc
-shard_read x read other still = absurd read
+pub shard_read : (x : Request) → IsRead x → asks_catalog x ≡ false → ((shard : ℕ) (a : AttemptId) → x ≡ request.Live shard a → ⊥) → ((quiz : ℕ) → x ≡ request.Report quiz → ⊥) → asks_shard x ≡ true
+shard_read (request.Start quiz) read other still unreported = refl
+shard_read (request.Save a k certainty response) read other still unreported = refl
+shard_read (request.Submit a k certainty response) read other still unreported = refl
+shard_read (request.Again a k) read other still unreported = refl
+shard_read (request.Finish a) read other still unreported = refl
+shard_read (request.Mark a k mark) read other still unreported = refl
+shard_read (request.Settle a) read other still unreported = refl
+shard_read (request.View a k) read other still unreported = refl
+shard_read (request.Total a) read other still unreported = refl
+shard_read (request.Page a) read other still unreported = refl
+shard_read (request.Grade quiz owner) read other still unreported = refl
+shard_read (request.Live shard a) read other still unreported = absurd (still shard a refl)
+shard_read (request.Report quiz) read other still unreported = absurd (unreported quiz refl)
+shard_read (request.User name role token) read other still unreported = absurd cc
+shard_read (request.Group name) read other still unreported = absurd cc
+shard_read (request.Member group user) read other still unreported = absurd cc
+shard_read (request.Import gift) read other still unreported = absurd cc
+shard_read (request.Edit entry gift) read other still unreported = absurd cc
+shard_read (request.Tune entry penalty hints) read other still unreported = absurd cc
+shard_read (request.Quiz name behaviour) read other still unreported = absurd cc
+shard_read (request.Slot quiz entry max) read other still unreported = absurd cc
+shard_read (request.Ready quiz) read other still unreported = absurd cc
+shard_read (request.Remax quiz slot max) read other still unreported = absurd cc
+shard_read (request.Policy quiz method grade) read other still unreported = absurd cc
+shard_read (request.Times quiz opens closes limit allowed handling grace review) read other still unreported = absurd cc
+shard_read (request.Override quiz whom number opens closes limit allowed) read other still unreported = absurd cc
+shard_read (request.Bank entry version) read other still unreported = absurd cc
+shard_read x read other still unreported = absurd read
 
 -- ---- the school, seen as its lists
 

@@ -1,5 +1,5 @@
 -- The commands of the command line, and how a run of each ends.
-use Rattle.std.specs.Prelude.{ℕ, true, false, ◌&&◌, if◌then◌else◌, List, [], ◌∷◌, ◌++◌, Option, Some, None, bytes_eq, codes}
+use Rattle.std.specs.Prelude.{ℕ, ◌≤◌, true, false, ◌&&◌, if◌then◌else◌, List, [], ◌∷◌, ◌++◌, Option, Some, None, option_map, bytes_eq, codes, ◌≡◌, ◌⊎◌}
 use Rattle.std.specs.Io.KnownBytes.{Appends, Keeps}
 use Rattle.qz_outside.specs.Causes.{HasRisen}
 use Rattle.qz_outside.specs.Sources.{AppendsFront}
@@ -8,7 +8,8 @@ use Rattle.quizd.specs.declared.command.Command.TheVariants as command
 use Rattle.qz_ending.specs.declared.stop.Stop.{Stop}
 use Rattle.qz_ending.specs.declared.stop.Stop.TheVariants as stop
 use Rattle.qz_ending.specs.Endings.{Outside}
-use Rattle.qz_wire.specs.Lines.{newline}
+use Rattle.qz_wire.specs.Lines.{newline, number_within}
+use Rattle.quizd.specs.Bulk.{BulkEnds}
 use Rattle.quizd.specs.Solo.{first_lists}
 use Rattle.qz_replay.specs.ReplayEndings.{ReplayEnds, ReplaysAll}
 use Rattle.quizd.specs.Scripts.{ServeEnds, ServesAll, script_limit}
@@ -18,13 +19,23 @@ use Rattle.quizd.specs.GiftEndings.{GiftEnds, GiftsAll}
 abbrev pub gift_command : List ℕ → Option Command
 gift_command word = if bytes_eq word (codes "check") then Some command.GiftCheck else (if bytes_eq word (codes "fmt") then Some command.GiftFormat else None)
 
+-- a school of 1 to 2,000 students
+abbrev pub bulk_command : List ℕ → Option Command
+bulk_command word = option_map command.Bulk (number_within 1 2000 word)
+
 -- the command that these words are; any others are none
 abbrev pub command_of : List (List ℕ) → Option Command
 command_of (word ∷ []) = if bytes_eq word (codes "replay") then Some command.Replay else None
 command_of (word ∷ second ∷ []) =
     if bytes_eq word (codes "script") && bytes_eq second (codes "memory") then Some command.Script
-    else (if bytes_eq word (codes "gift") then gift_command second else None)
+    else (if bytes_eq word (codes "gift") then gift_command second
+    else (if bytes_eq word (codes "bulk") then bulk_command second else None))
 command_of words = None
+
+-- the numbers of a command are in their ranges
+abbrev pub IsInRange : Command → Type 0
+IsInRange (command.Bulk count) = count ≤ 2000
+IsInRange c = Unit {0}
 
 -- ---- words that are no command
 
@@ -54,6 +65,7 @@ CommandEnds (Some command.Replay) old new s = ReplayEnds old new s
 CommandEnds (Some command.Script) old new s = ServeEnds script_limit first_lists old new s
 CommandEnds (Some command.GiftCheck) old new s = GiftEnds false old new s
 CommandEnds (Some command.GiftFormat) old new s = GiftEnds true old new s
+CommandEnds (Some (command.Bulk count)) old new s = Keeps old.left new.left × BulkEnds count old.holds new.holds old.sink_faults new.sink_faults s
 
 abbrev pub RunEnds : List (List ℕ) → Outside → Outside → Option Stop → Type 0
 RunEnds words old new s = CommandEnds (command_of words) old new s
@@ -64,6 +76,7 @@ CommandDoesAll (Some command.Replay) old new status = ReplaysAll old new status
 CommandDoesAll (Some command.Script) old new status = ServesAll script_limit old new status
 CommandDoesAll (Some command.GiftCheck) old new status = GiftsAll old new status
 CommandDoesAll (Some command.GiftFormat) old new status = GiftsAll old new status
+CommandDoesAll (Some (command.Bulk count)) old new status = ¬ HasRisen old.sink_faults new.sink_faults → (status ≡ 0) ⊎ (status ≡ 8)
 
 abbrev pub RunsAll : List (List ℕ) → Outside → Outside → ℕ → Type 0
 RunsAll words old new status = CommandDoesAll (command_of words) old new status

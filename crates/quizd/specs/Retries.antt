@@ -13,6 +13,7 @@ use Rattle.qz_terms.specs.Catalog.{user_of}
 use Rattle.qz_terms.specs.Laws.{Stands}
 use Rattle.qz_terms.specs.Serial.{Asking, Asks, Goes, Line, Lists, Unread, part_list}
 use Rattle.qz_school.specs.Repeating.{StandsInCatalog}
+use Rattle.qz_wire.specs.Asking.{CanBeAsked}
 
 -- the keeper of a list failed
 abbrev pub is_keep_fault : Reply → Bool
@@ -54,6 +55,14 @@ pub record IsAskedOnce (a b : Lists) (now : ℕ) (ask : Ask) (r : Reply) : Type 
   pub stands : (place : ℕ) (d : Done) → is_some ask.key ≡ true → r ≡ reply.Ok place d → StandsIn b ask r
   pub stays : (x : Ask) (told : Reply) → StandsIn a x told → StandsIn b x told
   pub again : (told : Reply) → StandsIn a ask told → IsSaidAgain told r × (b ≡ a)
+
+-- whatever a line can ask may be asked
+pub record TakesLines (takes : ℕ → Ask → Type 0) : Type 0 where
+  pub taken : (now : ℕ) (ask : Ask) → CanBeAsked ask now → takes now ask
+
+-- each request is answered so
+pub record AnswersOnce (answers : Lists → Lists → ℕ → Ask → Reply → Type 0) : Type 0 where
+  pub once : (a b : Lists) (now : ℕ) (ask : Ask) (r : Reply) → answers a b now ask r → IsAskedOnce a b now ask r
 
 -- so a line is answered
 abbrev pub GoesOnce : Lists → Lists → Line → Reply → Type 0

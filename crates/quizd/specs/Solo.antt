@@ -24,6 +24,12 @@ one_shard c h = record { records = with_list c; parts = with_list h ∷ [] }
 abbrev pub first_lists : Lists
 first_lists = one_shard (founded 1 (codes "root")) []
 
+-- a catalogue and one shard, of which no record is in doubt
+pub record IsOneShard (l : Lists) : Type 0 where
+  pub records : List Record
+  pub part : List Record
+  pub same : one_shard records part ≡ l
+
 -- ---- how it answers a request to its shard
 
 -- a request that a shard answers under a plan

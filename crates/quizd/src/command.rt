@@ -1,9 +1,10 @@
 //! The commands that the words of the command line name.
 
-ghost use Rattle.std.specs.Prelude.{◌≡◌};
-ghost use Rattle.quizd.specs.Commands.{command_of, gift_command};
+ghost use Rattle.std.specs.Prelude.{◌≡◌, IfSome};
+ghost use Rattle.quizd.specs.Commands.{IsInRange, bulk_command, command_of, gift_command};
 
 use qz_text::Text;
+use qz_wire::number;
 
 /// A command of the program.
 #[derive(Clone, Copy, PartialEq, Eq)]
@@ -16,11 +17,14 @@ pub enum Command {
     GiftCheck,
     /// A GIFT text is laid out anew.
     GiftFormat,
+    /// A school of so many students is made in memory, from 1 to 2,000.
+    Bulk { count: u32 },
 }
 
 /// The command that these words are. Any other words are none.
 pub fn command_of(words: &[Text]) -> Option<Command>
-    ensures { result ≡ command_of words.now }
+    ensures value { result ≡ command_of words.now }
+    ensures range { IfSome result IsInRange }
 {
     match words {
         [word] if word.as_str() == "replay" => Some(Command::Replay),
@@ -28,17 +32,28 @@ pub fn command_of(words: &[Text]) -> Option<Command>
             Command::Script,
         ),
         [word, second] if word.as_str() == "gift" => gift_command(second),
+        [word, second] if word.as_str() == "bulk" => bulk_command(second),
         _ => None,
     }
 }
 
 /// What is done with a GIFT text.
 fn gift_command(word: &Text) -> Option<Command>
-    ensures { result ≡ gift_command word.now }
+    ensures value { result ≡ gift_command word.now }
+    ensures range { IfSome result IsInRange }
 {
     match word.as_str() {
         "check" => Some(Command::GiftCheck),
         "fmt" => Some(Command::GiftFormat),
         _ => None,
     }
+}
+
+/// A school of as many students as a word says.
+fn bulk_command(word: &Text) -> Option<Command>
+    ensures value { result ≡ bulk_command word.now }
+    ensures range { IfSome result IsInRange }
+{
+    let count = number(word.as_bytes(), 1, 2000)?;
+    Some(Command::Bulk { count })
 }

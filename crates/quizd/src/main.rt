@@ -1,13 +1,15 @@
 //! The quiz server's program.
 #![tactic(auto)]
 
+mod bulk;
 mod command;
-mod desk;
 mod gift;
 #[cfg(test)]
 mod gift_tests;
+mod marks;
 #[cfg(test)]
 mod prompt_tests;
+mod report;
 mod run;
 mod script;
 mod script_input;
@@ -18,6 +20,7 @@ mod solo;
 #[cfg(test)]
 mod usage_tests;
 
+pub use bulk::bulk;
 pub use gift::gift;
 use qz_ending::Stop;
 use qz_outside::{StdSink, StdSource};

@@ -3,6 +3,7 @@
 ghost use Rattle.quizd.specs.Commands.{UsageWritten, RunEnds, RunsAll};
 ghost use Rattle.qz_ending.specs.Endings.{Ended};
 
+use crate::bulk::bulk;
 use crate::command::{Command, command_of};
 use crate::gift::gift;
 use crate::script::script;
@@ -17,8 +18,8 @@ const USAGE: &str =
 
 /// Runs the command that the words name, over a source and a sink, and answers its exit status.
 ///
-/// The commands so far are `replay` and `script memory`. Words that are no command are status 2: nothing is read, and the usage line is written. Where
-/// the sink fails under the usage line the status is 5.
+/// The commands so far are `replay`, `gift check`, `gift fmt`, `script memory` and `bulk N`. Words that are no command are status 2: nothing is
+/// read, and the usage line is written. Where the sink fails under the usage line the status is 5.
 pub fn run<S: Source, O: Sink>(alloc: Global, words: &[Text], source: &mut S, sink: &mut O) -> u8
     ensures ended { Ended
         (RunEnds words.now
@@ -35,6 +36,7 @@ pub fn run<S: Source, O: Sink>(alloc: Global, words: &[Text], source: &mut S, si
         Some(Command::Script) => script(alloc, source, sink),
         Some(Command::GiftCheck) => gift(alloc, false, source, sink),
         Some(Command::GiftFormat) => gift(alloc, true, source, sink),
+        Some(Command::Bulk { count }) => bulk(alloc, count, sink),
         None => show_usage(sink).status(),
     }
 }

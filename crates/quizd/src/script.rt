@@ -4,17 +4,16 @@ ghost use Rattle.std.specs.Prelude.{◌≡◌, ◌<◌, ◌^◌, length, MatchRe
 ghost use Rattle.quizd.specs.ScriptLines.{kept_item};
 ghost use Rattle.qz_ending.specs.Endings.{Ended};
 ghost use Rattle.quizd.specs.Solo.{first_lists};
-ghost use Rattle.quizd.specs.Retries.{GoesOnce};
+ghost use Rattle.quizd.specs.Retries.{AnswersOnce, GoesOnce, TakesLines};
 ghost use Rattle.quizd.specs.Scripts.{AnswersLine, AnswerStops, Says, SayStops, ServeEnds, ServesAll, script_limit};
 
-use crate::desk::Desk;
 use crate::script_input::{Given, ScriptInput};
 use crate::script_line::ScriptLine;
 use crate::solo::Solo;
 use qz_ending::Stop;
 use qz_grading::Refusal;
 use qz_outside::{Sink, Source, write_all};
-use qz_terms::Reply;
+use qz_terms::{Desk, Reply};
 use qz_text::NoMemory;
 use qz_wire::line_of;
 use std::alloc::Global;
@@ -49,6 +48,7 @@ pub fn script<S: Source, O: Sink>(alloc: Global, source: &mut S, sink: &mut O) -
 
 /// Answers the lines of a source over a desk, each before the next is read, and answers the exit status.
 ///
+/// The desk takes whatever a line can ask, no keeper of its lists fails, and what was accepted with its key is told again.
 /// With the statuses 4 (the source failed) and 9 (the source has more than `limit` bytes) the whole lines among what was read within the
 /// limit are answered, and with 5 (the sink failed) and 8 (memory was wanting) the first of them, and a front of the replies is written.
 pub fn serve<D: Desk, S: Source, O: Sink>(
@@ -58,7 +58,9 @@ pub fn serve<D: Desk, S: Source, O: Sink>(
     source: &mut S,
     sink: &mut O,
 ) -> u8
-    requires { limit < 2 ^ 32 }
+    requires limit { limit < 2 ^ 32 }
+    requires takes { TakesLines D.takes }
+    requires answers { AnswersOnce D.answers }
     ensures ended { Ended
         (ServeEnds limit (D.lists desk.old)
         (record { left = S.left source.old; source_faults = S.faults source.old; holds = O.holds sink.old; sink_faults = O.faults sink.old })
@@ -82,7 +84,9 @@ fn serve_or_stop<D: Desk, S: Source, O: Sink>(
     source: &mut S,
     sink: &mut O,
 ) -> Result<(), Stop>
-    requires { limit < 2 ^ 32 }
+    requires limit { limit < 2 ^ 32 }
+    requires takes { TakesLines D.takes }
+    requires answers { AnswersOnce D.answers }
     ensures { let ends = ServeEnds limit (D.lists desk.old)
         (record { left = S.left source.old; source_faults = S.faults source.old; holds = O.holds sink.old; sink_faults = O.faults sink.old })
         (record { left = S.left source.new; source_faults = S.faults source.new; holds = O.holds sink.new; sink_faults = O.faults sink.new })
@@ -104,6 +108,8 @@ fn serve_through<D: Desk, S: Source, O: Sink>(
     room: &mut [u8],
 ) -> Result<(), Stop>
     requires limit { limit < 2 ^ 32 }
+    requires takes { TakesLines D.takes }
+    requires answers { AnswersOnce D.answers }
     requires room { 0 < length room.old }
     ensures { let ends = ServeEnds limit (D.lists desk.old)
         (record { left = S.left source.old; source_faults = S.faults source.old; holds = O.holds sink.old; sink_faults = O.faults sink.old })
@@ -127,6 +133,8 @@ fn answer<D: Desk, O: Sink>(
     sink: &mut O,
     line: &ScriptLine,
 ) -> Result<(), Stop>
+    requires takes { TakesLines D.takes }
+    requires answers { AnswersOnce D.answers }
     ensures { MatchResult result
         (λ _. AnswersLine (D.lists desk.old) (D.lists desk.new) (O.holds sink.old) (O.holds sink.new) (O.faults sink.old) (O.faults sink.new) line.now)
         (AnswerStops (D.lists desk.old) (D.lists desk.new) (O.holds sink.old) (O.holds sink.new) (O.faults sink.old) (O.faults sink.new) line.now) }
@@ -139,6 +147,8 @@ fn answer<D: Desk, O: Sink>(
 
 /// The reply to a line.
 fn reply_to<D: Desk>(alloc: Global, desk: &mut D, line: &ScriptLine) -> Result<Reply, NoMemory>
+    requires takes { TakesLines D.takes }
+    requires answers { AnswersOnce D.answers }
     ensures { MatchResult result (GoesOnce (D.lists desk.old) (D.lists desk.new) (kept_item line.now))
         (λ _. D.lists desk.new ≡ D.lists desk.old) }
 {

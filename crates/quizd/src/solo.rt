@@ -1,6 +1,6 @@
 //! The desk of a script: a catalogue and one shard, in memory.
 
-ghost use Rattle.std.specs.Prelude.{◌≡◌, ◌⊎◌, ◌<◌, List, [], true, false, Some, None, IfErr, IfOk, MatchResult};
+ghost use Rattle.std.specs.Prelude.{◌≡◌, ◌⊎◌, ◌<◌, ◌++◌, List, [], true, false, length, Some, None, IfErr, IfOk, MatchResult, OnOk};
 ghost use Rattle.qz_grading.specs.Grading.{at_place};
 ghost use Rattle.qz_grading.specs.declared.refusal.Refusal.TheVariants as refusal;
 ghost use Rattle.qz_grading.specs.declared.refusal.Thing.TheVariants as thing;
@@ -12,17 +12,21 @@ ghost use Rattle.qz_terms.specs.Legal.{AllAgree};
 ghost use Rattle.qz_terms.specs.declared.reply.Reply.TheVariants as reply;
 ghost use Rattle.qz_catalog.specs.Holdings.{founded};
 ghost use Rattle.qz_wire.specs.Asking.{CanBeAsked, HasToken};
+ghost use Rattle.qz_terms.specs.Serial.{lists_over, part_list};
+ghost use Rattle.quizd.specs.Bulk.{is_memory, marks_of};
 ghost use Rattle.quizd.specs.Retries.{IsAskedOnce};
-ghost use Rattle.quizd.specs.Solo.{IsPlanned, IsUnplanned, NoJobIsDone, asks_shard, one_shard};
+ghost use Rattle.quizd.specs.Solo.{IsOneShard, IsPlanned, IsUnplanned, NoJobIsDone, asks_shard, one_shard};
 
-use crate::desk::Desk;
+use crate::marks::marks_onto;
+use crate::report::report;
 use qz_catalog::Catalog;
+use qz_decimal::Mark;
 use qz_grading::{AttemptId, Refusal, Steps, Thing};
 use qz_shard::{Older, Shard};
 use qz_terms::{
-    Ask, Caller, Done, Plan, Reply, Request, User, asks_catalog, attempt_named, forbidden,
+    Ask, Caller, Desk, Done, Plan, Reply, Request, User, asks_catalog, attempt_named, forbidden,
 };
-use qz_text::{NoMemory, Text};
+use qz_text::{Listed, NoMemory, Text};
 use std::alloc::Global;
 use std::marker::{Brand, Model};
 use std::sync::ledger::{Blank, Ledger};
@@ -180,6 +184,13 @@ fn live(shard: &mut Shard, number: u8, after: AttemptId) -> Result<Reply, Refusa
     })
 }
 
+/// Whether memory was wanting for an answer.
+fn is_memory(reply: &Reply) -> bool
+    ensures { result ≡ is_memory reply.now }
+{
+    matches!(reply, Reply::Refused(Refusal::Memory))
+}
+
 impl Solo {
     /// A school that was just founded, with this token of its manager.
     pub fn new(alloc: Global, token: &str) -> Result<Solo, NoMemory>
@@ -189,6 +200,41 @@ impl Solo {
             catalog: Catalog::new(alloc, 1, &Text::of(alloc, token)?)?,
             shard: Shard::new(alloc, 0, 1),
         })
+    }
+
+    /// How many records the catalogue and the shard have.
+    pub fn counts(&self) -> (u64, u64)
+        ensures catalog { result.0 ≡ length self.now.records.list }
+        ensures shard { result.1 ≡ length (part_list self.now 0) }
+        ensures one { IsOneShard self.now }
+    {
+        (self.catalog.len(), self.shard.len())
+    }
+
+    /// Adds the marks of an attempt's slots to others, in order. An attempt that isn't there has none.
+    pub fn marks_onto(
+        &mut self,
+        alloc: Global,
+        attempt: AttemptId,
+        marks: &mut Listed<Mark>,
+    ) -> Result<(), NoMemory>
+        ensures marks { OnOk result (marks.new ≡ marks.old ++ marks_of (part_list self.old 0) attempt) }
+        ensures unchanged { self.new ≡ self.old }
+    {
+        marks_onto(&self.catalog, &mut self.shard, alloc, attempt, marks)
+    }
+
+    /// Answers a request as `ask` does, and tells want of memory apart; then nothing has changed.
+    pub fn follow(&mut self, alloc: Global, ask: &Ask, moment: u64) -> Result<(), NoMemory>
+        requires { CanBeAsked ask.now moment }
+        ensures { OnOk result (self.new ≡ lists_over self.old moment ask.now) }
+    {
+        let _counts = self.counts();
+        let reply = self.ask(alloc, ask, moment);
+        if is_memory(&reply) {
+            return Err(NoMemory);
+        }
+        Ok(())
     }
 
     /// The reply to a request of a user to the shard.
@@ -228,6 +274,7 @@ impl Solo {
         }
         match &ask.request {
             Request::Live { shard, attempt } => live(&mut self.shard, *shard, *attempt),
+            Request::Report { quiz } => report(&self.catalog, &mut self.shard, alloc, *quiz),
             _ => self.answer_shard(alloc, &user, ask, moment),
         }
     }
@@ -235,6 +282,10 @@ impl Solo {
 
 impl Desk for Solo {
     ghost lists = { λ s. s };
+
+    ghost takes = { λ moment ask. CanBeAsked ask moment };
+
+    ghost answers = { IsAskedOnce };
 
     fn ask(&mut self, alloc: Global, ask: &Ask, moment: u64) -> Reply {
         match self.answer(alloc, ask, moment) {

@@ -2,6 +2,7 @@ use Rattle.std.proofs.Common.{rules, ◌≡◌, None, sym, ◌∙◌}
 use Rattle.std.proofs.lemmas.Result.{err_from_is_err_and}
 use Rattle.qz_terms.specs.declared.reply.Reply.TheVariants as reply
 use Rattle.qz_terms.specs.Cause.{forbidden}
+use Rattle.quizd.proofs.ReportLemmas.{report_seen}
 use Rattle.quizd.proofs.SoloLemmas.{forbidden_ask, live_seen, records_ask, seen_from, seen_still, solo_recorded, unknown_user, user_found}
 use Rattle.quizd.proofs.solo.Solo.answer.Goals as goal
 
@@ -33,3 +34,10 @@ returns-in-Live c =
     let may : forbidden c.in_ok-user.user c.args.ask.now.request ≡ None = search rules in
     live_seen c.args.self.now c.self.inside.catalog c.self.inside.shard c.live.new.shard c.args.moment c.args.ask.now c.in_ok-user.user c.in-Live.shard c.in-Live.attempt c.live.result
     c.self.view_is c.live.ensures.unchanged c.in-Live.is c.requires.keyed found may c.live.ensures.told c.live.ensures.refused
+
+pub returns-in-Report : goal.returns-in-Report
+returns-in-Report c =
+    let found = user_found c.self.inside.catalog c.args.ask.now.caller c.token_of.result.now c.in_ok-user.user c.token_of.ensures c.in_ok-user.ensures.there in
+    let may : forbidden c.in_ok-user.user c.args.ask.now.request ≡ None = search rules in
+    report_seen c.args.self.now c.self.inside.catalog c.self.inside.shard c.report.new.shard c.args.moment c.args.ask.now c.in_ok-user.user c.in-Report.quiz c.report.result
+    c.self.view_is c.report.ensures.unchanged c.in-Report.is c.requires.keyed found may c.report.ensures.told c.report.ensures.refused

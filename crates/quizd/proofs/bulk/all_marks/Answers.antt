@@ -1,0 +1,8 @@
+use Rattle.std.proofs.Common.{◌∙◌}
+use Rattle.qz_terms.specs.Serial.{part_list}
+use Rattle.quizd.proofs.BulkLemmas.{more_marks}
+use Rattle.quizd.proofs.bulk.all_marks.Goals as goal
+
+pub loop-before-preserved : goal.loop-before-preserved
+loop-before-preserved c =
+    (c.in_ok-marks_onto.ensures.marks ∙ rw (c.loop-before.invariant.0, c.loop-before.invariant.1) (more_marks (part_list c.args.school.now 0) c.loop-before.before), c.in_ok-marks_onto.ensures.unchanged ∙ c.loop-before.invariant.1)

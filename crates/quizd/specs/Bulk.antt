@@ -1,0 +1,132 @@
+-- A large school in memory: what is asked to make it, and what is told of it.
+use Rattle.std.specs.Prelude.{Bool, true, false, ℕ, ◌+◌, ◌%◌, ◌==◌, if◌then◌else◌, List, [], ◌∷◌, ◌++◌, ℤ, map, flat_map, filter_map, fold, length, Option, Some, None, codes, decimal}
+use Rattle.std.specs.Io.KnownBytes.{Appends, Keeps}
+use Rattle.qz_ending.specs.declared.stop.Stop.{Stop}
+use Rattle.qz_ending.specs.declared.stop.Stop.TheVariants as stop
+use Rattle.qz_grading.specs.declared.refusal.AttemptId.{AttemptId}
+use Rattle.qz_grading.specs.Words.{mark_text}
+use Rattle.qz_outside.specs.Causes.{HasRisen}
+use Rattle.qz_outside.specs.Sources.{AppendsFront}
+use Rattle.qz_terms.specs.declared.record.Record.{Record}
+use Rattle.qz_grading.specs.declared.refusal.Refusal.TheVariants as refusal
+use Rattle.qz_terms.specs.declared.reply.Part.{Part}
+use Rattle.qz_terms.specs.declared.reply.Reply.{Reply}
+use Rattle.qz_terms.specs.declared.reply.Reply.TheVariants as reply
+use Rattle.qz_terms.specs.declared.reply.Shown.{Shown}
+use Rattle.qz_terms.specs.declared.reply.Shown.TheVariants as shown
+use Rattle.qz_terms.specs.History.{mark_in, slots}
+use Rattle.qz_terms.specs.Lists.{places_to}
+use Rattle.qz_terms.specs.Rows.{sum_of}
+use Rattle.qz_terms.specs.Serial.{Asking, Line, Lists, Unread, lists_over, part_list}
+use Rattle.qz_wire.specs.Asking.{ask_of}
+use Rattle.qz_wire.specs.Lines.{newline}
+use Rattle.qz_wire.specs.Words.{words_of}
+use Rattle.quizd.specs.ScriptLines.{item_by}
+use Rattle.quizd.specs.Solo.{first_lists}
+
+-- ---- what is asked, all at the moment 1000
+
+-- student i, with the token s1, s2, ..
+abbrev pub user_line : ℕ → List ℕ
+user_line i = codes "1000 root u" ++ (decimal i ++ (codes " user s" ++ (decimal i ++ (codes " student s" ++ decimal i))))
+
+-- ten questions of which true is right
+abbrev pub import_line : List ℕ
+import_line =
+    codes "1000 root bank import "
+    ++ codes "Bulk\\s1\\s{T}\\n\\nBulk\\s2\\s{T}\\n\\nBulk\\s3\\s{T}\\n\\nBulk\\s4\\s{T}\\n\\nBulk\\s5\\s{T}\\n\\n"
+    ++ codes "Bulk\\s6\\s{T}\\n\\nBulk\\s7\\s{T}\\n\\nBulk\\s8\\s{T}\\n\\nBulk\\s9\\s{T}\\n\\nBulk\\s10\\s{T}"
+
+-- slot k asks question k for a max mark of 1
+abbrev pub slot_line : ℕ → List ℕ
+slot_line k = codes "1000 root slot" ++ (decimal k ++ (codes " slot 1 " ++ (decimal k ++ codes " 1")))
+
+abbrev pub quiz_lines : List (List ℕ)
+quiz_lines =
+    import_line ∷ codes "1000 root quiz quiz Bulk deferredfeedback"
+    ∷ (map slot_line (places_to 10) ++ codes "1000 root ready ready 1" ∷ [])
+
+-- student i is user i + 1, behind the manager, and starts once
+abbrev pub attempt_of : ℕ → AttemptId
+attempt_of i = record { user = i + 1; nth = 1 }
+
+-- false where i + k is divisible by 3, and else true
+abbrev pub picked : ℕ → ℕ → ℕ
+picked i k = if (i + k) % 3 == 0 then 2 else 1
+
+abbrev pub start_line : ℕ → List ℕ
+start_line i = codes "1000 s" ++ (decimal i ++ codes " start start 1")
+
+abbrev pub save_line : ℕ → ℕ → List ℕ
+save_line i k =
+    codes "1000 s" ++ (decimal i ++ (codes " save" ++ (decimal k ++ (codes " save " ++ (decimal (i + 1)
+    ++ (codes ".1 " ++ (decimal k ++ (codes " 0 pick:" ++ decimal (picked i k)))))))))
+
+abbrev pub finish_line : ℕ → List ℕ
+finish_line i = codes "1000 s" ++ (decimal i ++ (codes " finish finish " ++ (decimal (i + 1) ++ codes ".1")))
+
+-- what student i asks
+abbrev pub student_lines : ℕ → List (List ℕ)
+student_lines i = start_line i ∷ (map (save_line i) (places_to 10) ++ finish_line i ∷ [])
+
+-- the users, the quiz, and one student after the other
+abbrev pub bulk_lines : ℕ → List (List ℕ)
+bulk_lines n = map user_line (places_to n) ++ (quiz_lines ++ flat_map student_lines (places_to n))
+
+-- ---- what comes of it
+
+-- the moment and the request of a line
+abbrev pub asked_by : List ℕ → Line
+asked_by line = item_by (ask_of (words_of line))
+
+-- the lists that the answer leaves, where memory isn't wanting; a line without a reading changes nothing
+abbrev pub after_asking : Lists → Line → Lists
+after_asking a (Unread place rule) = a
+after_asking a (Asking now ask) = lists_over a now ask
+
+abbrev pub after_line : Lists → List ℕ → Lists
+after_line a line = after_asking a (asked_by line)
+
+-- the school of so many students
+abbrev pub school_of : ℕ → Lists
+school_of n = fold after_line first_lists (bulk_lines n)
+
+-- memory was wanting
+abbrev pub is_memory : Reply → Bool
+is_memory (reply.Refused refusal.Memory) = true
+is_memory r = false
+
+-- the marks of an attempt's slots
+abbrev pub marks_of : List Record → AttemptId → List ℤ
+marks_of h a = filter_map mark_in (slots h a)
+
+-- the mark that is shown of a slot, if there is one
+abbrev pub shown_by : Shown ℤ → Option ℤ
+shown_by shown.None = None
+shown_by shown.Hidden = None
+shown_by (shown.Value mark) = Some mark
+
+abbrev pub shown_mark : Part → Option ℤ
+shown_mark p = shown_by p.mark
+
+-- the marks of the attempts of so many students
+abbrev pub all_marks : List Record → ℕ → List ℤ
+all_marks h n = flat_map (λ i. marks_of h (attempt_of i)) (places_to n)
+
+-- how many students there are, how many records catalogue and shard have, and the sum of all marks
+abbrev pub school_text : ℕ → Lists → List ℕ
+school_text n a =
+    codes "students " ++ (decimal n ++ (codes "\nrecords " ++ (decimal (length a.records.list)
+    ++ (codes " " ++ (decimal (length (part_list a 0)) ++ (codes "\nsum " ++ (mark_text (sum_of (all_marks (part_list a 0) n)) ++ newline)))))))
+
+abbrev pub bulk_text : ℕ → List ℕ
+bulk_text n = school_text n (school_of n)
+
+-- ---- how it ends
+
+-- with want of memory nothing was written
+abbrev pub BulkEnds : ℕ → Option (List ℕ) → Option (List ℕ) → ℕ → ℕ → Option Stop → Type 0
+BulkEnds n old new before now None = Appends old new (bulk_text n)
+BulkEnds n old new before now (Some stop.SinkFault) = AppendsFront old new (bulk_text n) × HasRisen before now
+BulkEnds n old new before now (Some stop.Memory) = Keeps old new
+BulkEnds n old new before now (Some s) = ⊥
