@@ -58,6 +58,7 @@ more_followed a ls i d there = fold_more after_line a ls i d there
 
 pub bulk_ends : (n : ℕ) (old new : Option (List ℕ)) (before now : ℕ) (s : Stop) → BulkEnds n old new before now (Some s) → ¬ HasRisen before now → (status_of (Some s) ≡ 0) ⊎ (status_of (Some s) ≡ 8)
 bulk_ends n old new before now stop.BadWords ends quiet = absurd ends
+bulk_ends n old new before now stop.DoorFault ends quiet = absurd ends
 bulk_ends n old new before now (stop.Malformed line) ends quiet = absurd ends
 bulk_ends n old new before now (stop.Unreadable line rule) ends quiet = absurd ends
 bulk_ends n old new before now stop.SourceFault ends quiet = absurd ends

@@ -11,3 +11,4 @@ pub mod MarkLemmas
 pub mod BulkLemmas
 pub mod SoloLemmas
 pub mod GiftLemmas
+pub mod ServingLemmas

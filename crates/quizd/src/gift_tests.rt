@@ -10,7 +10,8 @@ fn told(alloc: Global, word: &str, text: &[u8]) -> Result<(u8, String), NoMemory
     words.push(Text::of(alloc, word)?)?;
     let mut source = MemorySource::new(Bytes::of(alloc, text)?, Listed::empty(alloc), 65_536);
     let mut sink = MemorySink::new(alloc, 1 << 20, Listed::empty(alloc), 65_536)?;
-    let status = run(alloc, &words, &mut source, &mut sink);
+    let mut doors = no_doors(alloc)?;
+    let status = run(alloc, &words, &mut source, &mut sink, &mut doors);
     Ok((status, String::from_utf8_lossy(alloc, sink.bytes())?))
 }
 

@@ -1,6 +1,8 @@
 //! The quiz server's program.
 #![tactic(auto)]
 
+ghost use Rattle.std.specs.Prelude.{◌≡◌, length, IfOk};
+
 mod bulk;
 mod command;
 mod gift;
@@ -16,18 +18,22 @@ mod script_input;
 mod script_line;
 #[cfg(test)]
 mod script_tests;
+mod serve;
 mod solo;
 #[cfg(test)]
 mod usage_tests;
 
 pub use bulk::bulk;
+use command::{Command, command_of};
 pub use gift::gift;
 use qz_ending::Stop;
+use qz_links::{BindFault, MemoryClock, MemoryDoor, MemoryLink, StdClock, TcpDoor};
 use qz_outside::{StdSink, StdSource};
 pub use qz_replay::replay;
-use qz_text::{NoMemory, Text};
+use qz_text::{Listed, NoMemory, Text};
 pub use run::run;
 pub use script::script;
+pub use serve::serve;
 use std::alloc::Global;
 use std::process::ExitCode;
 use std::rt::Env;
@@ -47,11 +53,84 @@ fn arguments(rt: &(impl Env + Alloc<A = Global>)) -> Result<Vec<Text>, NoMemory>
     Ok(words)
 }
 
+/// How many doors a run is given.
+const DOORS: usize = 16;
+
+/// Why there are no doors.
+#[derive(Clone, Copy)]
+enum Doorless {
+    Bound(BindFault),
+    Shared,
+    Memory,
+}
+
+/// Sixteen doors at a port of this machine, which share one listener, each with the system's clock.
+fn open_doors(rt: HostRuntime, port: u16) -> Result<Vec<(TcpDoor, StdClock<HostRuntime>)>, Doorless>
+    ensures { IfOk result (λ doors. length doors.items ≡ DOORS) }
+{
+    let mut first = match TcpDoor::bind(&rt, port) {
+        Ok(door) => door,
+        Err(fault) => return Err(Doorless::Bound(fault)),
+    };
+    let Ok(mut doors) = Vec::with_capacity(rt.alloc(), DOORS) else {
+        return Err(Doorless::Memory);
+    };
+    for _ in 0..DOORS - 1 {
+        let Ok(door) = first.try_share() else {
+            return Err(Doorless::Shared);
+        };
+        doors.push_reserved((door, StdClock::new(rt)));
+    }
+    doors.push_reserved((first, StdClock::new(rt)));
+    Ok(doors)
+}
+
+/// Sixteen doors at which nobody comes.
+fn no_doors(alloc: Global) -> Result<Vec<(MemoryDoor<MemoryLink>, MemoryClock)>, NoMemory>
+    ensures { IfOk result (λ doors. length doors.items ≡ DOORS) }
+{
+    let mut doors = Vec::with_capacity(alloc, DOORS)?;
+    for _ in 0..DOORS {
+        let door = MemoryDoor::new(alloc, Listed::empty(alloc), Listed::empty(alloc))?;
+        doors.push_reserved((door, MemoryClock::new(Listed::empty(alloc))));
+    }
+    Ok(doors)
+}
+
+/// Says on standard error why nothing is served.
+fn tell(rt: &HostRuntime, port: u16, why: Doorless) -> Stop {
+    let told = match why {
+        Doorless::Bound(BindFault::InUse) => eprintln!(rt;
+            "quizd: port {port} is in use by another program"
+        ),
+        Doorless::Bound(BindFault::NotAllowed) => eprintln!(rt;
+            "quizd: port {port} may not be opened by this user"
+        ),
+        Doorless::Bound(BindFault::Other) => eprintln!(rt; "quizd: port {port} can't be opened"),
+        Doorless::Shared => eprintln!(rt; "quizd: the listener at port {port} can't be shared"),
+        Doorless::Memory => return Stop::Memory,
+    };
+    // Where standard error fails too, the status tells it.
+    let _ = told;
+    Stop::DoorFault
+}
+
 fn main(rt: HostRuntime) -> ExitCode {
     let Ok(words) = arguments(&rt) else {
         return ExitCode::from(Stop::Memory.status());
     };
+    let alloc = rt.alloc();
     let mut source = StdSource::new(rt.reader());
     let mut sink = StdSink::new(io::writer(&rt));
-    ExitCode::from(run(rt.alloc(), &words, &mut source, &mut sink))
+    let status = match command_of(&words) {
+        Some(Command::Serve { port, .. }) => match open_doors(rt, port) {
+            Ok(mut doors) => run(alloc, &words, &mut source, &mut sink, &mut doors),
+            Err(why) => tell(&rt, port, why).status(),
+        },
+        _ => match no_doors(alloc) {
+            Ok(mut doors) => run(alloc, &words, &mut source, &mut sink, &mut doors),
+            Err(NoMemory) => Stop::Memory.status(),
+        },
+    };
+    ExitCode::from(status)
 }

@@ -75,7 +75,8 @@ fn answered(alloc: Global, pieces: &[&str]) -> Result<(u8, usize), NoMemory> {
         faults: 0,
     };
     let mut sink = Counting { replies: &replies };
-    let status = run(alloc, &words, &mut source, &mut sink);
+    let mut doors = no_doors(alloc)?;
+    let status = run(alloc, &words, &mut source, &mut sink, &mut doors);
     Ok((status, replies.get()))
 }
 

@@ -42,7 +42,8 @@ fn scripted(alloc: Global, text: &[u8], outer: Outer) -> Result<(u8, String), No
     words.push(Text::of(alloc, "memory")?)?;
     let mut source = source_of(alloc, text, outer)?;
     let mut sink = sink_for(alloc, outer)?;
-    let status = run(alloc, &words, &mut source, &mut sink);
+    let mut doors = no_doors(alloc)?;
+    let status = run(alloc, &words, &mut source, &mut sink, &mut doors);
     Ok((status, String::from_utf8_lossy(alloc, sink.bytes())?))
 }
 

@@ -16,7 +16,8 @@ fn shown(alloc: Global, word: &str, failing: u64) -> Result<(u8, String), NoMemo
         items: vec![in alloc; failing; 1]?,
     };
     let mut sink = MemorySink::new(alloc, 1 << 20, failing, 9)?;
-    let status = run(alloc, &words, &mut source, &mut sink);
+    let mut doors = no_doors(alloc)?;
+    let status = run(alloc, &words, &mut source, &mut sink, &mut doors);
     Ok((status, String::from_utf8_lossy(alloc, sink.bytes())?))
 }
 

@@ -23,6 +23,7 @@ status_of (Some stop.SourceFault) = 4
 status_of (Some stop.SinkFault) = 5
 status_of (Some stop.Memory) = 8
 status_of (Some stop.TooLong) = 9
+status_of (Some stop.DoorFault) = 10
 
 -- a call with this status ended so, for some stop
 pub record Ended (Ends : Option Stop → Type 0) (status : ℕ) : Type 0 where

@@ -24,6 +24,8 @@ pub enum Stop {
     Memory,
     /// The source held more bytes than the limit: status 9.
     TooLong,
+    /// A door failed: status 10.
+    DoorFault,
 }
 
 impl Stop {
@@ -41,6 +43,7 @@ impl Stop {
             Stop::SinkFault => 5,
             Stop::Memory => 8,
             Stop::TooLong => 9,
+            Stop::DoorFault => 10,
         }
     }
 }

@@ -12,6 +12,7 @@ fn each_stop_has_its_status(rt: HostRuntime) {
         (Stop::SinkFault, 5),
         (Stop::Memory, 8),
         (Stop::TooLong, 9),
+        (Stop::DoorFault, 10),
     ] {
         assert_eq!(rt; stop.status(), status, "{stop:?}");
     }

@@ -1,0 +1,113 @@
+//! Serving links over a school in memory.
+
+ghost use Rattle.std.specs.Prelude.{◌≡◌, ◌<◌, ◌++◌, ◌∷◌, length, IfOk, MatchResult, None, OnErr, Some, string_bytes};
+ghost use Rattle.qz_ending.specs.Endings.{Ended};
+ghost use Rattle.qz_doors.specs.Answers.{Asks};
+ghost use Rattle.qz_doors.specs.Doors.{ServesDoor};
+ghost use Rattle.qz_terms.specs.Serial.{Lists};
+ghost use Rattle.quizd.specs.Retries.{IsAskedOnce};
+ghost use Rattle.quizd.specs.Serving.{DoorsEnd, SaysServed, ServesFirst, served_line};
+
+use crate::solo::Solo;
+use qz_doors::{DoorEnd, serve_door};
+use qz_ending::Stop;
+use qz_links::{Clock, Door};
+use qz_outside::{Sink, write_all};
+use qz_text::NoMemory;
+use std::alloc::Global;
+
+/// Serves the first of some doors over a school in memory that was just founded, with one shard and the manager's token `root`, until
+/// `links` links were taken, none comes or the door fails; writes `served N`, how many were taken, and answers the exit status.
+///
+/// Status 10: the door failed. Status 8: memory was wanting for the school, for the line, or for a link, which has ended then. The other doors stay as
+/// they are.
+pub fn serve<O: Sink, R: Door, C: Clock>(
+    alloc: Global,
+    links: u64,
+    sink: &mut O,
+    doors: &mut Vec<(R, C)>,
+) -> u8
+    requires some_door { 0 < length doors.old.items }
+    ensures ended { Ended
+        (DoorsEnd (λ door served a b end. ServesDoor (Asks C.tells IsAskedOnce)
+        (λ link. record { left = R.Link.left link; holds = R.Link.holds link; faults = R.Link.faults link })
+        links
+        (record { left = R.left door; returned = R.returned door; returns = R.returns door; out = R.out door; faults = R.faults door })
+        (record { left = R.left served; returned = R.returned served; returns = R.returns served; out = R.out served; faults = R.faults served })
+        a b end) doors.old.items doors.new.items (O.holds sink.old) (O.holds sink.new) (O.faults sink.old) (O.faults sink.new))
+        result }
+    ensures doors { length doors.new.items ≡ length doors.old.items }
+{
+    match serve_first(alloc, links, doors) {
+        Ok(end) => match say(alloc, sink, end) {
+            Ok(()) => 0,
+            Err(stop) => stop.status(),
+        },
+        Err(NoMemory) => Stop::Memory.status(),
+    }
+}
+
+/// Serves a door, by its clock, over a desk.
+fn serve_at<R: Door, C: Clock>(
+    alloc: Global,
+    links: u64,
+    desk: &mut Solo,
+    at: &mut (R, C),
+) -> DoorEnd
+    ensures { ServesDoor (Asks C.tells IsAskedOnce)
+        (λ link. record { left = R.Link.left link; holds = R.Link.holds link; faults = R.Link.faults link })
+        links
+        (record { left = R.left at.old.0; returned = R.returned at.old.0; returns = R.returns at.old.0; out = R.out at.old.0; faults = R.faults at.old.0 })
+        (record { left = R.left at.new.0; returned = R.returned at.new.0; returns = R.returns at.new.0; out = R.out at.new.0; faults = R.faults at.new.0 })
+        (record { lists = desk.old; clock = at.old.1 })
+        (record { lists = desk.new; clock = at.new.1 })
+        result }
+{
+    serve_door(alloc, desk, &mut at.0, &mut at.1, links)
+}
+
+/// Serves the first of some doors over a school just founded.
+fn serve_first<R: Door, C: Clock>(
+    alloc: Global,
+    links: u64,
+    doors: &mut Vec<(R, C)>,
+) -> Result<DoorEnd, NoMemory>
+    requires { 0 < length doors.old.items }
+    ensures served { IfOk result (ServesFirst (λ door served a b end. ServesDoor (Asks C.tells IsAskedOnce)
+        (λ link. record { left = R.Link.left link; holds = R.Link.holds link; faults = R.Link.faults link })
+        links
+        (record { left = R.left door; returned = R.returned door; returns = R.returns door; out = R.out door; faults = R.faults door })
+        (record { left = R.left served; returned = R.returned served; returns = R.returns served; out = R.out served; faults = R.faults served })
+        a b end) doors.old.items doors.new.items) }
+    ensures kept { OnErr result (doors.new.items ≡ doors.old.items) }
+{
+    let mut desk = Solo::new(alloc, "root")?;
+    Ok(serve_at(alloc, links, &mut desk, &mut doors[0]))
+}
+
+fn served_line(alloc: Global, taken: u64) -> Result<String, NoMemory>
+    ensures { IfOk result (λ line. string_bytes line ≡ served_line taken) }
+{
+    Ok(format!(in alloc; "served {taken}\n")?)
+}
+
+/// Writes how many links were taken.
+fn say<O: Sink>(alloc: Global, sink: &mut O, end: DoorEnd) -> Result<(), Stop>
+    ensures { MatchResult result
+        (λ _. SaysServed (O.holds sink.old) (O.holds sink.new) (O.faults sink.old) (O.faults sink.new) end None)
+        (λ stop. SaysServed (O.holds sink.old) (O.holds sink.new) (O.faults sink.old) (O.faults sink.new) end (Some stop)) }
+{
+    let Ok(line) = served_line(alloc, end.taken) else {
+        return Err(Stop::Memory);
+    };
+    if write_all(sink, line.as_bytes()).is_err() {
+        return Err(Stop::SinkFault);
+    }
+    if end.fault {
+        return Err(Stop::DoorFault);
+    }
+    if end.short > 0 {
+        return Err(Stop::Memory);
+    }
+    Ok(())
+}
