@@ -1,8 +1,9 @@
 #!/usr/bin/env python3
-"""The school of `quizd bulk N` up to before the edit, by a plain program that keeps dictionaries and promises nothing.
+"""The school of `quizd bulk N`, by a plain program that keeps dictionaries and promises nothing.
 
 It makes N students, ten true-false questions and a quiz of ten slots of max mark 1; student i starts, saves a wrong answer in slot k where i + k
-is divisible by 3 and the right one elsewhere, and finishes. It prints the lines of `quizd bulk N`."""
+is divisible by 3 and the right one elsewhere, and finishes. Then the first question is corrected, and each slot of each attempt bound anew. It
+prints the lines of `quizd bulk N`."""
 import sys
 
 UNIT = 10**7
@@ -13,7 +14,7 @@ class School:
         self.users, self.tokens, self.entries, self.quizzes = {1: "admin"}, {"root": 1}, {}, {}
         self.catalog_keys, self.shard_keys = {}, {}
         self.catalog_records, self.shard_records = 1, 0
-        self.attempts, self.numbers = {}, {}
+        self.attempts, self.numbers, self.jobs = {}, {}, []
 
     def catalog(self, caller, key, request):
         known = self.catalog_keys.get((caller, key))
@@ -59,7 +60,7 @@ class School:
     def start(self, user, quiz):
         number = self.numbers.get(user, 0) + 1
         self.numbers[user] = number
-        slots = [[self.entries[entry][-1], maximum, None, "todo"] for entry, maximum in self.quizzes[quiz]["slots"]]
+        slots = [[self.entries[entry][-1], maximum, None, "todo", self.catalog_records] for entry, maximum in self.quizzes[quiz]["slots"]]
         self.attempts[user, number] = {"quiz": quiz, "slots": slots, "ended": False}
         return user, number
 
@@ -76,9 +77,34 @@ class School:
     def total(self, attempt):
         return sum(self.mark(bound) for bound in self.attempts[attempt]["slots"])
 
+    def edit_entry(self, entry, question):
+        self.entries[entry].append(question)
+        return len(self.entries[entry])
+
+    def make_job(self, quiz):
+        versions = [self.entries[entry][-1] for entry, _ in self.quizzes[quiz]["slots"]]
+        position = self.catalog_records + 1
+        self.jobs.append([position, versions, self.targets(quiz, position)])
+        return len(self.jobs)
+
+    def targets(self, quiz, position):
+        for attempt in sorted(self.attempts):
+            if self.attempts[attempt]["quiz"] == quiz:
+                for place, bound in enumerate(self.attempts[attempt]["slots"]):
+                    if bound[4] < position:
+                        yield place, bound
+
+    def work(self, job):
+        position, versions, targets = self.jobs[job - 1]
+        self.shard_records += 1
+        for place, bound in targets:
+            bound[0], bound[4] = versions[place], position
+            return "rebound", self.mark(bound)
+        return "jobdone", job
+
     @staticmethod
     def mark(bound):
-        (_, right), maximum, answer, _ = bound
+        (_, right), maximum, answer, _, _ = bound
         return maximum if answer == right else 0
 
 
@@ -98,10 +124,15 @@ def main(count):
             answer = 2 if (i + k) % 3 == 0 else 1
             school.shard(user, f"save{k}", lambda: school.save(attempt, k, answer))
         school.shard(user, "finish", lambda: school.finish(attempt))
+    before = sum(school.total(attempt) for attempt in school.attempts)
+    school.catalog(1, "edit", lambda: school.edit_entry(1, ("Bulk 1", 2)))
+    job = school.catalog(1, "regrade", lambda: school.make_job(quiz))
+    while school.work(job)[0] != "jobdone":
+        pass
     total = sum(school.total(attempt) for attempt in school.attempts)
     print(f"students {count}")
     print(f"records {school.catalog_records} {school.shard_records}")
-    print(f"sum {total // UNIT}.{total % UNIT:07}")
+    print(f"sum {before // UNIT}.{before % UNIT:07} {total // UNIT}.{total % UNIT:07}")
 
 
 main(int(sys.argv[1]))

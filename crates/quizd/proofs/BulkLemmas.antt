@@ -1,9 +1,9 @@
 -- One line, one student, one mark more.
-use Rattle.std.proofs.Common.{◌≡◌, ℕ, ◌+◌, ◌<◌, ℤ, pos, ◌+ℤ◌, List, [], ◌∷◌, ◌++◌, ◌⊎◌, inr, Option, Some, length, take, refl, sym, ap, ◌∙◌, append-nil, append_assoc, arith}
-use Rattle.std.specs.Prelude.{flat_map, fold, get_or, map}
+use Rattle.std.proofs.Common.{◌≡◌, ℕ, ◌+◌, ◌<◌, ◌%◌, ℤ, pos, ◌+ℤ◌, List, [], ◌∷◌, ◌++◌, ◌⊎◌, inr, Option, Some, None, Result, Ok, Err, length, take, refl, sym, ap, ◌∙◌, append-nil, append_assoc, arith}
+use Rattle.std.specs.Prelude.{OnOk, flat_map, fold, get_or, map}
 use Rattle.std.proofs.lemmas.List.Sums.{fold_more}
 use Rattle.std.proofs.lemmas.Grind.{flat_map-append}
-use Rattle.std.proofs.lemmas.List.{map-id}
+use Rattle.std.proofs.lemmas.List.{length-set, map-id}
 use Rattle.std.proofs.lemmas.List.FromFn.{map-range_with_len_more}
 use Rattle.qz_ending.specs.declared.stop.Stop.{Stop}
 use Rattle.qz_ending.specs.declared.stop.Stop.TheVariants as stop
@@ -12,8 +12,11 @@ use Rattle.qz_outside.specs.Causes.{HasRisen}
 use Rattle.qz_terms.specs.Lists.{places_to}
 use Rattle.qz_terms.specs.Rows.{sum_of}
 use Rattle.qz_terms.specs.declared.record.Record.{Record}
-use Rattle.qz_terms.specs.Serial.{Lists}
-use Rattle.quizd.specs.Bulk.{BulkEnds, after_line, all_marks, attempt_of, marks_of}
+use Rattle.qz_terms.specs.declared.ask.Ask.{Ask}
+use Rattle.qz_terms.specs.Serial.{Asking, Line, Lists, Unread, part_list, part_read, parts_over}
+use Rattle.qz_school.specs.Marks.{marks_of}
+use Rattle.quizd.specs.Bulk.{BulkEnds, after_asking, after_line, all_marks, asked_by, attempt_of, bulk_lines, school_of}
+use Rattle.quizd.specs.Solo.{first_lists}
 
 -- the places up to one more
 places-more : (n : ℕ) → places_to (n + 1) ≡ places_to n ++ (n + 1) ∷ []
@@ -53,6 +56,35 @@ more_marks h n =
 -- one line more
 pub more_followed : (a : Lists) (ls : List (List ℕ)) (i : ℕ) (d : List ℕ) → i < length ls → fold after_line a (take (i + 1) ls) ≡ after_line (fold after_line a (take i ls)) (get_or ls i d)
 more_followed a ls i d there = fold_more after_line a ls i d there
+
+-- ---- one shard
+
+kept-by : (a : Lists) (now : ℕ) (ask : Ask) (part : Option ℕ) → length (parts_over a now ask part) ≡ length a.parts
+kept-by a now ask None = refl
+kept-by a now ask (Some k) = length-set a.parts k _
+
+kept-asking : (a : Lists) (i : Line) → length (after_asking a i).parts ≡ length a.parts
+kept-asking a (Unread place rule) = refl
+kept-asking a (Asking now ask) = kept-by a now ask (part_read a ask)
+
+-- as many shards as before
+shards-kept : (a : Lists) (ls : List (List ℕ)) → length (fold after_line a ls).parts ≡ length a.parts
+shards-kept a [] = refl
+shards-kept a (l ∷ ls) = shards-kept (after_line a l) ls ∙ kept-asking a (asked_by l)
+
+pub one_shard_after : (a b : Lists) (ls : List (List ℕ)) → b ≡ fold after_line a ls → length a.parts ≡ 1 → length b.parts ≡ 1
+one_shard_after a b ls is one = ap (λ (l : Lists). length l.parts) is ∙ (shards-kept a ls ∙ one)
+
+pub regraded_one : {A E : Type 0} (r : Result A E) (a b : Lists) (ls : List (List ℕ)) → OnOk r (b ≡ fold after_line a ls) → length a.parts ≡ 1 → OnOk r (length b.parts ≡ 1)
+regraded_one (Ok x) a b ls is one = one_shard_after a b ls is one
+regraded_one (Err e) a b ls is one = tt
+
+pub one_shard_of : (l : Lists) (n : ℕ) → l ≡ school_of n → length l.parts ≡ 1
+one_shard_of l n is = ap (λ (a : Lists). length a.parts) is ∙ shards-kept first_lists (bulk_lines n)
+
+-- which is everyone's
+pub first_part : (a : Lists) (u : ℕ) → length a.parts ≡ 1 → part_list a (u % length a.parts) ≡ part_list a 0
+first_part a u one = let none : u % 1 ≡ 0 = omega arith in rw (one, none) refl
 
 -- ---- how it ends
 

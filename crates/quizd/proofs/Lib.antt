@@ -2,13 +2,6 @@ pub mod KeptLemmas
 pub mod InputLemmas
 pub mod RetryLemmas
 pub mod ScriptLemmas
-pub mod StandingLemmas
-pub mod DeskLemmas
-pub mod JobLemmas
-pub mod ReportLemmas
-pub mod FollowLemmas
-pub mod MarkLemmas
 pub mod BulkLemmas
-pub mod SoloLemmas
 pub mod GiftLemmas
 pub mod ServingLemmas

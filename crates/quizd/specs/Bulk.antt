@@ -1,5 +1,5 @@
 -- A large school in memory: what is asked to make it, and what is told of it.
-use Rattle.std.specs.Prelude.{Bool, true, false, ℕ, ◌+◌, ◌%◌, ◌==◌, if◌then◌else◌, List, [], ◌∷◌, ◌++◌, ℤ, map, flat_map, filter_map, fold, length, Option, Some, None, codes, decimal}
+use Rattle.std.specs.Prelude.{ℕ, ◌+◌, ◌*◌, ◌%◌, ◌==◌, if◌then◌else◌, List, [], ◌∷◌, ◌++◌, ℤ, map, flat_map, fold, length, replicate, Option, Some, None, codes, decimal}
 use Rattle.std.specs.Io.KnownBytes.{Appends, Keeps}
 use Rattle.qz_ending.specs.declared.stop.Stop.{Stop}
 use Rattle.qz_ending.specs.declared.stop.Stop.TheVariants as stop
@@ -8,16 +8,10 @@ use Rattle.qz_grading.specs.Words.{mark_text}
 use Rattle.qz_outside.specs.Causes.{HasRisen}
 use Rattle.qz_outside.specs.Sources.{AppendsFront}
 use Rattle.qz_terms.specs.declared.record.Record.{Record}
-use Rattle.qz_grading.specs.declared.refusal.Refusal.TheVariants as refusal
-use Rattle.qz_terms.specs.declared.reply.Part.{Part}
-use Rattle.qz_terms.specs.declared.reply.Reply.{Reply}
-use Rattle.qz_terms.specs.declared.reply.Reply.TheVariants as reply
-use Rattle.qz_terms.specs.declared.reply.Shown.{Shown}
-use Rattle.qz_terms.specs.declared.reply.Shown.TheVariants as shown
-use Rattle.qz_terms.specs.History.{mark_in, slots}
 use Rattle.qz_terms.specs.Lists.{places_to}
 use Rattle.qz_terms.specs.Rows.{sum_of}
 use Rattle.qz_terms.specs.Serial.{Asking, Line, Lists, Unread, lists_over, part_list}
+use Rattle.qz_school.specs.Marks.{marks_of}
 use Rattle.qz_wire.specs.Asking.{ask_of}
 use Rattle.qz_wire.specs.Lines.{newline}
 use Rattle.qz_wire.specs.Words.{words_of}
@@ -73,6 +67,24 @@ student_lines i = start_line i ∷ (map (save_line i) (places_to 10) ++ finish_l
 abbrev pub bulk_lines : ℕ → List (List ℕ)
 bulk_lines n = map user_line (places_to n) ++ (quiz_lines ++ flat_map student_lines (places_to n))
 
+-- ---- then the first question is corrected, and false is right
+
+abbrev pub edit_line : List ℕ
+edit_line = codes "1000 root edit edit 1 Bulk\\s1\\s{F}"
+
+abbrev pub regrade_line : List ℕ
+regrade_line = codes "1000 root regrade regrade 1"
+
+abbrev pub work_line : List ℕ
+work_line = codes "1000 root - work 1 0"
+
+-- a step of the job for each slot of each attempt, and one more, with which it is done
+abbrev pub work_lines : ℕ → List (List ℕ)
+work_lines n = replicate (10 * n + 1) work_line
+
+abbrev pub regrade_lines : ℕ → List (List ℕ)
+regrade_lines n = edit_line ∷ regrade_line ∷ work_lines n
+
 -- ---- what comes of it
 
 -- the moment and the request of a line
@@ -91,36 +103,30 @@ after_line a line = after_asking a (asked_by line)
 abbrev pub school_of : ℕ → Lists
 school_of n = fold after_line first_lists (bulk_lines n)
 
--- memory was wanting
-abbrev pub is_memory : Reply → Bool
-is_memory (reply.Refused refusal.Memory) = true
-is_memory r = false
-
--- the marks of an attempt's slots
-abbrev pub marks_of : List Record → AttemptId → List ℤ
-marks_of h a = filter_map mark_in (slots h a)
-
--- the mark that is shown of a slot, if there is one
-abbrev pub shown_by : Shown ℤ → Option ℤ
-shown_by shown.None = None
-shown_by shown.Hidden = None
-shown_by (shown.Value mark) = Some mark
-
-abbrev pub shown_mark : Part → Option ℤ
-shown_mark p = shown_by p.mark
+-- and behind the regrade
+abbrev pub regraded : ℕ → Lists
+regraded n = fold after_line (school_of n) (regrade_lines n)
 
 -- the marks of the attempts of so many students
 abbrev pub all_marks : List Record → ℕ → List ℤ
 all_marks h n = flat_map (λ i. marks_of h (attempt_of i)) (places_to n)
 
--- how many students there are, how many records catalogue and shard have, and the sum of all marks
-abbrev pub school_text : ℕ → Lists → List ℕ
-school_text n a =
-    codes "students " ++ (decimal n ++ (codes "\nrecords " ++ (decimal (length a.records.list)
-    ++ (codes " " ++ (decimal (length (part_list a 0)) ++ (codes "\nsum " ++ (mark_text (sum_of (all_marks (part_list a 0) n)) ++ newline)))))))
+abbrev pub mark_sum : Lists → ℕ → ℤ
+mark_sum a n = sum_of (all_marks (part_list a 0) n)
 
+-- how many students there are, how many records catalogue and shard have, and two sums
+abbrev pub told_text : ℕ → ℕ → ℕ → List ℕ → List ℕ → List ℕ
+told_text n records steps before after =
+    codes "students " ++ (decimal n ++ (codes "\nrecords " ++ (decimal records
+    ++ (codes " " ++ (decimal steps ++ (codes "\nsum " ++ (before ++ (codes " " ++ (after ++ newline)))))))))
+
+-- what is told of a school whose marks had this sum before the edit
+abbrev pub school_text : ℕ → ℤ → Lists → List ℕ
+school_text n before a = told_text n (length a.records.list) (length (part_list a 0)) (mark_text before) (mark_text (mark_sum a n))
+
+-- of the lists at the end, and of the sums before the edit and at the end
 abbrev pub bulk_text : ℕ → List ℕ
-bulk_text n = school_text n (school_of n)
+bulk_text n = school_text n (mark_sum (school_of n) n) (regraded n)
 
 -- ---- how it ends
 

@@ -3,7 +3,6 @@ pub mod Inputs
 pub mod Retries
 pub mod Scripts
 pub mod Solo
-pub mod Reports
 pub mod Bulk
 pub mod GiftEndings
 pub mod Serving

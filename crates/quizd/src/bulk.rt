@@ -7,13 +7,14 @@ ghost use Rattle.qz_outside.specs.Causes.{HasRisen};
 ghost use Rattle.qz_terms.specs.Lists.{places_to};
 ghost use Rattle.qz_terms.specs.Rows.{sum_of};
 ghost use Rattle.qz_terms.specs.Serial.{part_list};
-ghost use Rattle.quizd.specs.Bulk.{BulkEnds, after_line, all_marks, bulk_lines, bulk_text, finish_line, picked, quiz_lines, save_line, school_of, school_text, slot_line, start_line, student_lines, user_line};
+ghost use Rattle.qz_school.specs.Marks.{marks_of};
+ghost use Rattle.quizd.specs.Bulk.{BulkEnds, after_line, all_marks, bulk_lines, bulk_text, finish_line, mark_sum, picked, quiz_lines, regrade_lines, save_line, school_of, school_text, slot_line, start_line, student_lines, told_text, user_line, work_lines};
 
-use crate::solo::Solo;
 use qz_decimal::Mark;
 use qz_ending::Stop;
 use qz_grading::{AttemptId, Refusal};
 use qz_outside::{Sink, write_all};
+use qz_school::Solo;
 use qz_text::{Listed, NoMemory, Text};
 use qz_wire::ask_of_line;
 use std::alloc::Global;
@@ -156,6 +157,31 @@ fn bulk_lines(alloc: Global, count: u32) -> Result<Listed<Text>, NoMemory>
     Ok(lines)
 }
 
+fn works_onto(alloc: Global, lines: &mut Listed<Text>, count: u32) -> Result<(), NoMemory>
+    requires { count ≤ 2000 }
+    ensures { OnOk result (lines.new ≡ lines.old ++ work_lines count) }
+{
+    for step in 0..10 * count + 1 {
+        added(lines, Text::of(alloc, "1000 root - work 1 0")?)?;
+    }
+    Ok(())
+}
+
+/// The lines that correct the first question and regrade the quiz.
+fn regrade_lines(alloc: Global, count: u32) -> Result<Listed<Text>, NoMemory>
+    requires { count ≤ 2000 }
+    ensures { IfOk result (λ lines. lines ≡ regrade_lines count) }
+{
+    let mut lines = Listed::empty(alloc);
+    added(
+        &mut lines,
+        Text::of(alloc, "1000 root edit edit 1 Bulk\\s1\\s{F}")?,
+    )?;
+    added(&mut lines, Text::of(alloc, "1000 root regrade regrade 1")?)?;
+    works_onto(alloc, &mut lines, count)?;
+    Ok(lines)
+}
+
 // ---- what comes of it
 
 /// Answers a line. One without a reading changes nothing.
@@ -184,17 +210,44 @@ fn follow_all(alloc: Global, school: &mut Solo, lines: &[Text]) -> Result<(), No
 /// The school of so many students.
 fn school_of(alloc: Global, count: u32) -> Result<Solo, NoMemory>
     requires { count ≤ 2000 }
-    ensures { IfOk result (λ school. school ≡ school_of count) }
+    ensures school { IfOk result (λ school. school ≡ school_of count) }
+    ensures one { IfOk result (λ school. length school.parts ≡ 1) }
 {
     let lines = bulk_lines(alloc, count)?;
-    let mut school = Solo::new(alloc, "root")?;
+    let mut school = Solo::memory(alloc, 1, "root")?;
     follow_all(alloc, &mut school, lines.as_slice())?;
     Ok(school)
 }
 
+/// Corrects the first question of a school of so many students, and regrades the quiz.
+fn regrade(alloc: Global, school: &mut Solo, count: u32) -> Result<(), NoMemory>
+    requires few { count ≤ 2000 }
+    requires one { length school.old.parts ≡ 1 }
+    ensures school { OnOk result (school.new ≡ fold after_line school.old (regrade_lines count)) }
+    ensures one { OnOk result (length school.new.parts ≡ 1) }
+{
+    let lines = regrade_lines(alloc, count)?;
+    follow_all(alloc, school, lines.as_slice())
+}
+
+/// Adds the marks of an attempt's slots to others, in order.
+fn marks_onto(
+    alloc: Global,
+    school: &mut Solo,
+    attempt: AttemptId,
+    marks: &mut Listed<Mark>,
+) -> Result<(), NoMemory>
+    requires one { length school.old.parts ≡ 1 }
+    ensures marks { OnOk result (marks.new ≡ marks.old ++ marks_of (part_list school.old 0) attempt) }
+    ensures unchanged { school.new ≡ school.old }
+{
+    school.marks_onto(alloc, attempt, marks)
+}
+
 /// The marks of the attempts of so many students.
 fn all_marks(alloc: Global, school: &mut Solo, count: u32) -> Result<Listed<Mark>, NoMemory>
-    requires { count ≤ 2000 }
+    requires few { count ≤ 2000 }
+    requires one { length school.old.parts ≡ 1 }
     ensures marks { IfOk result (λ marks. marks ≡ all_marks (part_list school.old 0) count) }
     ensures unchanged { school.new ≡ school.old }
 {
@@ -204,7 +257,7 @@ fn all_marks(alloc: Global, school: &mut Solo, count: u32) -> Result<Listed<Mark
             user: before + 2,
             nth: 1,
         };
-        school.marks_onto(alloc, attempt, &mut marks)?;
+        marks_onto(alloc, school, attempt, &mut marks)?;
     }
     Ok(marks)
 }
@@ -231,6 +284,17 @@ fn sum_of(marks: &[Mark]) -> i128
     sum
 }
 
+/// The sum of the marks of the attempts of so many students.
+fn mark_sum(alloc: Global, school: &mut Solo, count: u32) -> Result<i128, NoMemory>
+    requires few { count ≤ 2000 }
+    requires one { length school.old.parts ≡ 1 }
+    ensures sum { IfOk result (λ sum. sum ≡ mark_sum school.old count) }
+    ensures unchanged { school.new ≡ school.old }
+{
+    let marks = all_marks(alloc, school, count)?;
+    Ok(sum_of(marks.as_slice()))
+}
+
 /// The units in a mark of 1.
 const UNITS: u128 = 10_000_000;
 
@@ -254,24 +318,59 @@ fn sum_onto(out: &mut String, sum: i128) -> Result<(), NoMemory>
     units_onto(out, sum.unsigned_abs())
 }
 
-/// What is told of a school of so many students.
-fn school_text(alloc: Global, school: &mut Solo, count: u32) -> Result<Text, NoMemory>
-    requires { count ≤ 2000 }
-    ensures { IfOk result (λ text. text ≡ school_text count school.old) }
+/// A sum as a word.
+fn sum_word(alloc: Global, sum: i128) -> Result<Text, NoMemory>
+    ensures { IfOk result (λ word. word ≡ mark_text sum) }
 {
-    let (catalog, shard) = school.counts();
-    let marks = all_marks(alloc, school, count)?;
-    let mut items = format!(in alloc; "students {count}\nrecords {catalog} {shard}\nsum ")?;
-    sum_onto(&mut items, sum_of(marks.as_slice()))?;
-    items.push('\n')?;
+    let mut items = String::new(alloc);
+    sum_onto(&mut items, sum)?;
     Ok(Text { items })
 }
 
-/// Makes a school of so many students in memory, from 1 to 2,000, and writes how many they are, how many records its catalogue and its
-/// one shard have, and the sum of all marks. Answers the exit status.
+/// How many students there are, how many records catalogue and shard have, and two sums.
+fn told_text(
+    alloc: Global,
+    count: u32,
+    records: u64,
+    steps: u64,
+    before: &str,
+    after: &str,
+) -> Result<Text, NoMemory>
+    ensures { IfOk result (λ text. text ≡ told_text count records steps before.now after.now) }
+{
+    let items = format!(in alloc;
+        "students {count}\nrecords {records} {steps}\nsum {before} {after}\n"
+    )?;
+    Ok(Text { items })
+}
+
+/// What is told of a school of so many students, whose marks had this sum before its first question was corrected.
+fn school_text(alloc: Global, school: &mut Solo, count: u32, before: i128) -> Result<Text, NoMemory>
+    requires few { count ≤ 2000 }
+    requires one { length school.old.parts ≡ 1 }
+    ensures { IfOk result (λ text. text ≡ school_text count before school.old) }
+{
+    let records = school.len();
+    let steps = school.shard_len(0);
+    let after = mark_sum(alloc, school, count)?;
+    let before = sum_word(alloc, before)?;
+    let after = sum_word(alloc, after)?;
+    told_text(
+        alloc,
+        count,
+        records,
+        steps,
+        before.as_str(),
+        after.as_str(),
+    )
+}
+
+/// Makes a school of so many students in memory, from 1 to 2,000, regrades it, and writes how many students there are, how many records
+/// its catalogue and its one shard have, and the sums of all marks before and after the regrade. Answers the exit status.
 ///
 /// Ten true-false questions stand in one quiz with a slot and a max mark of 1 for each; each student answers all of them, in some slots
-/// wrongly, and finishes. With the status 5 (the sink failed) a front is written, and with 8 (memory was wanting) nothing.
+/// wrongly, and finishes. Then the first question is corrected, and each slot of each attempt is bound anew. With the status 5 (the sink
+/// failed) a front is written, and with 8 (memory was wanting) nothing.
 pub fn bulk<O: Sink>(alloc: Global, count: u32, sink: &mut O) -> u8
     requires { count ≤ 2000 }
     ensures ended { Ended (BulkEnds count (O.holds sink.old) (O.holds sink.new) (O.faults sink.old) (O.faults sink.new)) result }
@@ -289,7 +388,9 @@ fn bulk_or_stop<O: Sink>(alloc: Global, count: u32, sink: &mut O) -> Result<(), 
         in MatchResult result (λ _. ends None) (λ stop. ends (Some stop)) }
 {
     let mut school = school_of(alloc, count)?;
-    let text = school_text(alloc, &mut school, count)?;
+    let before = mark_sum(alloc, &mut school, count)?;
+    regrade(alloc, &mut school, count)?;
+    let text = school_text(alloc, &mut school, count, before)?;
     if write_all(sink, text.as_bytes()).is_err() {
         return Err(Stop::SinkFault);
     }

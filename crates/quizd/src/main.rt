@@ -8,10 +8,8 @@ mod command;
 mod gift;
 #[cfg(test)]
 mod gift_tests;
-mod marks;
 #[cfg(test)]
 mod prompt_tests;
-mod report;
 mod run;
 mod script;
 mod script_input;
@@ -19,7 +17,6 @@ mod script_line;
 #[cfg(test)]
 mod script_tests;
 mod serve;
-mod solo;
 #[cfg(test)]
 mod usage_tests;
 

@@ -5,7 +5,7 @@ ghost use Rattle.std.specs.Prelude.{◌≡◌, length};
 ghost use Rattle.qz_doors.specs.Answers.{Asks};
 ghost use Rattle.qz_doors.specs.Doors.{ServesDoor};
 ghost use Rattle.qz_ending.specs.Endings.{Ended};
-ghost use Rattle.quizd.specs.Retries.{IsAskedOnce};
+ghost use Rattle.qz_school.specs.Asked.{IsAskedOnce};
 ghost use Rattle.quizd.specs.Serving.{DoorsEnd};
 
 use crate::bulk::bulk;

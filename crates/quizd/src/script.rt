@@ -9,10 +9,10 @@ ghost use Rattle.quizd.specs.Scripts.{AnswersLine, AnswerStops, Says, SayStops, 
 
 use crate::script_input::{Given, ScriptInput};
 use crate::script_line::ScriptLine;
-use crate::solo::Solo;
 use qz_ending::Stop;
 use qz_grading::Refusal;
 use qz_outside::{Sink, Source, write_all};
+use qz_school::Solo;
 use qz_terms::{Desk, Reply};
 use qz_text::NoMemory;
 use qz_wire::line_of;
@@ -40,7 +40,7 @@ pub fn script<S: Source, O: Sink>(alloc: Global, source: &mut S, sink: &mut O) -
         (record { left = S.left source.new; source_faults = S.faults source.new; holds = O.holds sink.new; sink_faults = O.faults sink.new })
         result }
 {
-    match Solo::new(alloc, "root") {
+    match Solo::memory(alloc, 1, "root") {
         Ok(mut desk) => serve(alloc, LIMIT, &mut desk, source, sink),
         Err(NoMemory) => Stop::Memory.status(),
     }

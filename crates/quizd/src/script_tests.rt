@@ -2,8 +2,8 @@ ghost use Rattle.std.specs.Prelude.{◌<◌, ◌^◌};
 
 use super::*;
 use crate::script::serve;
-use crate::solo::Solo;
 use qz_outside::{MemorySink, MemorySource};
+use qz_school::Solo;
 use qz_text::{Bytes, Listed};
 use std::test::Fail;
 
@@ -53,7 +53,7 @@ fn scripted_within(alloc: Global, text: &[u8], limit: usize) -> Result<(u8, Stri
 {
     let mut source = source_of(alloc, text, WELL)?;
     let mut sink = sink_for(alloc, WELL)?;
-    let mut desk = Solo::new(alloc, "root")?;
+    let mut desk = Solo::memory(alloc, 1, "root")?;
     let status = serve(alloc, limit, &mut desk, &mut source, &mut sink);
     Ok((status, String::from_utf8_lossy(alloc, sink.bytes())?))
 }

@@ -5,14 +5,14 @@ ghost use Rattle.qz_ending.specs.Endings.{Ended};
 ghost use Rattle.qz_doors.specs.Answers.{Asks};
 ghost use Rattle.qz_doors.specs.Doors.{ServesDoor};
 ghost use Rattle.qz_terms.specs.Serial.{Lists};
-ghost use Rattle.quizd.specs.Retries.{IsAskedOnce};
+ghost use Rattle.qz_school.specs.Asked.{IsAskedOnce};
 ghost use Rattle.quizd.specs.Serving.{DoorsEnd, SaysServed, ServesFirst, served_line};
 
-use crate::solo::Solo;
 use qz_doors::{DoorEnd, serve_door};
 use qz_ending::Stop;
 use qz_links::{Clock, Door};
 use qz_outside::{Sink, write_all};
+use qz_school::Solo;
 use qz_text::NoMemory;
 use std::alloc::Global;
 
@@ -81,7 +81,7 @@ fn serve_first<R: Door, C: Clock>(
         a b end) doors.old.items doors.new.items) }
     ensures kept { OnErr result (doors.new.items ≡ doors.old.items) }
 {
-    let mut desk = Solo::new(alloc, "root")?;
+    let mut desk = Solo::memory(alloc, 1, "root")?;
     Ok(serve_at(alloc, links, &mut desk, &mut doors[0]))
 }
 

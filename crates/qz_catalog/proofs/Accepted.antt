@@ -15,7 +15,7 @@ use Rattle.qz_terms.specs.Cause.{Verdict, Granted, already_ready, bad_max, by_ke
 use Rattle.qz_terms.specs.Legal.{AskIsAllowed, CatalogEventIsAllowed, IsLegalCatalog}
 use Rattle.qz_terms.proofs.Standing.{never-granted}
 use Rattle.qz_terms.proofs.Walks.{all_of-push}
-use Rattle.qz_catalog.proofs.Slots.{slots-length}
+use Rattle.qz_roster.proofs.NextLemmas.{first-none, slots-length}
 
 -- ---- the lists before
 
@@ -52,10 +52,6 @@ accepted c l r rest x legal e is =
     record { there = parts.0; causeless = parts.1 }
 
 -- ---- causes
-
-pub first-none : (o : Option Refusal) (os : List (Option Refusal)) → first_some (o ∷ os) ≡ None → (o ≡ None) × (first_some os ≡ None)
-first-none None os none = (refl, none)
-first-none (Some r) os none = absurd cc
 
 few-by : (most n : ℕ) (b : Bool) → nat_le most n ≡ b → (if b then Some (refusal.TooMany most) else None) ≡ None → n < most
 few-by most n true is none = absurd cc

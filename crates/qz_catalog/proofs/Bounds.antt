@@ -1,10 +1,8 @@
 -- What a reply over a legal list has room for: a quiz has at most 200 slots, and there are at most 20,000 entries.
-use Rattle.std.proofs.Common.{◌≡◌, ℕ, ◌+◌, ◌≤◌, Bool, true, false, List, [], ◌∷◌, ◌++◌, Option, Some, None, length, refl, ap, ◌∙◌, arith, length-append, append_assoc, append-nil}
+use Rattle.std.proofs.Common.{◌≡◌, ℕ, ◌+◌, ◌≤◌, Bool, true, false, List, ◌∷◌, ◌++◌, Option, Some, None, length, refl, ap, ◌∙◌, arith, append_assoc}
 use Rattle.std.specs.Prelude.{if◌then◌else◌, nat_lt}
 use Rattle.std.proofs.lemmas.Bool.{ltb-false}
-use Rattle.std.proofs.lemmas.Grind.{flat_map-append}
 use Rattle.qz_grading.specs.declared.question.Bank.{Bank}
-use Rattle.qz_grading.specs.declared.question.Item.{Item}
 use Rattle.qz_grading.specs.declared.refusal.Refusal.TheVariants as refusal
 use Rattle.qz_terms.specs.declared.record.Record.{Record}
 use Rattle.qz_terms.specs.declared.request.Request.{Request}
@@ -12,8 +10,9 @@ use Rattle.qz_terms.specs.declared.request.Request.TheVariants as request
 use Rattle.qz_terms.specs.Catalog.{asked, entries, imports_by}
 use Rattle.qz_terms.specs.Legal.{IsLegalCatalog}
 use Rattle.qz_catalog.specs.Applying.{IsShort, IsToldOver, import_size, slotted_quiz}
-use Rattle.qz_catalog.proofs.Accepted.{IsAccepted, accepted, by-prefixes, few-slots, first-none}
-use Rattle.qz_catalog.proofs.Slots.{slots-length}
+use Rattle.qz_catalog.proofs.Accepted.{IsAccepted, accepted, by-prefixes, few-slots}
+use Rattle.qz_roster.proofs.CountLemmas.{entries-push}
+use Rattle.qz_roster.proofs.NextLemmas.{first-none, slots-length}
 
 pub legal-before : (l rest : List Record) → IsLegalCatalog (l ++ rest) → IsLegalCatalog l
 legal-before l rest legal = record {
@@ -21,11 +20,6 @@ legal-before l rest legal = record {
 }
 
 -- ---- entries
-
-entries-push : (l : List Record) (r : Record) → length (entries (l ++ r ∷ [])) ≡ length (entries l) + length (imports_by (asked r))
-entries-push l r =
-    ap (λ (is : List Item). length is) (flat_map-append (λ (s : Record). imports_by (asked s)) l (r ∷ []) ∙ ap (λ (is : List Item). entries l ++ is) (append-nil (imports_by (asked r))))
-    ∙ length-append (entries l) (imports_by (asked r))
 
 within-by : (most count : ℕ) (b : Bool) → nat_lt most count ≡ b → (if b then Some (refusal.TooMany most) else None) ≡ None → count ≤ most
 within-by most count true is none = absurd cc

@@ -24,7 +24,7 @@ use Rattle.qz_bank.specs.declared.entry.Entry.{Entry}
 use Rattle.qz_bank.specs.Banks as banks
 use Rattle.qz_bank.specs.Laws.{IsBankOf, changes_bank}
 use Rattle.qz_bank.proofs.FollowingLemmas.{cause-follows, change-follows, count-follows, import-follows, latest-follows, other-follows, there-follows, version-follows}
-use Rattle.qz_catalog.proofs.Accepted.{first-none}
+use Rattle.qz_roster.proofs.NextLemmas.{first-none}
 use Rattle.qz_catalog.specs.Applying.{IsFree, bank_after, bad_for, bank_cause, early_cause, greatest_of, stand_in}
 
 -- ---- the first refusal

@@ -97,7 +97,7 @@ worker-barred (request.Settle attempt) asks keeps free = absurd cc
 worker-barred (request.Live shard attempt) asks keeps free = absurd cc
 worker-barred x asks keeps free = absurd cc
 
-asked-by : (c : List Record) (who : Caller) (user : User) (x : Request) → user_of c who ≡ Some user → asks_catalog x ≡ true → is_look_in x ≡ false → forbidden user x ≡ None → at_place (users c) user.number ≡ Some user
+pub asked-by : (c : List Record) (who : Caller) (user : User) (x : Request) → user_of c who ≡ Some user → asks_catalog x ≡ true → is_look_in x ≡ false → forbidden user x ≡ None → at_place (users c) user.number ≡ Some user
 asked-by c (caller.Token token) user x found asks keeps free = user-at c token user found
 asked-by c caller.Worker user x found asks keeps free =
     let same : worker ≡ user = cc in

@@ -26,7 +26,7 @@ use Rattle.qz_catalog.proofs.Accepted.{few-slots}
 use Rattle.qz_catalog.proofs.Keeping.{grade-kept, own-kept, settings-kept}
 use Rattle.qz_catalog.proofs.Marks.{and-left, and-right, le-by, planned-slots, questions-whole}
 use Rattle.qz_catalog.proofs.Plans.{within}
-use Rattle.qz_catalog.proofs.Slots.{slots-length}
+use Rattle.qz_roster.proofs.NextLemmas.{slots-length}
 use Rattle.qz_catalog.proofs.Staying.{front-legal}
 use Rattle.qz_catalog.proofs.Versions.{questions-kept}
 

@@ -1,4 +1,3 @@
-pub mod Telling
 pub mod Users
 pub mod Slots
 pub mod Groups
@@ -16,3 +15,4 @@ pub mod Versions
 pub mod Kept
 pub mod Staying
 pub mod Answering
+pub mod ShownLemmas

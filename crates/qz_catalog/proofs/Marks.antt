@@ -26,8 +26,9 @@ use Rattle.qz_terms.specs.Kept.{is_planned}
 use Rattle.qz_terms.specs.Legal.{IsLegalCatalog}
 use Rattle.qz_terms.proofs.Walks.{all_of-push, last_told_in}
 use Rattle.qz_catalog.specs.Readings.{slot_over}
-use Rattle.qz_catalog.proofs.Accepted.{accepted, by-prefixes, first-none, slot-made}
-use Rattle.qz_catalog.proofs.Telling.{there-is}
+use Rattle.qz_roster.proofs.NextLemmas.{first-none}
+use Rattle.qz_catalog.proofs.Accepted.{accepted, by-prefixes, slot-made}
+use Rattle.qz_roster.proofs.Telling.{there-is}
 
 pub and-left : (b c : Bool) → b && c ≡ true → b ≡ true
 and-left true c is = refl

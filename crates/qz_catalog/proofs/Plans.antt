@@ -19,7 +19,7 @@ use Rattle.qz_terms.specs.Rows.{sum_of}
 use Rattle.qz_terms.proofs.Walks.{all_kept, take-one_more}
 use Rattle.qz_catalog.specs.Readings.{slot_over}
 use Rattle.qz_catalog.proofs.Accepted.{few-slots}
-use Rattle.qz_catalog.proofs.Telling.{numbered-more}
+use Rattle.qz_roster.proofs.Telling.{numbered-more}
 
 -- ---- slots
 

@@ -35,7 +35,8 @@ use Rattle.qz_bank.specs.Laws.{IsBankOf, changes_bank}
 use Rattle.qz_bank.proofs.FollowingLemmas.{cause-follows, count-follows, other-follows, version-follows}
 use Rattle.qz_catalog.specs.Applying.{bank_after, bank_cause}
 use Rattle.qz_catalog.specs.Holdings.{keeps_described}
-use Rattle.qz_catalog.proofs.Accepted.{accepted, by-prefixes, first-none}
+use Rattle.qz_roster.proofs.NextLemmas.{first-none}
+use Rattle.qz_catalog.proofs.Accepted.{accepted, by-prefixes}
 use Rattle.qz_catalog.proofs.Deciding.{bank-after}
 use Rattle.qz_catalog.proofs.Keeping.{request-kept}
 use Rattle.qz_catalog.proofs.Marks.{and-left, and-right}

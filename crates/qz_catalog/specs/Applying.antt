@@ -1,5 +1,5 @@
 -- What the parts of the catalogue that decide a request and put its record promise each other.
-use Rattle.std.specs.Prelude.{◌≡◌, ℕ, ◌<◌, ◌≤◌, ◌-◌, ◌^◌, ◌⊎◌, ◌+◌, true, List, [], ◌∷◌, ◌++◌, length, take, slice_get, Option, Some, None, is_some, option_map, unwrap_or, ℤ, pos, int_lt, ◌||◌, false}
+use Rattle.std.specs.Prelude.{◌≡◌, ℕ, ◌<◌, ◌≤◌, ◌-◌, ◌^◌, ◌⊎◌, ◌+◌, true, List, [], ◌∷◌, ◌++◌, length, take, slice_get, Option, Some, None, is_some, option_map, unwrap_or, ℤ, pos, int_lt, ◌||◌, false, vec_len, vec_capacity}
 use Rattle.qz_grading.specs.declared.question.Question.{Question}
 use Rattle.qz_grading.specs.declared.refusal.Refusal.{Refusal}
 use Rattle.qz_grading.specs.declared.refusal.Refusal.TheVariants as refusal
@@ -19,7 +19,9 @@ use Rattle.qz_terms.specs.CatalogAnswer.{asks_catalog, catalog_after, catalog_an
 use Rattle.qz_terms.specs.Cause.{Verdict, Denied, Repeated, by_key, cause_in, forbidden, is_keyed, keeps_request, missing_in, most_for_kind, verdict_in}
 use Rattle.qz_terms.specs.Kept.{KeepsAsked, asks_described, is_moment}
 use Rattle.qz_terms.specs.Legal.{IsLegalCatalog}
-use Rattle.qz_catalog.specs.Holdings.{IsHeld}
+use Rattle.qz_roster.specs.Roster.{HasRoom, IsNext, IsRosterOf}
+use Rattle.qz_catalog.specs.declared.book.Book.{Book}
+use Rattle.qz_catalog.specs.Holdings.{AreShown, IsHeld}
 use Rattle.qz_catalog.specs.declared.decision.Decision.{Decision}
 use Rattle.qz_catalog.specs.declared.decision.Decision.TheVariants as decision
 use Rattle.qz_catalog.specs.declared.keys.Found.{Found}
@@ -100,7 +102,24 @@ pub record IsToldOver (l : List Record) (r : Record) : Type 0 where
   pub request : Request
   pub asked : catalog.asked r ≡ Some request
 
+-- the record at this place, from 0, was made by a request
+pub record IsAskedAt (c : List Record) (n : ℕ) : Type 0 where
+  pub item : Record
+  pub at : slice_get c n ≡ Some item
+  pub asked : is_some (catalog.asked item) ≡ true
+
 -- ---- what is put
+
+-- there is room for a record, which may stand behind those of a book, and the bank is as the record leaves it
+pub record IsReady (b : Book) (r : Record) : Type 0 where
+  pub roster : IsRosterOf b.records.items b.roster
+  pub shown : AreShown b.records.items b.shown.items
+  pub next : IsNext b.records.items r
+  pub entries : length (catalog.entries b.records.items) ≤ 20000
+  pub held : IsHeld (b.records.items ++ r ∷ []) b.entries
+  pub room : HasRoom b.roster r
+  pub records : vec_len b.records < vec_capacity b.records
+  pub numbers : vec_len b.shown < vec_capacity b.shown
 
 -- the records and their bank, and a request that nothing stands against but a new version's own causes
 pub record IsPosed (c : List Record) (es : List Entry) (now : ℕ) (user : User) (ask : Ask) : Type 0 where

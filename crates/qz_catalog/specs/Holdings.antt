@@ -1,14 +1,18 @@
 -- What a catalogue keeps, and the plan that it gives.
 use Rattle.std.specs.List.{list_all}
-use Rattle.std.specs.Prelude.{◌≡◌, ℕ, ◌<◌, ◌≤◌, ◌-◌, ◌^◌, Bool, true, false, List, [], ◌∷◌, length, None, option_map, unwrap_or, All}
+use Rattle.std.specs.Prelude.{◌≡◌, ℕ, ◌+◌, ◌<◌, ◌≤◌, ◌-◌, take, slice_get, slice_index, Some, ◌^◌, Bool, true, false, List, [], ◌∷◌, length, None, option_map, unwrap_or, All}
 use Rattle.qz_bank.specs.declared.entry.Entry.{Entry}
 use Rattle.qz_bank.specs.Laws.{IsBankOf}
 use Rattle.qz_terms.specs.declared.plan.Plan.{Plan}
 use Rattle.qz_terms.specs.declared.record.Event.TheVariants as event
 use Rattle.qz_terms.specs.declared.record.Record.{Record}
-use Rattle.qz_terms.specs.Catalog.{asked}
+use Rattle.qz_terms.specs.declared.request.Request.{Request}
+use Rattle.qz_terms.specs.Catalog.{asked, asked_reply}
 use Rattle.qz_terms.specs.Kept.{IsKept, asks_described}
 use Rattle.qz_terms.specs.Legal.{IsLegalCatalog}
+use Rattle.qz_roster.specs.Roster.{IsRosterOf}
+use Rattle.qz_catalog.specs.declared.book.Book.{Book}
+use Rattle.qz_catalog.specs.Shown.{done_with, is_showable}
 
 -- ---- what every catalogue keeps
 
@@ -24,6 +28,25 @@ pub record IsHeld (c : List Record) (es : List Entry) : Type 0 where
   pub some : 1 ≤ length c
   pub few : length c < 2 ^ 32 - 1
   pub bank : IsBankOf c es
+
+-- the reply to a request whose record stands last shows this number
+pub record IsShownBy (l : List Record) (x : Request) (n : ℕ) : Type 0 where
+  pub done : done_with x n ≡ asked_reply l x
+  pub fits : is_showable x n ≡ true
+
+-- the numbers that the replies showed, each over the records up to its own
+pub record AreShown (c : List Record) (ns : List ℕ) : Type 0 where
+  pub count : length ns ≡ length c
+  pub each : (k : ℕ) (r : Record) (x : Request) → slice_get c k ≡ Some r → asked r ≡ Some x → IsShownBy (take (k + 1) c) x (slice_index ns k)
+
+-- the bank and the roster are those of the records
+pub record IsIndexed (b : Book) : Type 0 where
+  pub held : IsHeld b.records.items b.entries
+  pub roster : IsRosterOf b.records.items b.roster
+
+pub record IsBook (b : Book) : Type 0 where
+  pub indexed : IsIndexed b
+  pub shown : AreShown b.records.items b.shown.items
 
 -- the records of a school that was founded with so many shards and its manager's token
 abbrev pub founded : ℕ → List ℕ → List Record

@@ -1,3 +1,4 @@
+pub mod Shown
 pub mod Holdings
 pub mod Readings
 pub mod Applying

@@ -1,6 +1,5 @@
 -- What the parts of a catalogue's list are read as.
 use Rattle.std.specs.Prelude.{ℕ, ℤ, List, Option, None, if◌then◌else◌, filter_map, option_map, unwrap_or}
-use Rattle.qz_grading.specs.declared.outcome.Behaviour.{Behaviour}
 use Rattle.qz_grading.specs.Steps.{last_of}
 use Rattle.qz_terms.specs.declared.access.Override.{Override}
 use Rattle.qz_terms.specs.declared.grades.Method.{Method}
@@ -11,7 +10,7 @@ use Rattle.qz_terms.specs.declared.request.Whom.TheVariants as whom
 use Rattle.qz_terms.specs.Catalog as catalog
 use Rattle.qz_terms.specs.Catalog.{Person}
 use Rattle.qz_catalog.specs.declared.people.Made.{Made}
-use Rattle.qz_catalog.specs.declared.quizzes.Named.{Named}
+use Rattle.qz_roster.specs.declared.quizzes.Slot.{Slot}
 
 -- a user, as its record made it
 abbrev pub user_in : Made → User
@@ -20,10 +19,6 @@ user_in m = record { number = m.number; name = m.name.now; role = m.role; token 
 -- the name of the user that a record makes
 abbrev pub made_name : Record → Option (List ℕ)
 made_name r = option_map (λ (p : Person). p.name) (catalog.made_user r)
-
--- the name and behaviour of a quiz
-abbrev pub named_in : Named → List ℕ × Behaviour
-named_in n = (n.name.now, n.behaviour)
 
 -- what is set otherwise for a group, if the user is a member of it
 abbrev pub group_override : List Record → ℕ → ℕ → ℕ → Option Override
@@ -36,3 +31,7 @@ policy_terms c q = unwrap_or (last_of (filter_map (λ r. catalog.policy_by q (ca
 -- a slot with its number, as all the records give it
 abbrev pub slot_over : List Record → ℕ → ℕ × (ℕ × ℤ) → Planned
 slot_over c q s = catalog.planned c q s.0 s.1.0 s.1.1
+
+-- a slot with its entry's latest version
+abbrev pub planned_by : List Record → Slot → Planned
+planned_by c s = record { entry = s.entry; version = catalog.latest c s.entry; max = unwrap_or s.anew s.first }

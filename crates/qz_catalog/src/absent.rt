@@ -9,26 +9,29 @@ ghost use Rattle.qz_terms.specs.Catalog.{slots};
 ghost use Rattle.qz_terms.specs.CatalogAnswer.{asks_catalog};
 ghost use Rattle.qz_terms.specs.Cause.{missing_in, missing_whom};
 ghost use Rattle.qz_bank.specs.Banks.{version};
-ghost use Rattle.qz_bank.specs.Laws.{IsBankOf};
+ghost use Rattle.qz_catalog.specs.Holdings.{IsIndexed};
 
+use crate::book::Book;
 use crate::missing::{missing, missing_group, missing_quiz, missing_user};
 use crate::quizzes::slot_count;
 use qz_bank::Entries;
 use qz_grading::{Refusal, Thing};
-use qz_terms::{Record, Request, Whom};
+use qz_terms::{Request, Whom};
 
-fn missing_slot(records: &[Record], quiz: u32, slot: u16) -> Option<Refusal>
-    ensures { result ≡ when (is_none (at_place (slots records.now quiz) slot)) (refusal.Unknown thing.Slot) }
+fn missing_slot(book: &Book, quiz: u32, slot: u16) -> Option<Refusal>
+    requires { IsIndexed book.now }
+    ensures { result ≡ when (is_none (at_place (slots book.now.records.items quiz) slot)) (refusal.Unknown thing.Slot) }
 {
-    missing(slot_count(records, quiz), u32::from(slot), Thing::Slot)
+    missing(slot_count(book, quiz), u32::from(slot), Thing::Slot)
 }
 
-fn missing_whom(records: &[Record], whom: Whom, number: u32) -> Option<Refusal>
-    ensures { result ≡ missing_whom records.now whom number }
+fn missing_whom(book: &Book, whom: Whom, number: u32) -> Option<Refusal>
+    requires { IsIndexed book.now }
+    ensures { result ≡ missing_whom book.now.records.items whom number }
 {
     match whom {
-        Whom::User => missing_user(records, number),
-        Whom::Group => missing_group(records, number),
+        Whom::User => missing_user(book, number),
+        Whom::Group => missing_group(book, number),
     }
 }
 
@@ -54,39 +57,39 @@ fn missing_version(entries: &Entries, entry: u32, number: u32) -> Option<Refusal
 }
 
 /// The refusal of a request that names what the catalogue doesn't have (`Unknown`), the first in the order of its words.
-pub(crate) fn missing_in(
-    records: &[Record],
-    entries: &Entries,
-    request: &Request,
-) -> Option<Refusal>
-    requires bank { IsBankOf records.now entries.now }
+pub(crate) fn missing_in(book: &Book, request: &Request) -> Option<Refusal>
+    requires indexed { IsIndexed book.now }
     requires here { asks_catalog request.now ≡ true }
-    ensures { result ≡ missing_in records.now request.now }
+    ensures { result ≡ missing_in book.now.records.items request.now }
 {
     match request {
         Request::Member { group, user } => {
-            missing_group(records, *group).or(missing_user(records, *user))
+            missing_group(book, *group).or(missing_user(book, *user))
         }
-        Request::Edit { entry, .. } => missing_entry(entries, *entry),
-        Request::Tune { entry, .. } => missing_entry(entries, *entry),
+        Request::Edit { entry, .. } => missing_entry(&book.entries, *entry),
+        Request::Tune { entry, .. } => missing_entry(&book.entries, *entry),
         Request::Slot { quiz, entry, .. } => {
-            missing_quiz(records, *quiz).or(missing_entry(entries, *entry))
+            missing_quiz(book, *quiz).or(missing_entry(&book.entries, *entry))
         }
         Request::Ready { quiz }
         | Request::Policy { quiz, .. }
         | Request::Times { quiz, .. }
-        | Request::Regrade { quiz } => missing_quiz(records, *quiz),
+        | Request::Regrade { quiz } => missing_quiz(book, *quiz),
         Request::Remax { quiz, slot, .. } => {
-            missing_quiz(records, *quiz).or(missing_slot(records, *quiz, *slot))
+            missing_quiz(book, *quiz).or(missing_slot(book, *quiz, *slot))
         }
         Request::Override {
             quiz,
             whom,
             number,
             ..
-        } => missing_quiz(records, *quiz).or(missing_whom(records, *whom, *number)),
+        } => missing_quiz(book, *quiz).or(missing_whom(book, *whom, *number)),
         Request::Bank { entry, version } => {
-            missing_entry(entries, *entry).or(missing_version(entries, *entry, *version))
+            missing_entry(&book.entries, *entry).or(missing_version(
+                &book.entries,
+                *entry,
+                *version,
+            ))
         }
         _ => None,
     }

@@ -12,16 +12,18 @@ ghost use Rattle.qz_terms.specs.Kept.{IsKeptPlan};
 ghost use Rattle.qz_terms.specs.Legal.{IsLegalCatalog};
 ghost use Rattle.qz_catalog.specs.Applying.{Answers, IsAsked, IsDecision, IsFree, IsLooked};
 ghost use Rattle.qz_catalog.specs.declared.decision.Decision.TheVariants as decision;
-ghost use Rattle.qz_catalog.specs.Holdings.{founded, lean};
+ghost use Rattle.qz_catalog.specs.Holdings.{IsBook, founded, lean};
 
+use crate::book::Book;
 use crate::decision::{Decision, decide};
 use crate::jobs::job;
 use crate::people::{names, user, user_of_token};
 use crate::planning::{plan, policy_of};
-use crate::putting::put;
+use crate::putting::{append, make_book_room, put};
 use crate::replies::{look, said};
 use qz_bank::Entries;
 use qz_grading::{Refusal, Thing};
+use qz_roster::Roster;
 use qz_terms::{Ask, Event, Job, Plan, Policy, Record, Reply, Request, User};
 use qz_text::{Listed, NoMemory, Text, TryCopy};
 use std::alloc::Global;
@@ -29,32 +31,30 @@ use std::marker::Model;
 
 /// The records of a school's users, bank and quizzes, seen as their list.
 ///
-/// Beside the list it keeps the bank that the records make. Each call reads the whole list, a fixed number of times for each slot
-/// or group that it is about.
+/// Beside the list it keeps the bank that the records make, and what else they tell, by number, by token and by key. A call costs
+/// what it touches, and not the whole list, but for `names`, `job`, and what is set otherwise for users and groups.
 #[derive(Drop)]
 pub struct Catalog {
-    records: Listed<Record>,
-    entries: Entries,
+    book: Book,
 }
 
 impl Model for Catalog {
     ghost use Rattle.std.specs.Prelude.{List};
     ghost use Rattle.qz_terms.specs.declared.record.Record.{Record};
-    ghost use Rattle.qz_catalog.specs.Holdings.{IsHeld};
+    ghost use Rattle.qz_catalog.specs.Holdings.{IsBook};
 
     ghost Value = { List Record };
 
-    ghost view = { λ c. c.records };
+    ghost view = { λ c. c.book.records.items };
 
-    ghost invariant = { λ c. IsHeld c.records c.entries };
+    ghost invariant = { λ c. IsBook c.book };
 }
 
-/// The records of a school that is founded.
-fn founded(alloc: Global, shards: u8, token: &Text) -> Result<Listed<Record>, NoMemory>
-    ensures { IfOk result (λ records. records ≡ founded shards token.now) }
+/// The record of a school that is founded.
+fn founding(alloc: Global, shards: u8, token: &Text) -> Result<Record, NoMemory>
+    ensures { IfOk result (λ made. made ∷ [] ≡ founded shards token.now) }
 {
-    let mut items = Vec::new(alloc);
-    items.push(Record {
+    Ok(Record {
         moment: 0,
         caller: 0,
         owner: 0,
@@ -64,8 +64,26 @@ fn founded(alloc: Global, shards: u8, token: &Text) -> Result<Listed<Record>, No
             shards,
             token: token.try_copy(alloc)?,
         },
-    })?;
-    Ok(Listed { items })
+    })
+}
+
+/// The book of a school that is founded.
+fn founded(alloc: Global, shards: u8, token: &Text) -> Result<Book, NoMemory>
+    requires some { 1 ≤ shards }
+    requires few { shards ≤ 64 }
+    ensures records { IfOk result (λ book. book.records.items ≡ founded shards token.now) }
+    ensures book { IfOk result IsBook }
+{
+    let record = founding(alloc, shards, token)?;
+    let mut book = Book {
+        records: Vec::new(alloc),
+        entries: Entries::new(alloc),
+        roster: Roster::new(alloc),
+        shown: Vec::new(alloc),
+    };
+    make_book_room(alloc, &mut book, &record)?;
+    append(alloc, &mut book, record);
+    Ok(book)
 }
 
 impl Catalog {
@@ -77,8 +95,7 @@ impl Catalog {
         ensures { IfOk result (λ catalog. catalog ≡ founded shards token.now) }
     {
         Ok(Catalog {
-            records: founded(alloc, shards, token)?,
-            entries: Entries::new(alloc),
+            book: founded(alloc, shards, token)?,
         })
     }
 
@@ -87,7 +104,7 @@ impl Catalog {
         ensures count { result ≡ length self.now }
         ensures legal { IsLegalCatalog self.now }
     {
-        self.records.as_slice().len() as u64
+        self.book.records.len() as u64
     }
 
     /// A copy of the user who is known by a token. Where there is none it is `UnknownToken`.
@@ -95,7 +112,7 @@ impl Catalog {
         ensures there { IfOk result (λ user. user_of_token self.now token.now ≡ Some user) }
         ensures refused { IfErr result (λ r. (r ≡ Refusal.Memory) ⊎ ((r ≡ Refusal.UnknownToken) × (user_of_token self.now token.now ≡ None))) }
     {
-        match user_of_token(self.records.as_slice(), token) {
+        match user_of_token(&self.book, token) {
             Some(made) => Ok(user(alloc, &made)?),
             None => Err(Refusal::UnknownToken),
         }
@@ -112,8 +129,7 @@ impl Catalog {
         ensures free { OnOk result (first_some (missing_quiz self.now quiz ∷ missing_user self.now user ∷ []) ≡ None) }
         ensures refused { IfErr result (λ r. (r ≡ Refusal.Memory) ⊎ (first_some (missing_quiz self.now quiz ∷ missing_user self.now user ∷ []) ≡ Some r)) }
     {
-        let records = self.records.as_slice();
-        plan(alloc, records, &self.entries, quiz, user, whole)
+        plan(alloc, &self.book, quiz, user, whole)
     }
 }
 
@@ -123,7 +139,7 @@ impl Catalog {
         ensures names { IfOk result (λ names. names ≡ map (λ (u : User). u.name) (users self.now)) }
         ensures wants { IfErr result (λ r. r ≡ Refusal.Memory) }
     {
-        Ok(names(alloc, self.records.as_slice())?)
+        Ok(names(alloc, &self.book.records)?)
     }
 
     /// How a quiz is graded, over all the records: the policy that each plan of it has, whoever the user is.
@@ -136,7 +152,7 @@ impl Catalog {
         ensures there { OnOk result (missing_quiz self.now quiz ≡ None) }
         ensures refused { IfErr result (λ r. (r ≡ Refusal.Memory) ⊎ (missing_quiz self.now quiz ≡ Some r)) }
     {
-        policy_of(alloc, self.records.as_slice(), &self.entries, quiz)
+        policy_of(alloc, &self.book, quiz)
     }
 
     /// A job: its position, and the plan of its quiz over the records up to there, with the quiz's own settings and a question for
@@ -149,7 +165,7 @@ impl Catalog {
         ensures each { IfOk result (λ j. length j.plan.questions ≡ length j.plan.slots) }
         ensures refused { IfErr result (λ r. (r ≡ Refusal.Memory) ⊎ ((r ≡ Refusal.Unknown Thing.Job) × (job self.now number ≡ None))) }
     {
-        job(alloc, self.records.as_slice(), &self.entries, number)
+        job(alloc, &self.book, number)
     }
 }
 
@@ -199,7 +215,7 @@ impl Catalog {
         requires { asks_catalog ask.now.request ≡ true }
         ensures { IsDecision self.now user.now ask.now result }
     {
-        decide(self.records.as_slice(), &self.entries, user, ask)
+        decide(&self.book, user, ask)
     }
 
     /// What is said of a record that a request repeats.
@@ -207,8 +223,7 @@ impl Catalog {
         requires { IsDecision self.now user.now ask.now (decision.Repeated at) }
         ensures { IsLooked self.now user.now ask.now result }
     {
-        let records = self.records.as_slice();
-        said(&records[..at + 1], &records[at])
+        said(&self.book, at)
     }
 
     /// The reply to a request that only looks.
@@ -217,7 +232,7 @@ impl Catalog {
         requires look { is_look_in ask.now.request ≡ true }
         ensures { IfOk result (λ told. IsLooked self.now user.now ask.now told) }
     {
-        look(alloc, self.records.as_slice(), &self.entries, &ask.request)
+        look(alloc, &self.book, &ask.request)
     }
 
     /// Puts the record that a request makes.
@@ -230,6 +245,6 @@ impl Catalog {
         ensures refused { IfErr result (λ r. (r ≡ Refusal.Memory) ⊎ (catalog_verdict self.old now user.now ask.now ≡ Denied r)) }
         ensures unchanged { OnErr result (self.new ≡ self.old) }
     {
-        put(alloc, &mut self.records, &mut self.entries, now, user, ask)
+        put(alloc, &mut self.book, now, user, ask)
     }
 }

@@ -7,19 +7,18 @@ ghost use Rattle.qz_terms.specs.declared.request.Request.TheVariants as request;
 ghost use Rattle.qz_terms.specs.Catalog.{is_ready, jobs, slots, token_place, users};
 ghost use Rattle.qz_terms.specs.Catalog as catalog;
 ghost use Rattle.qz_terms.specs.Cause.{already_ready, bad_max, import_cause, slot_entry, too_many};
-ghost use Rattle.qz_bank.specs.Laws.{IsBankOf};
+ghost use Rattle.qz_catalog.specs.Holdings.{IsIndexed};
 ghost use Rattle.qz_catalog.specs.Applying.{bad_for, early_cause, greatest_of, stand_in};
 
-use crate::counts::entry_count;
-use crate::jobs::job_count;
+use crate::book::Book;
 use crate::overrides::override_count;
-use crate::people::{group_count, token_place, user_count};
-use crate::quizzes::{is_ready, quiz_count, ready_at, slot_count, slot_entry};
+use crate::people::token_place;
+use crate::quizzes::{is_ready, ready_at, slot_count, slot_entry};
 use crate::sizes::{MOST_BYTES, import_fits};
 use qz_bank::Entries;
 use qz_decimal::{Mark, ONE};
 use qz_grading::{Bank, Kind, Refusal};
-use qz_terms::{Record, Request};
+use qz_terms::Request;
 use qz_text::Text;
 
 /// So many there are at most of each thing.
@@ -51,20 +50,22 @@ fn too_many(most: u32, count: usize) -> Option<Refusal>
 }
 
 /// A user's token isn't another's.
-fn user_cause(records: &[Record], token: &Text) -> Option<Refusal>
-    ensures { result ≡ first_some (option_map refusal.KeyReused (token_place records.now token.now) ∷ too_many 65535 (length (users records.now)) ∷ []) }
+fn user_cause(book: &Book, token: &Text) -> Option<Refusal>
+    requires { IsIndexed book.now }
+    ensures { result ≡ first_some (option_map refusal.KeyReused (token_place book.now.records.items token.now) ∷ too_many 65535 (length (users book.now.records.items)) ∷ []) }
 {
-    if let Some(place) = token_place(records, token) {
+    if let Some(place) = token_place(book, token) {
         return Some(Refusal::KeyReused { place });
     }
-    too_many(MOST_USERS, user_count(records))
+    too_many(MOST_USERS, book.roster.people.count())
 }
 
-fn import_cause(records: &[Record], key: &Option<Text>, gift: &Bank) -> Option<Refusal>
-    requires { length (catalog.entries records.now) ≤ 20000 }
-    ensures { result ≡ import_cause records.now gift.now (stand_in key.now (request.Import gift.now)) }
+fn import_cause(book: &Book, key: &Option<Text>, gift: &Bank) -> Option<Refusal>
+    requires indexed { IsIndexed book.now }
+    requires few { length (catalog.entries book.now.records.items) ≤ 20000 }
+    ensures { result ≡ import_cause book.now.records.items gift.now (stand_in key.now (request.Import gift.now)) }
 {
-    let room = MOST_ENTRIES as usize - entry_count(records);
+    let room = MOST_ENTRIES as usize - book.roster.counts.entries();
     if gift.items.as_slice().len() > room {
         return Some(Refusal::TooMany {
             limit: MOST_ENTRIES,
@@ -106,74 +107,59 @@ fn bad_max(entries: &Entries, entry: u32, max: Mark) -> Option<Refusal>
 }
 
 /// The slots of a quiz that is ready stay.
-fn already_ready(records: &[Record], quiz: u32) -> Option<Refusal>
-    ensures { result ≡ already_ready records.now quiz }
+fn already_ready(book: &Book, quiz: u32) -> Option<Refusal>
+    requires { IsIndexed book.now }
+    ensures { result ≡ already_ready book.now.records.items quiz }
 {
-    match ready_at(records, quiz) {
+    match ready_at(book, quiz) {
         Some(place) => Some(Refusal::Closed { place }),
         None => None,
     }
 }
 
-fn slot_cause(
-    records: &[Record],
-    entries: &Entries,
-    quiz: u32,
-    entry: u32,
-    max: Mark,
-) -> Option<Refusal>
-    requires { IsBankOf records.now entries.now }
-    ensures { result ≡ first_some (already_ready records.now quiz ∷ bad_max records.now entry max ∷ too_many 200 (length (slots records.now quiz)) ∷ []) }
+fn slot_cause(book: &Book, quiz: u32, entry: u32, max: Mark) -> Option<Refusal>
+    requires { IsIndexed book.now }
+    ensures { result ≡ first_some (already_ready book.now.records.items quiz ∷ bad_max book.now.records.items entry max ∷ too_many 200 (length (slots book.now.records.items quiz)) ∷ []) }
 {
-    already_ready(records, quiz)
-        .or(bad_max(entries, entry, max))
-        .or(too_many(MOST_SLOTS, slot_count(records, quiz)))
+    already_ready(book, quiz)
+        .or(bad_max(&book.entries, entry, max))
+        .or(too_many(MOST_SLOTS, slot_count(book, quiz)))
 }
 
-fn remax_cause(
-    records: &[Record],
-    entries: &Entries,
-    quiz: u32,
-    slot: u16,
-    max: Mark,
-) -> Option<Refusal>
-    requires { IsBankOf records.now entries.now }
-    ensures { result ≡ bad_max records.now (slot_entry records.now quiz slot) max }
+fn remax_cause(book: &Book, quiz: u32, slot: u16, max: Mark) -> Option<Refusal>
+    requires { IsIndexed book.now }
+    ensures { result ≡ bad_max book.now.records.items (slot_entry book.now.records.items quiz slot) max }
 {
-    bad_max(entries, slot_entry(records, quiz, slot), max)
+    bad_max(&book.entries, slot_entry(book, quiz, slot), max)
 }
 
 /// A quiz that isn't ready has nothing to bind anew.
-fn regrade_cause(records: &[Record], quiz: u32) -> Option<Refusal>
-    ensures { result ≡ first_some (when (not (is_ready records.now quiz)) (refusal.NotOpen 0) ∷ too_many 100000 (length (jobs records.now)) ∷ []) }
+fn regrade_cause(book: &Book, quiz: u32) -> Option<Refusal>
+    requires { IsIndexed book.now }
+    ensures { result ≡ first_some (when (not (is_ready book.now.records.items quiz)) (refusal.NotOpen 0) ∷ too_many 100000 (length (jobs book.now.records.items)) ∷ []) }
 {
-    if !is_ready(records, quiz) {
+    if !is_ready(book, quiz) {
         return Some(Refusal::NotOpen { opens: 0 });
     }
-    too_many(MOST_JOBS, job_count(records))
+    too_many(MOST_JOBS, book.roster.counts.jobs())
 }
 
 /// The first cause for which a request is refused under this key, but for those of an entry's new version.
-pub(crate) fn early_cause(
-    records: &[Record],
-    entries: &Entries,
-    key: &Option<Text>,
-    request: &Request,
-) -> Option<Refusal>
-    requires bank { IsBankOf records.now entries.now }
-    requires few { length (catalog.entries records.now) ≤ 20000 }
-    ensures { result ≡ early_cause records.now key.now request.now }
+pub(crate) fn early_cause(book: &Book, key: &Option<Text>, request: &Request) -> Option<Refusal>
+    requires indexed { IsIndexed book.now }
+    requires few { length (catalog.entries book.now.records.items) ≤ 20000 }
+    ensures { result ≡ early_cause book.now.records.items key.now request.now }
 {
     match request {
-        Request::User { token, .. } => user_cause(records, token),
-        Request::Group { .. } => too_many(MOST_GROUPS, group_count(records)),
-        Request::Import { gift } => import_cause(records, key, gift),
-        Request::Quiz { .. } => too_many(MOST_QUIZZES, quiz_count(records)),
-        Request::Slot { quiz, entry, max } => slot_cause(records, entries, *quiz, *entry, *max),
-        Request::Ready { quiz } => already_ready(records, *quiz),
-        Request::Remax { quiz, slot, max } => remax_cause(records, entries, *quiz, *slot, *max),
-        Request::Override { .. } => too_many(MOST_OVERRIDES, override_count(records)),
-        Request::Regrade { quiz } => regrade_cause(records, *quiz),
+        Request::User { token, .. } => user_cause(book, token),
+        Request::Group { .. } => too_many(MOST_GROUPS, book.roster.counts.groups()),
+        Request::Import { gift } => import_cause(book, key, gift),
+        Request::Quiz { .. } => too_many(MOST_QUIZZES, book.roster.quizzes.count()),
+        Request::Slot { quiz, entry, max } => slot_cause(book, *quiz, *entry, *max),
+        Request::Ready { quiz } => already_ready(book, *quiz),
+        Request::Remax { quiz, slot, max } => remax_cause(book, *quiz, *slot, *max),
+        Request::Override { .. } => too_many(MOST_OVERRIDES, override_count(&book.records)),
+        Request::Regrade { quiz } => regrade_cause(book, *quiz),
         _ => None,
     }
 }

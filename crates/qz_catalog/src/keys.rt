@@ -2,10 +2,11 @@
 
 ghost use Rattle.std.specs.Prelude.{◌≡◌};
 ghost use Rattle.qz_terms.specs.Cause.{by_key, keeps_request};
-ghost use Rattle.qz_terms.specs.Legal.{IsLegalCatalog};
+ghost use Rattle.qz_catalog.specs.Holdings.{IsIndexed};
 ghost use Rattle.qz_catalog.specs.Applying.{IsFound};
 
-use qz_terms::{Ask, Event, Record, Request, place_of, same_request};
+use crate::book::Book;
+use qz_terms::{Ask, Event, Record, Request, same_request};
 
 /// What stands under a request's key.
 pub(crate) enum Found {
@@ -26,17 +27,17 @@ fn keeps_request(request: &Request, record: &Record) -> bool
 }
 
 /// What stands under the key of a request, if it has one and it stands there.
-pub(crate) fn by_key(records: &[Record], caller: u32, ask: &Ask) -> Option<Found>
-    requires { IsLegalCatalog records.now }
-    ensures { IsFound records.now result (by_key (keeps_request ask.now.request) caller ask.now.key records.now) }
+pub(crate) fn by_key(book: &Book, caller: u32, ask: &Ask) -> Option<Found>
+    requires { IsIndexed book.now }
+    ensures { IsFound book.now.records.items result (by_key (keeps_request ask.now.request) caller ask.now.key book.now.records.items) }
 {
     let Some(key) = &ask.key else {
         return None;
     };
-    let Some(at) = place_of(records, caller, key) else {
+    let Some(at) = book.roster.people.place_of(caller, key) else {
         return None;
     };
-    if keeps_request(&ask.request, &records[at]) {
+    if keeps_request(&ask.request, &book.records[at]) {
         return Some(Found::Same(at));
     }
     Some(Found::Other(at as u64 + 1))

@@ -2,10 +2,11 @@
 #![tactic(auto)]
 
 mod absent;
+mod book;
 mod catalog;
 mod causes;
-mod counts;
 mod decision;
+mod fronts;
 mod jobs;
 mod keys;
 mod missing;

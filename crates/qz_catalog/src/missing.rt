@@ -4,12 +4,11 @@ ghost use Rattle.std.specs.Prelude.{◌≡◌, not};
 ghost use Rattle.qz_grading.specs.Behaviours.{when};
 ghost use Rattle.qz_grading.specs.Grading.{is_place};
 ghost use Rattle.qz_grading.specs.declared.refusal.Refusal.TheVariants as refusal;
+ghost use Rattle.qz_catalog.specs.Holdings.{IsIndexed};
 ghost use Rattle.qz_terms.specs.Cause.{missing_group, missing_quiz, missing_user};
 
-use crate::people::{group_count, user_count};
-use crate::quizzes::quiz_count;
+use crate::book::Book;
 use qz_grading::{Refusal, Thing};
-use qz_terms::Record;
 
 /// The refusal of a number that isn't among so many, from 1.
 pub(crate) fn missing(count: usize, number: u32, what: Thing) -> Option<Refusal>
@@ -24,22 +23,25 @@ pub(crate) fn missing(count: usize, number: u32, what: Thing) -> Option<Refusal>
 }
 
 /// The refusal of a user who isn't there.
-pub(crate) fn missing_user(records: &[Record], user: u32) -> Option<Refusal>
-    ensures { result ≡ missing_user records.now user }
+pub(crate) fn missing_user(book: &Book, user: u32) -> Option<Refusal>
+    requires { IsIndexed book.now }
+    ensures { result ≡ missing_user book.now.records.items user }
 {
-    missing(user_count(records), user, Thing::User)
+    missing(book.roster.people.count(), user, Thing::User)
 }
 
 /// The refusal of a group that isn't there.
-pub(crate) fn missing_group(records: &[Record], group: u32) -> Option<Refusal>
-    ensures { result ≡ missing_group records.now group }
+pub(crate) fn missing_group(book: &Book, group: u32) -> Option<Refusal>
+    requires { IsIndexed book.now }
+    ensures { result ≡ missing_group book.now.records.items group }
 {
-    missing(group_count(records), group, Thing::Group)
+    missing(book.roster.counts.groups(), group, Thing::Group)
 }
 
 /// The refusal of a quiz that isn't there.
-pub(crate) fn missing_quiz(records: &[Record], quiz: u32) -> Option<Refusal>
-    ensures { result ≡ missing_quiz records.now quiz }
+pub(crate) fn missing_quiz(book: &Book, quiz: u32) -> Option<Refusal>
+    requires { IsIndexed book.now }
+    ensures { result ≡ missing_quiz book.now.records.items quiz }
 {
-    missing(quiz_count(records), quiz, Thing::Quiz)
+    missing(book.roster.quizzes.count(), quiz, Thing::Quiz)
 }

@@ -1,122 +1,62 @@
 //! The plan of a quiz for a user.
 
-ghost use Rattle.std.specs.Prelude.{option_copied, if◌then◌else◌, ◌≡◌, ◌⊎◌, ◌≤◌, ◌<◌, ◌*◌, ◌-◌, ◌^◌, List, [], ◌∷◌, filter_map, length, map, take, true, Some, None, option_map, unwrap_or, IfOk, IfErr, IfSome, OnOk};
+ghost use Rattle.std.specs.Prelude.{option_copied, if◌then◌else◌, ◌≡◌, ◌⊎◌, ◌≤◌, List, [], ◌∷◌, length, map, Some, None, option_map, true, IfOk, IfErr, OnOk};
 ghost use Rattle.std.specs.List.{list_all};
 ghost use Rattle.qz_grading.specs.Behaviours.{first_some};
 ghost use Rattle.qz_grading.specs.declared.refusal.Refusal.TheVariants as refusal;
 ghost use Rattle.qz_terms.specs.declared.plan.Planned.{Planned};
 ghost use Rattle.qz_terms.specs.declared.record.Record.{Record};
 ghost use Rattle.qz_bank.specs.Laws.{IsBankOf};
-ghost use Rattle.qz_terms.specs.Catalog.{asked, latest, own_settings, plan, plan_under, policy, questions, remax_by, remaxed, slots, version};
+ghost use Rattle.qz_terms.specs.Catalog.{latest, plan, policy, policy_with, questions, slots, version};
 ghost use Rattle.qz_terms.specs.Cause.{missing_quiz, missing_user};
 ghost use Rattle.qz_terms.specs.Kept.{is_planned};
-ghost use Rattle.qz_terms.specs.Legal.{IsLegalCatalog};
 ghost use Rattle.qz_terms.specs.Rows.{sum_of};
-ghost use Rattle.qz_catalog.specs.Holdings.{IsHeld, lean};
-ghost use Rattle.qz_catalog.specs.Readings.{slot_over};
+ghost use Rattle.qz_catalog.specs.Holdings.{IsIndexed, lean};
+ghost use Rattle.qz_catalog.specs.Readings.{planned_by};
 
-use crate::counts;
+use crate::book::Book;
 use crate::missing::{missing_quiz, missing_user};
-use crate::quizzes::{is_ready, quiz, slot_by};
-use crate::settings::{own_settings, policy_terms, settings};
+use crate::quizzes::{is_ready, policy_terms, slots_made};
+use crate::settings::settings;
 use qz_bank::Entries;
 use qz_bank::laws::follows_the_records;
-use qz_decimal::Mark;
+use qz_decimal::{Grade, Mark};
 use qz_grading::{Question, Refusal, Thing};
-use qz_terms::{Event, Plan, Planned, Policy, Record, Request};
+use qz_roster::Slot;
+use qz_terms::{Method, Plan, Planned, Policy, Record};
 use qz_text::{Listed, NoMemory, TryCopy};
 use std::alloc::Global;
 
-/// The max mark (in 10^-7) that a record gives anew to a slot, if it does.
-fn remax_by(quiz: u32, slot: u16, record: &Record) -> Option<Mark>
-    ensures { result ≡ remax_by quiz slot (asked «record».now) }
-{
-    match &record.event {
-        Event::Asked {
-            request: Request::Remax {
-                quiz: other,
-                slot: place,
-                max,
-            },
-        } if *other == quiz && *place == slot => Some(*max),
-        _ => None,
-    }
-}
-
-/// The max mark (in 10^-7) that a slot got anew last.
-fn remaxed(records: &[Record], quiz: u32, slot: u16) -> Option<Mark>
-    ensures { result ≡ remaxed records.now quiz slot }
-{
-    let mut last = None;
-    for record in records {
-        last = remax_by(quiz, slot, record).or(last);
-    }
-    last
-}
-
 /// The number of an entry's latest version by a bank, or 0 where the entry isn't there.
-fn latest_in(entries: &Entries, entry: u32) -> u32
+pub(crate) fn latest_in(entries: &Entries, entry: u32) -> u32
     ensures { (c : List Record) → IsBankOf c entries.now → result ≡ latest c entry }
 {
     follows_the_records();
     entries.latest(entry).unwrap_or(0)
 }
 
-/// The number of an entry's latest version, or 0 where the entry isn't there: by the bank that the records make, where it is at
-/// hand, and else by the records.
-fn latest(records: &[Record], bank: Option<&Entries>, entry: u32) -> u32
-    requires few { length records.now < 2 ^ 32 - 1 }
-    requires legal { IsLegalCatalog records.now }
-    requires bank { IfSome bank (λ entries. IsBankOf records.now entries.now) }
-    ensures { result ≡ latest records.now entry }
+/// A slot with its entry's latest version.
+fn planned(entries: &Entries, slot: &Slot) -> Planned
+    ensures { (c : List Record) → IsBankOf c entries.now → result ≡ planned_by c slot.now }
 {
-    match bank {
-        Some(entries) => latest_in(entries, entry),
-        None => counts::latest(records, entry),
-    }
-}
-
-/// A slot with its entry, that entry's latest version, and the last max mark.
-fn planned(
-    records: &[Record],
-    bank: Option<&Entries>,
-    quiz: u32,
-    slot: u16,
-    made: (u32, Mark),
-) -> Planned
-    requires few { length records.now < 2 ^ 32 - 1 }
-    requires legal { IsLegalCatalog records.now }
-    requires bank { IfSome bank (λ entries. IsBankOf records.now entries.now) }
-    ensures { result ≡ slot_over records.now quiz (slot, made) }
-{
-    let (entry, max) = made;
     Planned {
-        entry,
-        version: latest(records, bank, entry),
-        max: remaxed(records, quiz, slot).unwrap_or(max),
+        entry: slot.entry,
+        version: latest_in(entries, slot.entry),
+        max: slot.max(),
     }
 }
 
-/// The slots of a quiz, in order, by the bank that the records make, where it is at hand.
-fn slots(
-    alloc: Global,
-    records: &[Record],
-    bank: Option<&Entries>,
-    quiz: u32,
-) -> Result<Listed<Planned>, NoMemory>
-    requires few { length records.now < 2 ^ 32 - 1 }
-    requires legal { IsLegalCatalog records.now }
-    requires bank { IfSome bank (λ entries. IsBankOf records.now entries.now) }
-    ensures value { IfOk result (λ found. found ≡ slots records.now quiz) }
+/// The slots of a quiz, in order.
+fn slots(alloc: Global, book: &Book, quiz: u32) -> Result<Listed<Planned>, NoMemory>
+    requires { IsIndexed book.now }
+    ensures value { IfOk result (λ found. found ≡ slots book.now.records.items quiz) }
     ensures few { IfOk result (λ found. length found ≤ 200) }
     ensures marks { IfOk result (λ found. list_all is_planned found ≡ true) }
 {
+    let made = slots_made(book, quiz);
     let mut items = Vec::new(alloc);
-    for record in records {
-        if let Some(made) = slot_by(quiz, record) {
-            let slot = items.len() as u16 + 1;
-            items.push(planned(records, bank, quiz, slot, made))?;
-        }
+    for slot in made {
+        items.push(planned(&book.entries, slot))?;
     }
     Ok(Listed { items })
 }
@@ -134,14 +74,13 @@ fn sum_of(slots: &[Planned]) -> Mark
     Mark(sum as i64)
 }
 
-/// How a quiz with these slots is graded.
-fn policy(records: &[Record], quiz: u32, laid: &[Planned]) -> Policy
+/// How a quiz with these terms and slots is graded.
+pub(crate) fn policy(terms: (Method, Grade), laid: &[Planned]) -> Policy
     requires few { length laid.now ≤ 200 }
     requires marks { list_all is_planned laid.now ≡ true }
-    requires slots { laid.now ≡ slots records.now quiz }
-    ensures { result ≡ policy records.now quiz }
+    ensures { result ≡ policy_with laid.now terms }
 {
-    let (method, grade) = policy_terms(records, quiz);
+    let (method, grade) = terms;
     Policy {
         method,
         grade,
@@ -150,22 +89,17 @@ fn policy(records: &[Record], quiz: u32, laid: &[Planned]) -> Policy
 }
 
 /// How a quiz is graded. A quiz that isn't there is `Unknown`.
-pub(crate) fn policy_of(
-    alloc: Global,
-    records: &[Record],
-    entries: &Entries,
-    number: u32,
-) -> Result<Policy, Refusal>
-    requires { IsHeld records.now entries.now }
-    ensures value { IfOk result (λ p. p ≡ policy records.now number) }
-    ensures there { OnOk result (missing_quiz records.now number ≡ None) }
-    ensures refused { IfErr result (λ r. (r ≡ Refusal.Memory) ⊎ (missing_quiz records.now number ≡ Some r)) }
+pub(crate) fn policy_of(alloc: Global, book: &Book, number: u32) -> Result<Policy, Refusal>
+    requires { IsIndexed book.now }
+    ensures value { IfOk result (λ p. p ≡ policy book.now.records.items number) }
+    ensures there { OnOk result (missing_quiz book.now.records.items number ≡ None) }
+    ensures refused { IfErr result (λ r. (r ≡ Refusal.Memory) ⊎ (missing_quiz book.now.records.items number ≡ Some r)) }
 {
-    if let Some(refusal) = missing_quiz(records, number) {
+    if let Some(refusal) = missing_quiz(book, number) {
         return Err(refusal);
     }
-    let slots = slots(alloc, records, Some(entries), number)?;
-    Ok(policy(records, number, slots.as_slice()))
+    let slots = slots(alloc, book, number)?;
+    Ok(policy(policy_terms(book, number), slots.as_slice()))
 }
 
 /// The question of a slot, if it is there.
@@ -177,7 +111,7 @@ fn question<'a>(entries: &'a Entries, slot: &Planned) -> Option<&'a Question>
 }
 
 /// The questions of the slots, in order, by the bank that all the records make.
-fn questions(
+pub(crate) fn questions(
     alloc: Global,
     records: &[Record],
     entries: &Entries,
@@ -198,16 +132,15 @@ fn questions(
 /// The questions of a plan, which has none where it isn't whole.
 fn questions_if(
     alloc: Global,
-    records: &[Record],
-    entries: &Entries,
+    book: &Book,
     slots: &[Planned],
     whole: bool,
 ) -> Result<Listed<Question>, NoMemory>
-    requires { IsBankOf records.now entries.now }
-    ensures { IfOk result (λ found. found ≡ if whole then questions records.now slots.now else []) }
+    requires { IsIndexed book.now }
+    ensures { IfOk result (λ found. found ≡ if whole then questions book.now.records.items slots.now else []) }
 {
     if whole {
-        questions(alloc, records, entries, slots)
+        questions(alloc, &book.records, &book.entries, slots)
     } else {
         Ok(Listed::empty(alloc))
     }
@@ -216,63 +149,32 @@ fn questions_if(
 /// The plan of a quiz for a user, with its questions where it is whole. A quiz that isn't there is `Unknown`, and then a user.
 pub(crate) fn plan(
     alloc: Global,
-    records: &[Record],
-    entries: &Entries,
+    book: &Book,
     number: u32,
     user: u32,
     whole: bool,
 ) -> Result<Plan, Refusal>
-    requires { IsHeld records.now entries.now }
-    ensures value { IfOk result (λ p. option_map (lean whole) (plan records.now number user) ≡ Some p) }
-    ensures free { OnOk result (first_some (missing_quiz records.now number ∷ missing_user records.now user ∷ []) ≡ None) }
-    ensures refused { IfErr result (λ r. (r ≡ Refusal.Memory) ⊎ (first_some (missing_quiz records.now number ∷ missing_user records.now user ∷ []) ≡ Some r)) }
+    requires { IsIndexed book.now }
+    ensures value { IfOk result (λ p. option_map (lean whole) (plan book.now.records.items number user) ≡ Some p) }
+    ensures free { OnOk result (first_some (missing_quiz book.now.records.items number ∷ missing_user book.now.records.items user ∷ []) ≡ None) }
+    ensures refused { IfErr result (λ r. (r ≡ Refusal.Memory) ⊎ (first_some (missing_quiz book.now.records.items number ∷ missing_user book.now.records.items user ∷ []) ≡ Some r)) }
 {
-    let Some(named) = quiz(records, number) else {
+    let Some(named) = book.roster.quizzes.named(&book.records, number) else {
         return Err(Refusal::Unknown { what: Thing::Quiz });
     };
-    if let Some(refusal) = missing_user(records, user) {
+    if let Some(refusal) = missing_user(book, user) {
         return Err(refusal);
     }
-    let slots = slots(alloc, records, Some(entries), number)?;
+    let slots = slots(alloc, book, number)?;
     Ok(Plan {
-        at: records.len() as u64,
+        at: book.records.len() as u64,
         quiz: number,
         name: named.name.try_copy(alloc)?,
-        ready: is_ready(records, number),
+        ready: is_ready(book, number),
         behaviour: named.behaviour,
-        settings: settings(alloc, records, number, user)?,
-        policy: policy(records, number, slots.as_slice()),
-        questions: questions_if(alloc, records, entries, slots.as_slice(), whole)?,
+        settings: settings(alloc, book, number, user)?,
+        policy: policy(policy_terms(book, number), slots.as_slice()),
+        questions: questions_if(alloc, book, slots.as_slice(), whole)?,
         slots,
     })
-}
-
-/// The plan of a quiz over the first records of a catalogue, with the quiz's own settings and its questions, if it is there.
-pub(crate) fn own_plan(
-    alloc: Global,
-    all: &[Record],
-    entries: &Entries,
-    first: usize,
-    number: u32,
-) -> Result<Option<Plan>, NoMemory>
-    requires held { IsHeld all.now entries.now }
-    requires inside { first ≤ length all.now }
-    ensures { IfOk result (λ p. p ≡ plan_under (own_settings (take first all.now) number) (take first all.now) number) }
-{
-    let records = &all[..first];
-    let Some(named) = quiz(records, number) else {
-        return Ok(None);
-    };
-    let slots = slots(alloc, records, None, number)?;
-    Ok(Some(Plan {
-        at: records.len() as u64,
-        quiz: number,
-        name: named.name.try_copy(alloc)?,
-        ready: is_ready(records, number),
-        behaviour: named.behaviour,
-        settings: own_settings(records, number),
-        policy: policy(records, number, slots.as_slice()),
-        questions: questions(alloc, all, entries, slots.as_slice())?,
-        slots,
-    }))
 }

@@ -1,16 +1,21 @@
 //! How a record is made and put at the end of the list.
 
-ghost use Rattle.std.specs.Prelude.{◌≡◌, ◌<◌, ◌++◌, ◌∷◌, [], ◌⊎◌, None, Some, IfOk, IfErr, OnErr, OnOk, vec_len, vec_capacity};
-ghost use Rattle.qz_terms.specs.Answer.{said};
-ghost use Rattle.qz_terms.specs.CatalogAnswer.{catalog_verdict, moment_in, record_in};
+ghost use Rattle.std.specs.Prelude.{◌≡◌, ◌+◌, ◌-◌, ◌^◌, ◌<◌, ◌++◌, ◌∷◌, [], ◌⊎◌, length, slice_get, None, Some, IfOk, IfErr, OnErr, OnOk, vec_len, vec_capacity};
+ghost use Rattle.qz_terms.specs.CatalogAnswer.{catalog_after, catalog_answer, catalog_verdict, moment_in, record_in};
 ghost use Rattle.qz_terms.specs.Cause.{Denied};
-ghost use Rattle.qz_catalog.specs.Applying.{IsAnswered, IsPosed, IsToldOver, bank_after, bank_cause};
+ghost use Rattle.qz_terms.specs.declared.record.Record.{Record};
+ghost use Rattle.qz_terms.specs.declared.request.Request.{Request};
+ghost use Rattle.qz_terms.specs.Catalog.{asked};
+ghost use Rattle.qz_roster.specs.Roster.{HasRoom, IsNext, IsRosterOf};
+ghost use Rattle.qz_catalog.specs.Applying.{IsPosed, IsReady, bank_after, bank_cause};
+ghost use Rattle.qz_catalog.specs.Holdings.{IsBook, IsIndexed, IsShownBy};
 
-use crate::replies::said;
+use crate::book::Book;
+use crate::replies::{number_of, said};
 use qz_bank::Entries;
 use qz_grading::Refusal;
 use qz_terms::{Ask, Event, Record, Reply, Request, User, copy_of_text, make_room};
-use qz_text::{Listed, NoMemory, TryCopy};
+use qz_text::{NoMemory, TryCopy};
 use std::alloc::Global;
 
 /// The moment of a request: the clock's, but not before that of the last record.
@@ -71,40 +76,81 @@ fn change(alloc: Global, entries: &mut Entries, request: &Request) -> Result<(),
     Ok(())
 }
 
-/// Puts a record at the end, for which there is room, and gives what is said of it. It takes no memory.
-fn append(records: &mut Vec<Record>, record: Record) -> Reply
-    requires room { vec_len records.old < vec_capacity records.old }
-    requires told { IsToldOver (records.old.items ++ «record» ∷ []) «record» }
-    ensures said { result ≡ said (records.old.items ++ «record» ∷ []) «record» }
-    ensures put { records.new.items ≡ records.old.items ++ «record» ∷ [] }
+/// Makes room for a record that is to stand behind those of a book.
+pub(crate) fn make_book_room(
+    alloc: Global,
+    book: &mut Book,
+    record: &Record,
+) -> Result<(), NoMemory>
+    requires roster { IsRosterOf book.old.records.items book.old.roster }
+    requires next { IsNext book.old.records.items «record».now }
+    ensures few { OnOk result (length book.new.records.items + 1 < 2 ^ 32 - 1) }
+    ensures place { OnOk result (vec_len book.new.records < vec_capacity book.new.records) }
+    ensures number { OnOk result (vec_len book.new.shown < vec_capacity book.new.shown) }
+    ensures room { OnOk result (HasRoom book.new.roster «record».now) }
+    ensures roster { IsRosterOf book.new.records.items book.new.roster }
+    ensures records { book.new.records.items ≡ book.old.records.items }
+    ensures shown { book.new.shown.items ≡ book.old.shown.items }
+    ensures entries { book.new.entries ≡ book.old.entries }
 {
-    let place = records.len();
-    records.push(record).unwrap();
-    said(records, &records[place])
+    make_room(&mut book.records)?;
+    book.shown.reserve(1)?;
+    book.roster.make_room(alloc, &book.records, record)
+}
+
+/// The number that the reply shows for the record at the end, or 0 where it shows none.
+fn last_number(book: &Book, at: usize) -> u32
+    requires indexed { IsIndexed book.now }
+    requires last { length book.now.records.items ≡ at + 1 }
+    ensures { (x : Request) (r : Record) → slice_get book.now.records.items at ≡ Some r → asked r ≡ Some x → IsShownBy book.now.records.items x result }
+{
+    match &book.records[at].event {
+        Event::Asked { request } => number_of(book, request),
+        _ => 0,
+    }
+}
+
+/// Puts a record, for which there is room, behind those of a book. It takes no memory.
+pub(crate) fn append(alloc: Global, book: &mut Book, record: Record)
+    requires { IsReady book.old «record» }
+    ensures records { book.new.records.items ≡ book.old.records.items ++ «record» ∷ [] }
+    ensures entries { book.new.entries ≡ book.old.entries }
+    ensures book { IsBook book.new }
+{
+    book.roster.keep(alloc, &book.records, &record);
+    let at = book.records.len();
+    book.records.push(record).unwrap();
+    let number = last_number(book, at);
+    book.shown.push(number).unwrap();
 }
 
 /// Puts the record that a request makes at the end, and changes the bank with it. All growth is made before anything is changed:
 /// where the change of the bank is refused or memory is wanting, the list and the bank are as before.
 pub(crate) fn put(
     alloc: Global,
-    records: &mut Listed<Record>,
-    entries: &mut Entries,
+    book: &mut Book,
     now: u64,
     user: &User,
     ask: &Ask,
 ) -> Result<Reply, Refusal>
-    requires { IsPosed records.old entries.old now user.now ask.now }
-    ensures answered { IfOk result (λ told. IsAnswered records.old now user.now ask.now told records.new entries.new) }
-    ensures refused { IfErr result (λ r. (r ≡ Refusal.Memory) ⊎ (catalog_verdict records.old now user.now ask.now ≡ Denied r)) }
-    ensures list { OnErr result (records.new ≡ records.old) }
-    ensures bank { OnErr result (entries.new ≡ entries.old) }
+    requires book { IsBook book.old }
+    requires posed { IsPosed book.old.records.items book.old.entries now user.now ask.now }
+    ensures reply { IfOk result (λ told. told ≡ catalog_answer book.old.records.items now user.now ask.now) }
+    ensures list { OnOk result (book.new.records.items ≡ catalog_after book.old.records.items now user.now ask.now) }
+    ensures refused { IfErr result (λ r. (r ≡ Refusal.Memory) ⊎ (catalog_verdict book.old.records.items now user.now ask.now ≡ Denied r)) }
+    ensures unchanged { OnErr result (book.new.records.items ≡ book.old.records.items) }
+    ensures book { IsBook book.new }
 {
-    make_room(&mut records.items)?;
-    let made = record_of(alloc, &records.items, now, user, ask)?;
-    match change(alloc, entries, &ask.request) {
-        Ok(()) => Ok(append(&mut records.items, made)),
+    let record = record_of(alloc, &book.records, now, user, ask)?;
+    make_book_room(alloc, book, &record)?;
+    match change(alloc, &mut book.entries, &ask.request) {
+        Ok(()) => {
+            let at = book.records.len();
+            append(alloc, book, record);
+            Ok(said(book, at))
+        }
         Err(refusal) => {
-            drop(made);
+            drop(record);
             Err(refusal)
         }
     }

@@ -1,165 +1,95 @@
-//! What a list of records tells of quizzes and their slots. Each call reads the list once, from the front.
+//! What a catalogue tells of quizzes and their slots.
 
-ghost use Rattle.std.specs.Prelude.{◌≡◌, ◌+◌, ◌≤◌, ℕ, Option, filter_map, if◌then◌else◌, ◌==◌, length, is_some, position, None, option_map};
-ghost use Rattle.qz_grading.specs.Grading.{at_place};
-ghost use Rattle.qz_terms.specs.Catalog.{asked, is_ready, quiz_by, quizzes, readies, ready_at, slot_by, slots, slots_made};
+ghost use Rattle.std.specs.Prelude.{◌≡◌, ◌<◌, length, position, IfSome};
+ghost use Rattle.qz_terms.specs.Catalog.{is_ready, own_settings, readies, ready_at, slots};
 ghost use Rattle.qz_terms.specs.Cause.{slot_entry};
-ghost use Rattle.qz_catalog.specs.Readings.{named_in};
+ghost use Rattle.qz_roster.specs.Quizzes.{AreSlotsOf};
+ghost use Rattle.qz_catalog.specs.Holdings.{IsIndexed};
+ghost use Rattle.qz_catalog.specs.Readings.{policy_terms};
 
-use qz_decimal::Mark;
-use qz_grading::Behaviour;
-use qz_terms::{Event, Record, Request};
-use qz_text::Text;
+use crate::book::Book;
+use crate::settings::{default_policy, default_settings};
+use qz_decimal::Grade;
+use qz_roster::Slot;
+use qz_terms::{Method, Settings};
 
-/// The name and behaviour of a quiz.
-#[derive(Clone, Copy)]
-pub(crate) struct Named<'a> {
-    pub name: &'a Text,
-    pub behaviour: Behaviour,
-}
-
-/// The quiz that a record makes.
-fn quiz_by(record: &Record) -> Option<Named>
-    ensures { option_map named_in result ≡ quiz_by (asked «record».now) }
+/// The slots of a quiz, in order. A quiz that isn't there has none.
+pub(crate) fn slots_made(book: &Book, quiz: u32) -> &[Slot]
+    requires { IsIndexed book.now }
+    ensures { AreSlotsOf book.now.records.items quiz result.now }
 {
-    match &record.event {
-        Event::Asked {
-            request: Request::Quiz { name, behaviour },
-        } => Some(Named {
-            name,
-            behaviour: *behaviour,
-        }),
-        _ => None,
-    }
-}
-
-/// Whether a record makes a quiz.
-fn makes_quiz(record: &Record) -> bool
-    ensures { result ≡ is_some (quiz_by (asked «record».now)) }
-{
-    matches!(
-        record.event,
-        Event::Asked {
-            request: Request::Quiz { .. }
-        }
-    )
-}
-
-/// How many quizzes there are.
-pub(crate) fn quiz_count(records: &[Record]) -> usize
-    ensures value { result ≡ length (quizzes records.now) }
-    ensures few { result ≤ length records.now }
-{
-    let mut count = 0;
-    for record in records {
-        count += usize::from(makes_quiz(record));
-    }
-    count
-}
-
-/// What is told with the number that is meant.
-pub(crate) fn numbered<T: Copy>(told: Option<T>, number: usize, meant: usize) -> Option<T>
-    ensures { result ≡ if number == meant then told else None }
-{
-    if number == meant { told } else { None }
-}
-
-/// A quiz, which has this number.
-pub(crate) fn quiz(records: &[Record], quiz: u32) -> Option<Named>
-    ensures { option_map named_in result ≡ at_place (quizzes records.now) quiz }
-{
-    let mut count = 0;
-    let mut found = None;
-    for record in records {
-        let named = quiz_by(record);
-        count += usize::from(named.is_some());
-        found = found.or(numbered(named, count, quiz as usize));
-    }
-    found
-}
-
-/// The entry and the first max mark (in 10^-7) of the slot that a record makes, if it is the quiz's.
-pub(crate) fn slot_by(quiz: u32, record: &Record) -> Option<(u32, Mark)>
-    ensures { result ≡ slot_by quiz (asked «record».now) }
-{
-    match &record.event {
-        Event::Asked {
-            request: Request::Slot {
-                quiz: other,
-                entry,
-                max,
-            },
-        } if *other == quiz => Some((*entry, *max)),
-        _ => None,
+    match book.roster.quizzes.quiz(quiz) {
+        Some(quiz) => quiz.slots.as_slice(),
+        None => &[],
     }
 }
 
 /// How many slots a quiz has.
-pub(crate) fn slot_count(records: &[Record], quiz: u32) -> usize
-    ensures value { result ≡ length (slots records.now quiz) }
-    ensures few { result ≤ length records.now }
+pub(crate) fn slot_count(book: &Book, quiz: u32) -> usize
+    requires { IsIndexed book.now }
+    ensures { result ≡ length (slots book.now.records.items quiz) }
 {
-    let mut count = 0;
-    for record in records {
-        count += usize::from(slot_by(quiz, record).is_some());
-    }
-    count
-}
-
-/// The entry and the first max mark (in 10^-7) of a slot.
-fn slot(records: &[Record], quiz: u32, slot: u16) -> Option<(u32, Mark)>
-    ensures { result ≡ at_place (slots_made records.now quiz) slot }
-{
-    let mut count = 0;
-    let mut found = None;
-    for record in records {
-        let made = slot_by(quiz, record);
-        count += usize::from(made.is_some());
-        found = found.or(numbered(made, count, usize::from(slot)));
-    }
-    found
+    slots_made(book, quiz).len()
 }
 
 /// The entry of a slot, or 0 where there is no such slot.
-pub(crate) fn slot_entry(records: &[Record], quiz: u32, number: u16) -> u32
-    ensures { result ≡ slot_entry records.now quiz number }
+pub(crate) fn slot_entry(book: &Book, quiz: u32, number: u16) -> u32
+    requires { IsIndexed book.now }
+    ensures { result ≡ slot_entry book.now.records.items quiz number }
 {
-    match slot(records, quiz, number) {
-        Some((entry, _)) => entry,
-        None => 0,
+    let slots = slots_made(book, quiz);
+    let number = usize::from(number);
+    if 1 <= number && number <= slots.len() {
+        slots[number - 1].entry
+    } else {
+        0
     }
-}
-
-/// Whether a record makes a quiz ready.
-fn readies(quiz: u32, record: &Record) -> bool
-    ensures { result ≡ readies quiz «record».now }
-{
-    match &record.event {
-        Event::Asked {
-            request: Request::Ready { quiz: other },
-        } => *other == quiz,
-        _ => false,
-    }
-}
-
-/// Whether a quiz is ready.
-pub(crate) fn is_ready(records: &[Record], quiz: u32) -> bool
-    ensures { result ≡ is_ready records.now quiz }
-{
-    records.iter().any(|record| readies(quiz, record))
 }
 
 /// The place, from 0, of the record that made a quiz ready.
-fn ready_maker(records: &[Record], quiz: u32) -> Option<usize>
-    ensures { result ≡ position (readies quiz) records.now }
+fn ready_maker(book: &Book, quiz: u32) -> Option<usize>
+    requires { IsIndexed book.now }
+    ensures value { result ≡ position (readies quiz) book.now.records.items }
+    ensures inside { IfSome result (λ n. n < length book.now.records.items) }
 {
-    records.iter().position(|record| readies(quiz, record))
+    book.roster.quizzes.quiz(quiz)?.ready
 }
 
 /// The place, from 1, since which a quiz is ready, if it is.
-pub(crate) fn ready_at(records: &[Record], quiz: u32) -> Option<u64>
-    ensures { result ≡ ready_at records.now quiz }
+pub(crate) fn ready_at(book: &Book, quiz: u32) -> Option<u64>
+    requires { IsIndexed book.now }
+    ensures { result ≡ ready_at book.now.records.items quiz }
 {
-    let before = ready_maker(records, quiz)?;
+    let before = ready_maker(book, quiz)?;
     Some(before as u64 + 1)
+}
+
+/// Whether a quiz is ready.
+pub(crate) fn is_ready(book: &Book, quiz: u32) -> bool
+    requires { IsIndexed book.now }
+    ensures { result ≡ is_ready book.now.records.items quiz }
+{
+    ready_maker(book, quiz).is_some()
+}
+
+/// The quiz's own settings.
+pub(crate) fn own_settings(book: &Book, quiz: u32) -> Settings
+    requires { IsIndexed book.now }
+    ensures { result ≡ own_settings book.now.records.items quiz }
+{
+    match book.roster.quizzes.quiz(quiz) {
+        Some(quiz) => quiz.times.unwrap_or(default_settings()),
+        None => default_settings(),
+    }
+}
+
+/// The method by which a quiz is graded, and the grade that a whole total has (in 10^-5).
+pub(crate) fn policy_terms(book: &Book, quiz: u32) -> (Method, Grade)
+    requires { IsIndexed book.now }
+    ensures { result ≡ policy_terms book.now.records.items quiz }
+{
+    match book.roster.quizzes.quiz(quiz) {
+        Some(quiz) => quiz.terms.unwrap_or(default_policy()),
+        None => default_policy(),
+    }
 }

@@ -3,3 +3,5 @@ pub mod Keepers
 pub mod Changes
 pub mod Log
 pub mod Stops
+pub mod Shelves
+pub mod Slots

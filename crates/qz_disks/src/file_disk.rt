@@ -15,19 +15,29 @@ use std::os::unix::fs::FileExt;
 #[derive(Drop)]
 pub struct FileDisk {
     file: File,
-    /// The file was cut since the last sync, so that its size has to be synced as well.
+    /// Since the last sync the file was cut, or what became of it isn't known, so that its size has to be synced as well.
     was_cut: bool,
     faults: u64,
 }
 
 impl FileDisk {
-    /// A disk over a file that was opened for reading and writing.
-    pub fn new(file: File) -> FileDisk {
+    /// A disk over a file that was opened for reading and writing. What became of the file before isn't known, so the
+    /// first sync is of all.
+    pub fn new(file: File) -> FileDisk
+        ensures { result.faults ≡ 0 }
+    {
         FileDisk {
             file,
-            was_cut: false,
+            was_cut: true,
             faults: 0,
         }
+    }
+
+    /// How many calls have failed.
+    pub fn faults(&self) -> u64
+        ensures { result ≡ self.now.faults }
+    {
+        self.faults
     }
 
     // Counts a fault where a call of std answered an error.

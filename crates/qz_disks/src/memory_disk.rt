@@ -157,6 +157,14 @@ impl MemoryDisk {
         MemoryDisk::holding(alloc, &left, Listed::empty(alloc))
     }
 
+    /// The same disk, with a count of faults of 0.
+    pub(crate) fn without_faults(mut self) -> MemoryDisk
+        ensures { result ≡ record self { faults = 0 } }
+    {
+        self.calls.faults = 0;
+        self
+    }
+
     /// The bytes that a read gives.
     pub fn bytes(&self) -> &[u8]
         ensures { result.now ≡ content self.now.changes }

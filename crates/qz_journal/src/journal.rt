@@ -101,9 +101,11 @@ impl<D: Disk> Journal<D> {
         }
     }
 
-    /// The disk, as it is.
+    /// The disk, as it is: a crash leaves of it the payloads kept, with the one in doubt or without.
     pub fn into_disk(self) -> D
-        ensures { result ≡ self.disk }
+        ensures disk { result ≡ self.disk }
+        ensures stands { IfSome self.kept (λ payloads.
+            StandFor payloads self.doubt (D.left_at result (D.moment result))) }
     {
         self.disk
     }

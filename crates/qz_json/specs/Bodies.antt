@@ -8,7 +8,7 @@ use Rattle.qz_terms.specs.declared.people.Caller.{Caller}
 use Rattle.qz_terms.specs.Cause.{is_keyed}
 use Rattle.qz_terms.specs.Kept.{KeepsAsked, asks_described}
 use Rattle.qz_wire.specs.declared.verbs.Verb.{Verb}
-use Rattle.qz_wire.specs.Asking.{IsRead, key_for, verb_of}
+use Rattle.qz_wire.specs.Asking.{key_for, verb_of}
 use Rattle.qz_wire.specs.Faults.{Fault, at_word}
 use Rattle.qz_wire.specs.Numbered.{◌>>=◌, or_line as or_word}
 use Rattle.qz_wire.specs.Requests.{request_of}
@@ -47,9 +47,8 @@ ask_of_body who bytes = do
   body ← at_word (or_word 0 (data_of bytes))
   ask_of_data who body
 
--- what a body asks: a request that is read, which has a key where it has to, and all is in range
+-- what a body asks: a request that has a key where it has to, and all is in range
 pub record CanBeAsked (ask : Ask) : Type 0 where
-  pub read : IsRead ask.request
   pub keyed : is_keyed ask ≡ true
   pub kept : KeepsAsked ask.request
   pub described : asks_described ask.request ≡ true

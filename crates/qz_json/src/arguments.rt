@@ -78,7 +78,7 @@ fn arguments(verb: Verb) -> &'static [(&'static str, Form)]
             ("limit", Form::Setting),
             ("allowed", Form::Setting),
         ],
-        Verb::Start | Verb::Report => &[("quiz", Form::Number)],
+        Verb::Regrade | Verb::Start | Verb::Report => &[("quiz", Form::Number)],
         Verb::Save | Verb::Submit => &[
             ("attempt", Form::Text),
             ("slot", Form::Number),
@@ -92,6 +92,8 @@ fn arguments(verb: Verb) -> &'static [(&'static str, Form)]
             ("slot", Form::Number),
             ("mark", Form::Text),
         ],
+        Verb::Work => &[("job", Form::Number), ("shard", Form::Number)],
+        Verb::Jobs => &[],
         Verb::Live => &[("shard", Form::Number), ("attempt", Form::Text)],
         Verb::Grade => &[("quiz", Form::Number), ("user", Form::Number)],
         Verb::Bank => &[("entry", Form::Number), ("version", Form::Number)],

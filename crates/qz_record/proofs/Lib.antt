@@ -2,6 +2,8 @@ pub mod Many
 pub mod Codes
 pub mod Wide
 pub mod NumberCodes
+pub mod Fitting
 pub mod PartCodes
 pub mod TextLengths
+pub mod RecordLengths
 pub mod Parsing

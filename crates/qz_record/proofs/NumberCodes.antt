@@ -137,7 +137,7 @@ fits_at w top e (negsuc n) fits =
     let le : n ≤ top = leb-true n top low in
     record { sfits = subst (λ (k : ℕ). n < k) e (omega arith) }
 
-at_fits : (w : Width) (top : ℕ) → suc top ≡ 2 ^ hbits w → (z : ℤ) → SFits w z → int_le (negsuc top) z && int_lt z (pos (suc top)) ≡ true
+pub at_fits : (w : Width) (top : ℕ) → suc top ≡ 2 ^ hbits w → (z : ℤ) → SFits w z → int_le (negsuc top) z && int_lt z (pos (suc top)) ≡ true
 at_fits w top e (pos n) h = lt-ltb n (suc top) (subst (λ (k : ℕ). n < k) (sym e) h.sfits)
 at_fits w top e (negsuc n) h =
     let below : n < suc top = subst (λ (k : ℕ). n < k) (sym e) h.sfits in

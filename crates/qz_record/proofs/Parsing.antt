@@ -11,6 +11,7 @@ use Rattle.qz_terms.specs.declared.request.Request.{Request}
 use Rattle.qz_terms.specs.declared.request.Request.TheVariants as request
 use Rattle.qz_terms.specs.Catalog.{asked, asked_by}
 use Rattle.qz_terms.specs.CatalogAnswer.{keeps_record}
+use Rattle.qz_terms.specs.Kept.{IsKept, KeepsEvent}
 use Rattle.qz_terms.specs.Spelling.{spelling}
 use Rattle.qz_record.specs.declared.fault.RecordFault.{RecordFault}
 use Rattle.qz_record.specs.declared.fault.RecordFault.TheVariants as fault
@@ -74,6 +75,14 @@ event-kept e fits = tt
 fits-event : (r : Record) → record_field.fits r ≡ true → fits_event r.event ≡ true
 unfolding record_field event_field
 fits-event r fits = (and_parts _ _ fits).1
+
+-- and so does one that is kept
+event-asks : (e : Event) → KeepsEvent e → IfSome (asked_by e) (λ (x : Request). keeps_record x ≡ true)
+event-asks (event.Asked x) kept = kept.0
+event-asks e kept = tt
+
+pub kept-asks : (r : Record) → IsKept r → IfSome (asked r) (λ (x : Request). keeps_record x ≡ true)
+kept-asks r kept = event-asks r.event kept.event
 
 pub record-asks : (r : Record) → is_spellable r ≡ true → IfSome (asked r) (λ (x : Request). keeps_record x ≡ true)
 record-asks r fits = event-kept r.event (fits-event r fits)

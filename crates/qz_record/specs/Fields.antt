@@ -4,7 +4,7 @@
 use Rattle.std.specs.Int.{Width, byte_len, cast_signed, from_le_bytes, w16, w32, w64, w128}
 use Rattle.std.specs.List.{list_all}
 use Rattle.std.specs.Option.{option_and_then, option_map}
-use Rattle.std.specs.Prelude.{◌≡◌, ℕ, zero, suc, ◌*◌, ◌^◌, Bool, true, false, ◌&&◌, if◌then◌else◌, nat_lt, int_le, int_lt, List, [], ◌∷◌, length, take, drop, ℤ, pos, neg_ℤ, Option, Some, None, Result, Ok, Err}
+use Rattle.std.specs.Prelude.{◌≡◌, ℕ, zero, suc, ◌*◌, ◌^◌, ◌<◌, ◌≤◌, Bool, true, false, ◌&&◌, if◌then◌else◌, nat_lt, int_le, int_lt, List, [], ◌∷◌, length, take, drop, ℤ, pos, neg_ℤ, Option, Some, None, Result, Ok, Err}
 use Rattle.std.specs.Str.{is_utf8}
 use Rattle.qz_record.specs.declared.fault.RecordFault.{RecordFault}
 use Rattle.qz_record.specs.declared.fault.RecordFault.TheVariants as fault
@@ -19,6 +19,12 @@ abbrev pub Gives : {A : Type 0} → (List ℕ → Option (A × List ℕ)) → Li
 Gives read before (Ok x) behind = read before ≡ Some (x, behind)
 Gives read before (Err fault.NotOne) behind = read before ≡ None
 Gives read before (Err fault.Memory) behind = Unit {0}
+
+-- what a function that writes says of a value with these bytes: they are at least one, and the value fits where they are fewer
+-- than 2^32
+pub record IsFit (bytes : List ℕ) (test : Bool) : Type 0 where
+  pub some : 1 ≤ length bytes
+  pub fits : length bytes < 2 ^ 32 → test ≡ true
 
 -- ---- structs
 

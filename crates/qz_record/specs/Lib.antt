@@ -1,4 +1,5 @@
 pub mod Fields
 pub mod Parts
 pub mod Records
+pub mod Lengths
 pub mod ExamplesFields

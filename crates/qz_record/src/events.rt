@@ -1,15 +1,18 @@
 //! Events and records.
 
-ghost use Rattle.std.specs.Prelude.{◌≡◌, ◌++◌, OnOk};
+ghost use Rattle.std.specs.Prelude.{◌≡◌, ◌++◌, true, IfSome, OnOk};
+ghost use Rattle.qz_terms.specs.Catalog.{asked, asked_by};
+ghost use Rattle.qz_terms.specs.CatalogAnswer.{keeps_record};
 ghost use Rattle.qz_terms.specs.Spelling.{how_bytes, event_bytes, spelling};
-ghost use Rattle.qz_record.specs.Fields.{Gives};
+ghost use Rattle.qz_record.specs.Fields.{Gives, IsFit};
 ghost use Rattle.qz_record.specs.Parts.{how_field, founded_event, asked_event, started_event, acted_event, noted_event, ended_event, rebound_event, skipped_event, jobdone_event, event_field, record_field};
 
 use crate::RecordFault;
 use crate::part::{Part, number_at};
-use crate::writing::{write_four, write_six, write_three, write_two};
+use crate::requests::{request_from, write_request};
+use crate::writing::{write_five, write_four, write_six, write_three};
 use qz_grading::{AttemptId, Behaviour, Shape, Step};
-use qz_terms::{Bound, Event, How, Learned, Record, Request, Terms};
+use qz_terms::{Bound, Event, How, Learned, Record, Terms};
 use qz_text::{Listed, NoMemory, Text};
 use std::alloc::Global;
 
@@ -27,6 +30,7 @@ impl Part for How {
         }
     }
 
+    #[tactic(auto, using(crate::proofs::Fitting::how_one), unfolding(crate::specs::Parts::how_field))]
     fn write_to(&self, out: &mut Vec<u8>) -> Result<(), NoMemory> {
         let number = match self {
             How::Finished => 0,
@@ -51,7 +55,7 @@ fn asked_from(alloc: Global, rest: &mut &[u8]) -> Result<Event, RecordFault>
     ensures { Gives asked_event rest.old.now result rest.new.now }
 {
     Ok(Event::Asked {
-        request: Request::read_from(alloc, rest)?,
+        request: request_from(alloc, rest)?,
     })
 }
 
@@ -137,98 +141,103 @@ fn jobdone_from(alloc: Global, rest: &mut &[u8]) -> Result<Event, RecordFault>
     })
 }
 
-impl Part for Event {
-    ghost field = { event_field };
-
-    ghost bytes = { event_bytes };
-
-    #[tactic(auto, unfolding(crate::specs::Parts::event_field))]
-    fn read_from(alloc: Global, rest: &mut &[u8]) -> Result<Event, RecordFault> {
-        match number_at(rest)? {
-            0 => founded_from(alloc, rest),
-            1 => asked_from(alloc, rest),
-            2 => started_from(alloc, rest),
-            3 => acted_from(alloc, rest),
-            4 => noted_from(alloc, rest),
-            5 => ended_from(alloc, rest),
-            6 => rebound_from(alloc, rest),
-            7 => skipped_from(alloc, rest),
-            8 => jobdone_from(alloc, rest),
-            _ => Err(RecordFault::NotOne),
-        }
-    }
-
-    fn write_to(&self, out: &mut Vec<u8>) -> Result<(), NoMemory> {
-        match self {
-            Event::Founded { shards, token } => write_three(&0u8, shards, token, out),
-            Event::Asked { request } => write_two(&1u8, request, out),
-            Event::Started {
-                quiz,
-                nth,
-                behaviour,
-                bounds,
-                learned,
-            } => write_six(&2u8, quiz, nth, behaviour, bounds, learned, out),
-            Event::Acted {
-                attempt,
-                slot,
-                step,
-            } => write_four(&3u8, attempt, slot, step, out),
-            Event::Noted {
-                attempt,
-                slot,
-                step,
-            } => write_four(&4u8, attempt, slot, step, out),
-            Event::Ended { attempt, how } => write_three(&5u8, attempt, how, out),
-            Event::Rebound {
-                job,
-                attempt,
-                slot,
-                bound,
-                learned,
-            } => write_six(&6u8, job, attempt, slot, bound, learned, out),
-            Event::Skipped {
-                job,
-                attempt,
-                slot,
-                bound,
-                newer,
-            } => write_six(&7u8, job, attempt, slot, bound, newer, out),
-            Event::JobDone {
-                job,
-                quiz,
-                position,
-            } => write_four(&8u8, job, quiz, position, out),
-        }
+#[tactic(auto, unfolding(crate::specs::Parts::event_field))]
+fn event_from(alloc: Global, rest: &mut &[u8]) -> Result<Event, RecordFault>
+    ensures { Gives event_field.read rest.old.now result rest.new.now }
+{
+    match number_at(rest)? {
+        0 => founded_from(alloc, rest),
+        1 => asked_from(alloc, rest),
+        2 => started_from(alloc, rest),
+        3 => acted_from(alloc, rest),
+        4 => noted_from(alloc, rest),
+        5 => ended_from(alloc, rest),
+        6 => rebound_from(alloc, rest),
+        7 => skipped_from(alloc, rest),
+        8 => jobdone_from(alloc, rest),
+        _ => Err(RecordFault::NotOne),
     }
 }
 
-impl Part for Record {
-    ghost field = { record_field };
-
-    ghost bytes = { spelling };
-
-    #[tactic(auto, unfolding(crate::specs::Parts::record_field))]
-    fn read_from(alloc: Global, rest: &mut &[u8]) -> Result<Record, RecordFault> {
-        Ok(Record {
-            moment: u64::read_from(alloc, rest)?,
-            caller: u32::read_from(alloc, rest)?,
-            owner: u32::read_from(alloc, rest)?,
-            key: Option::<Text>::read_from(alloc, rest)?,
-            terms: Option::<Terms>::read_from(alloc, rest)?,
-            event: Event::read_from(alloc, rest)?,
-        })
+#[tactic(auto, using(crate::proofs::Fitting::tagged_written), unfolding(crate::specs::Parts::event_field, crate::specs::Fields::u8_field))]
+fn write_event(event: &Event, out: &mut Vec<u8>) -> Result<(), NoMemory>
+    ensures appends { OnOk result (out.new.items ≡ out.old.items ++ event_bytes event.now) }
+    ensures fits { IfSome (asked_by event.now) (λ x. keeps_record x ≡ true)
+        → OnOk result (IsFit (event_bytes event.now) (event_field.fits event.now)) }
+{
+    match event {
+        Event::Founded { shards, token } => write_three(&0u8, shards, token, out),
+        Event::Asked { request } => {
+            out.push(1)?;
+            write_request(request, out)
+        }
+        Event::Started {
+            quiz,
+            nth,
+            behaviour,
+            bounds,
+            learned,
+        } => write_six(&2u8, quiz, nth, behaviour, bounds, learned, out),
+        Event::Acted {
+            attempt,
+            slot,
+            step,
+        } => write_four(&3u8, attempt, slot, step, out),
+        Event::Noted {
+            attempt,
+            slot,
+            step,
+        } => write_four(&4u8, attempt, slot, step, out),
+        Event::Ended { attempt, how } => write_three(&5u8, attempt, how, out),
+        Event::Rebound {
+            job,
+            attempt,
+            slot,
+            bound,
+            learned,
+        } => write_six(&6u8, job, attempt, slot, bound, learned, out),
+        Event::Skipped {
+            job,
+            attempt,
+            slot,
+            bound,
+            newer,
+        } => write_six(&7u8, job, attempt, slot, bound, newer, out),
+        Event::JobDone {
+            job,
+            quiz,
+            position,
+        } => write_four(&8u8, job, quiz, position, out),
     }
+}
 
-    fn write_to(&self, out: &mut Vec<u8>) -> Result<(), NoMemory> {
-        write_six(
-            &self.moment,
-            &self.caller,
-            &self.owner,
-            &self.key,
-            &self.terms,
-            &self.event,
-            out,
-        )
-    }
+#[tactic(auto, unfolding(crate::specs::Parts::record_field))]
+pub(crate) fn record_from(alloc: Global, rest: &mut &[u8]) -> Result<Record, RecordFault>
+    ensures { Gives record_field.read rest.old.now result rest.new.now }
+{
+    Ok(Record {
+        moment: u64::read_from(alloc, rest)?,
+        caller: u32::read_from(alloc, rest)?,
+        owner: u32::read_from(alloc, rest)?,
+        key: Option::<Text>::read_from(alloc, rest)?,
+        terms: Option::<Terms>::read_from(alloc, rest)?,
+        event: event_from(alloc, rest)?,
+    })
+}
+
+#[tactic(auto, using(crate::proofs::Fitting::both_written), unfolding(crate::specs::Parts::record_field))]
+pub(crate) fn write_record(record: &Record, out: &mut Vec<u8>) -> Result<(), NoMemory>
+    ensures appends { OnOk result (out.new.items ≡ out.old.items ++ spelling «record».now) }
+    ensures fits { IfSome (asked «record».now) (λ x. keeps_record x ≡ true)
+        → OnOk result (IsFit (spelling «record».now) (record_field.fits «record».now)) }
+{
+    write_five(
+        &record.moment,
+        &record.caller,
+        &record.owner,
+        &record.key,
+        &record.terms,
+        out,
+    )?;
+    write_event(&record.event, out)
 }

@@ -2,7 +2,7 @@
 
 ghost use Rattle.std.specs.Prelude.{◌≡◌, ◌++◌, OnOk};
 ghost use Rattle.qz_terms.specs.Spelling.{one_byte, two_bytes, four_bytes, eight_bytes, signed_bytes, wide_bytes, bool_bytes};
-ghost use Rattle.qz_record.specs.Fields.{Gives, u8_field, u16_field, u32_field, u64_field, i64_field, i128_field, bool_field};
+ghost use Rattle.qz_record.specs.Fields.{Gives, IsFit, u8_field, u16_field, u32_field, u64_field, i64_field, i128_field, bool_field};
 
 use crate::RecordFault;
 use crate::part::{Part, number_at};
@@ -20,6 +20,7 @@ impl Part for u8 {
         number_at(rest)
     }
 
+    #[tactic(auto, using(crate::proofs::Fitting::byte), unfolding(crate::specs::Fields::u8_field))]
     fn write_to(&self, out: &mut Vec<u8>) -> Result<(), NoMemory> {
         Ok(out.push(*self)?)
     }
@@ -37,6 +38,7 @@ impl Part for u16 {
         Ok(u16::from_le_bytes(*front))
     }
 
+    #[tactic(auto, using(crate::proofs::Fitting::two), unfolding(crate::specs::Fields::u16_field))]
     fn write_to(&self, out: &mut Vec<u8>) -> Result<(), NoMemory> {
         Ok(out.extend_from_slice(&self.to_le_bytes())?)
     }
@@ -54,6 +56,7 @@ impl Part for u32 {
         Ok(u32::from_le_bytes(*front))
     }
 
+    #[tactic(auto, using(crate::proofs::Fitting::four), unfolding(crate::specs::Fields::u32_field))]
     fn write_to(&self, out: &mut Vec<u8>) -> Result<(), NoMemory> {
         Ok(out.extend_from_slice(&self.to_le_bytes())?)
     }
@@ -71,6 +74,7 @@ impl Part for u64 {
         Ok(u64::from_le_bytes(*front))
     }
 
+    #[tactic(auto, using(crate::proofs::Fitting::eight), unfolding(crate::specs::Fields::u64_field))]
     fn write_to(&self, out: &mut Vec<u8>) -> Result<(), NoMemory> {
         Ok(out.extend_from_slice(&self.to_le_bytes())?)
     }
@@ -85,8 +89,10 @@ fn i64_from(rest: &mut &[u8]) -> Result<i64, RecordFault>
     Ok(i64::from_le_bytes(*front))
 }
 
+#[tactic(auto, using(crate::proofs::Fitting::signed_eight))]
 fn write_i64(number: i64, out: &mut Vec<u8>) -> Result<(), NoMemory>
-    ensures { OnOk result (out.new.items ≡ out.old.items ++ signed_bytes number) }
+    ensures appends { OnOk result (out.new.items ≡ out.old.items ++ signed_bytes number) }
+    ensures fits { OnOk result (IsFit (signed_bytes number) (i64_field.fits number)) }
 {
     Ok(out.extend_from_slice(&number.to_le_bytes())?)
 }
@@ -100,8 +106,10 @@ fn i128_from(rest: &mut &[u8]) -> Result<i128, RecordFault>
     Ok(i128::from_le_bytes(*front))
 }
 
+#[tactic(auto, using(crate::proofs::Fitting::signed_sixteen))]
 fn write_i128(number: i128, out: &mut Vec<u8>) -> Result<(), NoMemory>
-    ensures { OnOk result (out.new.items ≡ out.old.items ++ wide_bytes number) }
+    ensures appends { OnOk result (out.new.items ≡ out.old.items ++ wide_bytes number) }
+    ensures fits { OnOk result (IsFit (wide_bytes number) (i128_field.fits number)) }
 {
     Ok(out.extend_from_slice(&number.to_le_bytes())?)
 }
@@ -176,6 +184,7 @@ impl Part for bool {
         }
     }
 
+    #[tactic(auto, using(crate::proofs::Fitting::truth), unfolding(crate::specs::Fields::bool_field))]
     fn write_to(&self, out: &mut Vec<u8>) -> Result<(), NoMemory> {
         Ok(out.push(if *self { 1 } else { 0 })?)
     }

@@ -3,7 +3,7 @@
 ghost use Rattle.std.specs.Prelude.{◌≡◌, ℕ, List, ◌++◌, ◌∷◌, [], OnOk, MatchResult};
 ghost use Rattle.qz_terms.specs.Spelling.{four_bytes, option_bytes, list_bytes};
 ghost use Rattle.qz_record.specs.declared.fault.RecordFault.TheVariants.{NotOne};
-ghost use Rattle.qz_record.specs.Fields.{Field, Gives, list_field, many, option_field};
+ghost use Rattle.qz_record.specs.Fields.{Field, Gives, IsFit, list_field, many, option_field};
 
 use crate::RecordFault;
 use crate::writing::write_two;
@@ -24,7 +24,9 @@ pub(crate) trait Part: Sized {
 
     /// Puts its bytes behind `out`.
     fn write_to(&self, out: &mut Vec<u8>) -> Result<(), NoMemory>
-        ensures { OnOk result (out.new.items ≡ out.old.items ++ bytes self.now) };
+        ensures appends { OnOk result (out.new.items ≡ out.old.items ++ bytes self.now) }
+        // The Rust type keeps its numbers in their ranges.
+        ensures fits { OnOk result (IsFit (bytes self.now) (field.fits self.now)) };
 }
 
 /// The first byte, which `rest` then stands behind.
@@ -74,6 +76,7 @@ impl<T: Part + Drop> Part for Option<T> {
         }
     }
 
+    #[tactic(auto, using(crate::proofs::Fitting::one), unfolding(crate::specs::Fields::option_field, crate::specs::Fields::u8_field))]
     fn write_to(&self, out: &mut Vec<u8>) -> Result<(), NoMemory> {
         match self {
             None => Ok(out.push(0)?),

@@ -30,6 +30,7 @@ impl Part for Format {
         }
     }
 
+    #[tactic(auto, using(crate::proofs::Fitting::format_one), unfolding(crate::specs::Parts::format_field))]
     fn write_to(&self, out: &mut Vec<u8>) -> Result<(), NoMemory> {
         let number = match self {
             Format::Moodle => 0,
@@ -54,6 +55,7 @@ impl Part for Rich {
         })
     }
 
+    #[tactic(auto, unfolding(crate::specs::Parts::rich_field))]
     fn write_to(&self, out: &mut Vec<u8>) -> Result<(), NoMemory> {
         write_two(&self.format, &self.text, out)
     }
@@ -73,6 +75,7 @@ impl Part for Choice {
         })
     }
 
+    #[tactic(auto, unfolding(crate::specs::Parts::choice_field))]
     fn write_to(&self, out: &mut Vec<u8>) -> Result<(), NoMemory> {
         write_three(&self.weight, &self.text, &self.feedback, out)
     }
@@ -91,6 +94,7 @@ impl Part for Pair {
         })
     }
 
+    #[tactic(auto, unfolding(crate::specs::Parts::pair_field))]
     fn write_to(&self, out: &mut Vec<u8>) -> Result<(), NoMemory> {
         write_two(&self.stem, &self.answer, out)
     }
@@ -110,6 +114,7 @@ impl Part for Short {
         })
     }
 
+    #[tactic(auto, unfolding(crate::specs::Parts::short_field))]
     fn write_to(&self, out: &mut Vec<u8>) -> Result<(), NoMemory> {
         write_three(&self.weight, &self.pattern, &self.feedback, out)
     }
@@ -136,6 +141,7 @@ impl Part for Extent {
         }
     }
 
+    #[tactic(auto, using(crate::proofs::Fitting::one), unfolding(crate::specs::Parts::extent_field, crate::specs::Fields::u8_field))]
     fn write_to(&self, out: &mut Vec<u8>) -> Result<(), NoMemory> {
         match self {
             Extent::Any => Ok(out.push(0)?),
@@ -159,6 +165,7 @@ impl Part for Num {
         })
     }
 
+    #[tactic(auto, unfolding(crate::specs::Parts::num_field))]
     fn write_to(&self, out: &mut Vec<u8>) -> Result<(), NoMemory> {
         write_three(&self.weight, &self.extent, &self.feedback, out)
     }
@@ -188,6 +195,7 @@ impl Part for Kind {
         }
     }
 
+    #[tactic(auto, using(crate::proofs::Fitting::one), unfolding(crate::specs::Parts::kind_field, crate::specs::Fields::u8_field))]
     fn write_to(&self, out: &mut Vec<u8>) -> Result<(), NoMemory> {
         match self {
             Kind::Description => Ok(out.push(0)?),
@@ -223,6 +231,7 @@ impl Part for Question {
         })
     }
 
+    #[tactic(auto, unfolding(crate::specs::Parts::question_field))]
     fn write_to(&self, out: &mut Vec<u8>) -> Result<(), NoMemory> {
         write_six(
             &self.name,
@@ -249,6 +258,7 @@ impl Part for Item {
         })
     }
 
+    #[tactic(auto, unfolding(crate::specs::Parts::item_field))]
     fn write_to(&self, out: &mut Vec<u8>) -> Result<(), NoMemory> {
         write_two(&self.category, &self.question, out)
     }
@@ -266,6 +276,7 @@ impl Part for Bank {
         })
     }
 
+    #[tactic(auto, unfolding(crate::specs::Parts::bank_field))]
     fn write_to(&self, out: &mut Vec<u8>) -> Result<(), NoMemory> {
         self.items.write_to(out)
     }
@@ -285,6 +296,7 @@ impl Part for Shape {
         })
     }
 
+    #[tactic(auto, unfolding(crate::specs::Parts::shape_field))]
     fn write_to(&self, out: &mut Vec<u8>) -> Result<(), NoMemory> {
         write_three(&self.kind, &self.first, &self.second, out)
     }

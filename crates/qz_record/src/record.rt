@@ -1,25 +1,29 @@
 //! The bytes of a record, and the record that bytes spell.
 
-ghost use Rattle.std.specs.Prelude.{◌≡◌, [], IfOk, MatchResult};
+ghost use Rattle.std.specs.Prelude.{◌≡◌, ◌<◌, ◌^◌, true, [], length, IfOk, MatchResult};
 ghost use Rattle.qz_terms.specs.declared.record.Record.{Record};
+ghost use Rattle.qz_terms.specs.Kept.{IsKept};
 ghost use Rattle.qz_terms.specs.Spelling.{spelling};
 ghost use Rattle.qz_record.specs.declared.fault.RecordFault.TheVariants.{Memory, NotOne};
 ghost use Rattle.qz_record.specs.Parts.{record_field};
-ghost use Rattle.qz_record.specs.Records.{IsRecord};
+ghost use Rattle.qz_record.specs.Records.{IsRecord, is_spellable};
 
 use crate::RecordFault;
+use crate::events::{record_from, write_record};
 use crate::keeping::is_kept;
-use crate::part::Part;
 use qz_terms::Record;
 use qz_text::{Bytes, NoMemory};
 use std::alloc::Global;
 
 /// The bytes of a record. They grow in one piece, and no part is copied before.
 pub fn spell(alloc: Global, record: &Record) -> Result<Bytes, NoMemory>
-    ensures { IfOk result (λ bytes. bytes ≡ spelling «record».now) }
+    ensures spelled { IfOk result (λ bytes. bytes ≡ spelling «record».now) }
+    // A kept one has a spelling of its own, where its bytes are few enough to be counted in 32 bits.
+    ensures fits { IsKept «record».now
+        → IfOk result (λ bytes. length bytes < 2 ^ 32 → is_spellable «record».now ≡ true) }
 {
     let mut items = Vec::new(alloc);
-    record.write_to(&mut items)?;
+    write_record(record, &mut items)?;
     Ok(Bytes { items })
 }
 
@@ -29,7 +33,7 @@ fn whole(alloc: Global, payload: &[u8]) -> Result<Record, RecordFault>
         (λ e. e ≡ NotOne → (r : Record) → record_field.read payload.now ≡ Some (r, []) → ⊥) }
 {
     let mut rest = payload;
-    let record = Record::read_from(alloc, &mut rest)?;
+    let record = record_from(alloc, &mut rest)?;
     if !rest.is_empty() {
         return Err(RecordFault::NotOne);
     }

@@ -1,8 +1,9 @@
 //! The requests that the catalogue keeps.
 
-ghost use Rattle.std.specs.Prelude.{◌≡◌, ◌++◌, OnOk};
+ghost use Rattle.std.specs.Prelude.{◌≡◌, ◌++◌, true, OnOk};
+ghost use Rattle.qz_terms.specs.CatalogAnswer.{keeps_record};
 ghost use Rattle.qz_terms.specs.Spelling.{role_bytes, whom_bytes, request_bytes};
-ghost use Rattle.qz_record.specs.Fields.{Gives};
+ghost use Rattle.qz_record.specs.Fields.{Gives, IsFit};
 ghost use Rattle.qz_record.specs.Parts.{role_field, whom_field, user_request, group_request, member_request, import_request, edit_request, tune_request, quiz_request, slot_request, ready_request, remax_request, policy_request, times_request, override_request, regrade_request, request_field};
 
 use crate::RecordFault;
@@ -29,6 +30,7 @@ impl Part for Role {
         }
     }
 
+    #[tactic(auto, using(crate::proofs::Fitting::role_one), unfolding(crate::specs::Parts::role_field))]
     fn write_to(&self, out: &mut Vec<u8>) -> Result<(), NoMemory> {
         let number = match self {
             Role::Manager => 0,
@@ -53,6 +55,7 @@ impl Part for Whom {
         }
     }
 
+    #[tactic(auto, using(crate::proofs::Fitting::whom_one), unfolding(crate::specs::Parts::whom_field))]
     fn write_to(&self, out: &mut Vec<u8>) -> Result<(), NoMemory> {
         let number = match self {
             Whom::User => 0,
@@ -214,79 +217,81 @@ fn regrade_from(alloc: Global, rest: &mut &[u8]) -> Result<Request, RecordFault>
     })
 }
 
-impl Part for Request {
-    ghost field = { request_field };
-
-    ghost bytes = { request_bytes };
-
-    #[tactic(auto, unfolding(crate::specs::Parts::request_field))]
-    fn read_from(alloc: Global, rest: &mut &[u8]) -> Result<Request, RecordFault> {
-        match number_at(rest)? {
-            0 => user_from(alloc, rest),
-            1 => group_from(alloc, rest),
-            2 => member_from(alloc, rest),
-            3 => import_from(alloc, rest),
-            4 => edit_from(alloc, rest),
-            5 => tune_from(alloc, rest),
-            6 => quiz_from(alloc, rest),
-            7 => slot_from(alloc, rest),
-            8 => ready_from(alloc, rest),
-            9 => remax_from(alloc, rest),
-            10 => policy_from(alloc, rest),
-            11 => times_from(alloc, rest),
-            12 => override_from(alloc, rest),
-            13 => regrade_from(alloc, rest),
-            _ => Err(RecordFault::NotOne),
-        }
+#[tactic(auto, unfolding(crate::specs::Parts::request_field))]
+pub(crate) fn request_from(alloc: Global, rest: &mut &[u8]) -> Result<Request, RecordFault>
+    ensures { Gives request_field.read rest.old.now result rest.new.now }
+{
+    match number_at(rest)? {
+        0 => user_from(alloc, rest),
+        1 => group_from(alloc, rest),
+        2 => member_from(alloc, rest),
+        3 => import_from(alloc, rest),
+        4 => edit_from(alloc, rest),
+        5 => tune_from(alloc, rest),
+        6 => quiz_from(alloc, rest),
+        7 => slot_from(alloc, rest),
+        8 => ready_from(alloc, rest),
+        9 => remax_from(alloc, rest),
+        10 => policy_from(alloc, rest),
+        11 => times_from(alloc, rest),
+        12 => override_from(alloc, rest),
+        13 => regrade_from(alloc, rest),
+        _ => Err(RecordFault::NotOne),
     }
+}
 
-    fn write_to(&self, out: &mut Vec<u8>) -> Result<(), NoMemory> {
-        match self {
-            Request::User { name, role, token } => write_four(&0u8, name, role, token, out),
-            Request::Group { name } => write_two(&1u8, name, out),
-            Request::Member { group, user } => write_three(&2u8, group, user, out),
-            Request::Import { gift } => write_two(&3u8, gift, out),
-            Request::Edit { entry, gift } => write_three(&4u8, entry, gift, out),
-            Request::Tune {
-                entry,
-                penalty,
-                hints,
-            } => write_four(&5u8, entry, penalty, hints, out),
-            Request::Quiz { name, behaviour } => write_three(&6u8, name, behaviour, out),
-            Request::Slot { quiz, entry, max } => write_four(&7u8, quiz, entry, max, out),
-            Request::Ready { quiz } => write_two(&8u8, quiz, out),
-            Request::Remax { quiz, slot, max } => write_four(&9u8, quiz, slot, max, out),
-            Request::Policy {
-                quiz,
-                method,
-                grade,
-            } => write_four(&10u8, quiz, method, grade, out),
-            Request::Times {
-                quiz,
-                opens,
-                closes,
-                limit,
-                allowed,
-                handling,
-                grace,
-                review,
-            } => write_nine(
-                &11u8, quiz, opens, closes, limit, allowed, handling, grace, review, out,
-            ),
-            Request::Override {
-                quiz,
-                whom,
-                number,
-                opens,
-                closes,
-                limit,
-                allowed,
-            } => write_eight(
-                &12u8, quiz, whom, number, opens, closes, limit, allowed, out,
-            ),
-            Request::Regrade { quiz } => write_two(&13u8, quiz, out),
-            // no other stands in a record
-            _ => Ok(()),
-        }
+/// Puts the bytes of a request behind `out`: none of one that stands in no record.
+#[tactic(auto, unfolding(crate::specs::Parts::request_field, crate::specs::Fields::u8_field))]
+pub(crate) fn write_request(request: &Request, out: &mut Vec<u8>) -> Result<(), NoMemory>
+    ensures appends { OnOk result (out.new.items ≡ out.old.items ++ request_bytes «request».now) }
+    ensures fits { keeps_record «request».now ≡ true
+        → OnOk result (IsFit (request_bytes «request».now) (request_field.fits «request».now)) }
+{
+    match request {
+        Request::User { name, role, token } => write_four(&0u8, name, role, token, out),
+        Request::Group { name } => write_two(&1u8, name, out),
+        Request::Member { group, user } => write_three(&2u8, group, user, out),
+        Request::Import { gift } => write_two(&3u8, gift, out),
+        Request::Edit { entry, gift } => write_three(&4u8, entry, gift, out),
+        Request::Tune {
+            entry,
+            penalty,
+            hints,
+        } => write_four(&5u8, entry, penalty, hints, out),
+        Request::Quiz { name, behaviour } => write_three(&6u8, name, behaviour, out),
+        Request::Slot { quiz, entry, max } => write_four(&7u8, quiz, entry, max, out),
+        Request::Ready { quiz } => write_two(&8u8, quiz, out),
+        Request::Remax { quiz, slot, max } => write_four(&9u8, quiz, slot, max, out),
+        Request::Policy {
+            quiz,
+            method,
+            grade,
+        } => write_four(&10u8, quiz, method, grade, out),
+        Request::Times {
+            quiz,
+            opens,
+            closes,
+            limit,
+            allowed,
+            handling,
+            grace,
+            review,
+        } => write_nine(
+            &11u8, quiz, opens, closes, limit, allowed, handling, grace, review, out,
+        ),
+        Request::Override {
+            quiz,
+            whom,
+            number,
+            opens,
+            closes,
+            limit,
+            allowed,
+        } => write_eight(
+            &12u8, quiz, whom, number, opens, closes, limit, allowed, out,
+        ),
+        Request::Regrade { quiz } => write_two(&13u8, quiz, out),
+        // no other stands in a record
+        _ => Ok(()),
     }
 }

@@ -28,6 +28,7 @@ impl Part for Handling {
         }
     }
 
+    #[tactic(auto, using(crate::proofs::Fitting::handling_one), unfolding(crate::specs::Parts::handling_field))]
     fn write_to(&self, out: &mut Vec<u8>) -> Result<(), NoMemory> {
         let number = match self {
             Handling::AutoSubmit => 0,
@@ -53,6 +54,7 @@ impl Part for Review {
         }
     }
 
+    #[tactic(auto, using(crate::proofs::Fitting::review_one), unfolding(crate::specs::Parts::review_field))]
     fn write_to(&self, out: &mut Vec<u8>) -> Result<(), NoMemory> {
         let number = match self {
             Review::Always => 0,
@@ -79,6 +81,7 @@ impl Part for Method {
         }
     }
 
+    #[tactic(auto, using(crate::proofs::Fitting::method_one), unfolding(crate::specs::Parts::method_field))]
     fn write_to(&self, out: &mut Vec<u8>) -> Result<(), NoMemory> {
         let number = match self {
             Method::Highest => 0,
@@ -108,6 +111,7 @@ impl Part for Settings {
         })
     }
 
+    #[tactic(auto, unfolding(crate::specs::Parts::settings_field))]
     fn write_to(&self, out: &mut Vec<u8>) -> Result<(), NoMemory> {
         write_seven(
             &self.opens,
@@ -135,6 +139,7 @@ impl Part for Terms {
         })
     }
 
+    #[tactic(auto, unfolding(crate::specs::Parts::terms_field))]
     fn write_to(&self, out: &mut Vec<u8>) -> Result<(), NoMemory> {
         write_two(&self.at, &self.settings, out)
     }
@@ -155,6 +160,7 @@ impl Part for Bound {
         })
     }
 
+    #[tactic(auto, unfolding(crate::specs::Parts::bound_field))]
     fn write_to(&self, out: &mut Vec<u8>) -> Result<(), NoMemory> {
         write_four(&self.entry, &self.version, &self.max, &self.at, out)
     }
@@ -174,6 +180,7 @@ impl Part for Learned {
         })
     }
 
+    #[tactic(auto, unfolding(crate::specs::Parts::learned_field))]
     fn write_to(&self, out: &mut Vec<u8>) -> Result<(), NoMemory> {
         write_three(&self.entry, &self.version, &self.question, out)
     }

@@ -29,6 +29,7 @@ impl Part for Answer {
         }
     }
 
+    #[tactic(auto, using(crate::proofs::Fitting::one), unfolding(crate::specs::Parts::answer_field, crate::specs::Fields::u8_field))]
     fn write_to(&self, out: &mut Vec<u8>) -> Result<(), NoMemory> {
         match self {
             Answer::Blank => Ok(out.push(0)?),
@@ -53,6 +54,7 @@ impl Part for Response {
         })
     }
 
+    #[tactic(auto, unfolding(crate::specs::Parts::response_field))]
     fn write_to(&self, out: &mut Vec<u8>) -> Result<(), NoMemory> {
         write_two(&self.answer, &self.certainty, out)
     }
@@ -78,6 +80,7 @@ impl Part for Step {
         }
     }
 
+    #[tactic(auto, using(crate::proofs::Fitting::one), unfolding(crate::specs::Parts::step_field, crate::specs::Fields::u8_field))]
     fn write_to(&self, out: &mut Vec<u8>) -> Result<(), NoMemory> {
         match self {
             Step::Save(response) => write_two(&0u8, response, out),
@@ -110,6 +113,7 @@ impl Part for Behaviour {
         }
     }
 
+    #[tactic(auto, using(crate::proofs::Fitting::behaviour_one), unfolding(crate::specs::Parts::behaviour_field))]
     fn write_to(&self, out: &mut Vec<u8>) -> Result<(), NoMemory> {
         let number = match self {
             Behaviour::Deferred => 0,
@@ -139,6 +143,7 @@ impl Part for AttemptId {
         })
     }
 
+    #[tactic(auto, unfolding(crate::specs::Parts::attempt_field))]
     fn write_to(&self, out: &mut Vec<u8>) -> Result<(), NoMemory> {
         write_two(&self.user, &self.nth, out)
     }

@@ -4,7 +4,7 @@ ghost use Rattle.std.specs.Prelude.{◌≡◌, ◌++◌, true, false, OnOk, Matc
 ghost use Rattle.std.specs.Str.{is_utf8};
 ghost use Rattle.qz_terms.specs.Spelling.{text_bytes};
 ghost use Rattle.qz_record.specs.declared.fault.RecordFault.TheVariants.{NotOne};
-ghost use Rattle.qz_record.specs.Fields.{Gives, text_field};
+ghost use Rattle.qz_record.specs.Fields.{Gives, IsFit, text_field};
 
 use crate::RecordFault;
 use crate::part::{Part, write_len};
@@ -35,11 +35,12 @@ fn text_from<'a>(alloc: Global, rest: &mut &'a [u8]) -> Result<&'a str, RecordFa
     as_text(front)
 }
 
-fn write_text(text: &[u8], out: &mut Vec<u8>) -> Result<(), NoMemory>
-    ensures { OnOk result (out.new.items ≡ out.old.items ++ text_bytes text.now) }
+fn write_text(text: &str, out: &mut Vec<u8>) -> Result<(), NoMemory>
+    ensures appends { OnOk result (out.new.items ≡ out.old.items ++ text_bytes text.now) }
+    ensures fits { OnOk result (IsFit (text_bytes text.now) (text_field.fits text.now)) }
 {
     write_len(text.len(), out)?;
-    Ok(out.extend_from_slice(text)?)
+    Ok(out.extend_from_slice(text.as_bytes())?)
 }
 
 impl Part for Text {
@@ -53,7 +54,7 @@ impl Part for Text {
     }
 
     fn write_to(&self, out: &mut Vec<u8>) -> Result<(), NoMemory> {
-        write_text(self.as_bytes(), out)
+        write_text(self.as_str(), out)
     }
 }
 
@@ -68,7 +69,7 @@ impl Part for Typed {
     }
 
     fn write_to(&self, out: &mut Vec<u8>) -> Result<(), NoMemory> {
-        write_text(self.text().as_bytes(), out)
+        write_text(self.text().as_str(), out)
     }
 }
 
@@ -83,6 +84,6 @@ impl Part for Pattern {
     }
 
     fn write_to(&self, out: &mut Vec<u8>) -> Result<(), NoMemory> {
-        write_text(self.text().as_bytes(), out)
+        write_text(self.text().as_str(), out)
     }
 }

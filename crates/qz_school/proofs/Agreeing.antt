@@ -69,7 +69,7 @@ job-within-by c n j (Some x) is told =
     omega arith
 
 -- the position of a job lies within the catalogue
-job-within : (c : List Record) (n : ℕ) (j : Job) → catalog.job c n ≡ Some j → j.position ≤ length c
+pub job-within : (c : List Record) (n : ℕ) (j : Job) → catalog.job c n ≡ Some j → j.position ≤ length c
 job-within c n j told = job-within-by c n j (at_place (catalog.jobs c) n) refl told
 
 rebind-longer : (c rest l : List Record) (n : ℕ) (a : AttemptId) (k : ℕ) (b : Bound) (learned : List Learned) → RebindAgrees c l n a k b learned → RebindAgrees (c ++ rest) l n a k b learned

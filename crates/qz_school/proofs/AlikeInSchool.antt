@@ -26,7 +26,7 @@ use Rattle.qz_school.proofs.Longer.{version-stays}
 -- ---- what was learned is the catalogue's
 
 -- so many records of the catalogue, and those behind them
-front-stays : (c : List Record) (n e v : ℕ) (q : Question) → catalog.version (take n c) e v ≡ Some q → catalog.version c e v ≡ Some q
+pub front-stays : (c : List Record) (n e v : ℕ) (q : Question) → catalog.version (take n c) e v ≡ Some q → catalog.version c e v ≡ Some q
 front-stays c n e v q is = ap (λ (d : List Record). catalog.version d e v) (sym (take-append-drop n c)) ∙ version-stays (take n c) (drop n c) e v q is
 
 learned-step : (c : List Record) (e v : ℕ) (q : Question) (l : Learned) (ls : List Learned) (b : Bool) → ((l.entry == e) && (l.version == v)) ≡ b → catalog.version c l.entry l.version ≡ Some l.question
@@ -50,7 +50,7 @@ event-agrees c l r (event.Started quiz nth behaviour bounds learned) e v q agree
 event-agrees c l r (event.Rebound job a k bound learned) e v q agrees found = front-stays c bound.at e v q (learned-agrees (take bound.at c) e v q learned agrees.learns found)
 event-agrees c l r d e v q agrees found = absurd cc
 
-version-agrees : (c h : List Record) (e v : ℕ) (q : Question) → AllAgree c h → history.version h e v ≡ Some q → catalog.version c e v ≡ Some q
+pub version-agrees : (c h : List Record) (e v : ℕ) (q : Question) → AllAgree c h → history.version h e v ≡ Some q → catalog.version c e v ≡ Some q
 version-agrees c h e v q agree found =
     let t = first_told_in (history.learns e v) h q found in
     event-agrees c t.front t.item t.item.event e v q (agree.each t.front t.item t.rest t.stands).event t.tells

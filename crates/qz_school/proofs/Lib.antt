@@ -9,3 +9,15 @@ pub mod Same
 pub mod Repeating
 pub mod Leaning
 pub mod AlikeInSchool
+pub mod Floors
+pub mod Settled
+pub mod Standing
+pub mod Desk
+pub mod Planning
+pub mod Solos
+pub mod Reporting
+pub mod WorkingSolo
+pub mod MarkLemmas
+pub mod Following
+pub mod Seeing
+pub mod Working

@@ -59,6 +59,9 @@ planned-by c q u plan (Some named) is told =
 planned-so : (c : List Record) (q u : ℕ) (plan : Plan) → catalog.plan c q u ≡ Some plan → IsPlanned c q plan
 planned-so c q u plan told = planned-by c q u plan (at_place (catalog.quizzes c) q) refl told
 
+pub planned-at : (c : List Record) (q u : ℕ) (plan : Plan) → catalog.plan c q u ≡ Some plan → plan.at ≡ length c
+planned-at c q u plan told = (planned-so c q u plan told).at
+
 pub planned-quiz : (c : List Record) (q u : ℕ) (plan : Plan) → catalog.plan c q u ≡ Some plan → plan.quiz ≡ q
 planned-quiz c q u plan told = (planned-so c q u plan told).quiz
 

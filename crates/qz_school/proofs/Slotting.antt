@@ -84,7 +84,7 @@ latest-by c e (Some i) is there = rw (is, one-or-more (length (changes c e))) re
 latest-there : (c : List Record) (e : ℕ) → missing_entry c e ≡ None → is_some (version c e (latest c e)) ≡ true
 latest-there c e there = latest-by c e (at_place (entries c) e) refl there
 
-abbrev has_version : List Record → Planned → Bool
+abbrev pub has_version : List Record → Planned → Bool
 has_version c s = is_some (version c s.entry s.version)
 
 entry-kept : (o : Option Refusal) → is_none o ≡ true → o ≡ None

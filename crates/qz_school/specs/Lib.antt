@@ -1,3 +1,8 @@
 pub mod Agreement
 pub mod Repeating
 pub mod Alike
+pub mod Asked
+pub mod Solo
+pub mod Reports
+pub mod Marks
+pub mod Working

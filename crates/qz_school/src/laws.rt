@@ -3,6 +3,7 @@
 ghost use Rattle.qz_school.specs.Agreement.{AttemptsAreKnown, GoesOnAgreeing, NeedsNoQuestions, StaysThere, UsersHaveTokens};
 ghost use Rattle.qz_school.specs.Alike.{AlikeInASchool};
 ghost use Rattle.qz_school.specs.Repeating.{CatalogActsOnce};
+ghost use Rattle.qz_school.specs.Working.{GoesOnWorking};
 
 /// What stands in a catalogue stands there whatever comes behind it: users, groups, entries, versions, quizzes, slots, jobs, and that a
 /// quiz is ready. A request that names nothing that is missing goes on naming nothing that is missing.
@@ -20,6 +21,12 @@ pub fn users_have_tokens()
 /// the plan of its catalogue agrees too.
 pub fn goes_on_agreeing()
     ensures { GoesOnAgreeing }
+{}
+
+/// A job that the catalogue has can be worked in a shard that agrees, and what its steps put agrees too; and no plan over the whole
+/// catalogue is older than a job that is done in such a shard.
+pub fn goes_on_working()
+    ensures { GoesOnWorking }
 {}
 
 /// An attempt of a shard that agrees with a catalogue has its quiz and its user there.

@@ -1,4 +1,3 @@
-pub mod HistoryLemmas
 pub mod DecisionLemmas
 pub mod Legality
 pub mod Orders
@@ -11,7 +10,6 @@ pub mod Allowing
 pub mod Making
 pub mod StepLemmas
 pub mod GradeLemmas
-pub mod Takers
 pub mod LookLemmas
 pub mod PageLemmas
 pub mod Again
@@ -21,3 +19,5 @@ pub mod Placing
 pub mod Following
 pub mod TargetLemmas
 pub mod WorkLemmas
+pub mod PutLemmas
+pub mod Counting

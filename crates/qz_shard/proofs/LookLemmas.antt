@@ -1,4 +1,4 @@
--- What a look is answered, and how many steps of a slot are a student's.
+-- What a look is answered.
 use Rattle.std.proofs.Common.{◌≡◌, ℕ, suc, Bool, true, false, List, [], ◌∷◌, Option, Some, None, append-nil, refl, sym, ap, option_map}
 use Rattle.std.specs.Prelude.{filter_map, is_none, unwrap_or}
 use Rattle.qz_grading.specs.declared.refusal.AttemptId.{AttemptId}
@@ -17,7 +17,6 @@ use Rattle.qz_terms.specs.History.{step_in}
 use Rattle.qz_terms.specs.Lists.{how_many}
 use Rattle.qz_shard.specs.Answering.{IsAnswered}
 use Rattle.qz_shard.specs.Holdings.{is_look}
-use Rattle.qz_shard.specs.Readings.{answers_in}
 
 -- ---- the answer
 
@@ -50,21 +49,3 @@ look-answered h now user plan ask look keyed allowed there =
     let p = plain h (moment_of h now user ask.request) user plan ask.request look in
     let key : ask.key ≡ None = none-is ask.key (rw p.keyless at keyed) in
     record { reply = rw (allowed, there, key, p.causeless, p.makes) refl; list = rw (allowed, there, key, p.causeless, p.makes) (sym (append-nil h)) }
-
--- ---- how many steps are a student's
-
--- an item that tells nothing fails the test of what is told
-abbrev tells : {A B : Type 0} → (A → Option B) → (B → Bool) → A → Bool
-tells f p x = unwrap_or (option_map p (f x)) false
-
-tells-more : {A B : Type 0} (f : A → Option B) (p : B → Bool) (x : A) (xs : List A) (o : Option B) (b : Bool) → f x ≡ o → unwrap_or (option_map p o) false ≡ b → how_many (tells f p) xs ≡ how_many p (filter_map f xs) → how_many (tells f p) (x ∷ xs) ≡ how_many p (filter_map f (x ∷ xs))
-tells-more f p x xs None b is by rest = rw is rest
-tells-more f p x xs (Some y) true is by rest = rw (is, by) (ap suc rest)
-tells-more f p x xs (Some y) false is by rest = rw (is, by) rest
-
-how_many-told : {A B : Type 0} (f : A → Option B) (p : B → Bool) (xs : List A) → how_many (tells f p) xs ≡ how_many p (filter_map f xs)
-how_many-told f p [] = refl
-how_many-told f p (x ∷ xs) = tells-more f p x xs (f x) (tells f p x) refl refl (how_many-told f p xs)
-
-pub answers_counted : (h : List Record) (a : AttemptId) (k : ℕ) → how_many (answers_in a k) h ≡ answering_steps h a k
-answers_counted h a k = how_many-told (step_in a k) is_answering h

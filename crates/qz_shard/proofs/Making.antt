@@ -232,22 +232,6 @@ held-push index count h r held next room = record {
   few = let long = length-append h (r ∷ []) in omega arith;
 }
 
-sound-parts : (index count : ℕ) (l rest : List Record) → IsHeld index count (l ++ rest) → All IsKept l → IsHeld index count l
-sound-parts index count l rest held kept = record {
-  shard = held.shard;
-  legal = legal-before index count l rest held.legal;
-  kept = kept;
-  asked = and-left (list_all is_asked l) (list_all is_asked rest) (sym (list_all-append is_asked l rest) ∙ held.asked);
-  few = let few : length (l ++ rest) < 2 ^ 32 - 1 = held.few in let long = length-append l rest in omega arith;
-}
-
-pub sound-before : (index count : ℕ) (h : List Record) (n : ℕ) → IsHeld index count h → IsSound (take n h)
-sound-before index count h n held = record {
-  index = index;
-  count = count;
-  held = sound-parts index count (take n h) (drop n h) (subst (IsHeld index count) (sym (take-append-drop n h)) held) (All-take IsKept n h held.kept);
-}
-
 -- ---- the answer by the verdict
 
 pub answer-denied : (h : List Record) (now : ℕ) (user : User) (plan : Plan) (ask : Ask) (r : Refusal) → verdict_here h (moment_of h now user ask.request) user plan ask ≡ Denied r → (answer_here h now user plan ask ≡ reply.Refused r) × (list_after h now user plan ask ≡ h)
@@ -280,29 +264,11 @@ pub if_ok-more : {A E : Type 0} (r : Result A E) (P Q : A → Type 0) → ((x : 
 if_ok-more (Ok x) P Q more p = more x p
 if_ok-more (Err e) P Q more p = tt
 
-pub repeated-sound : (index count : ℕ) (g h : List Record) (n : ℕ) → g ≡ h → IsHeld index count h → IsSound (take n g)
-repeated-sound index count g h n same held = subst (λ (t : List Record). IsSound (take n t)) (sym same) (sound-before index count h n held)
-
-pub repeated-kept : (index count : ℕ) (g h : List Record) (n : ℕ) (r : Record) (v : Verdict) → g ≡ h → IsHeld index count h → r ≡ get_or g n r → IsRepeated g n v → IsKept r
-repeated-kept index count g h n r v same held is repeated =
-    let kept : All IsKept g = subst (All IsKept) (sym same) held.kept in
-    subst IsKept (sym is) (kept n r (slice_get_within g n repeated.0 repeated.1))
-
-pub repeated-asked : (index count : ℕ) (g h : List Record) (n : ℕ) (r : Record) (v : Verdict) → g ≡ h → IsHeld index count h → r ≡ get_or g n r → IsRepeated g n v → is_asked r ≡ true
-repeated-asked index count g h n r v same held is repeated =
-    let item : r ≡ repeated.0 = is ∙ get_or_from_slice_get g n repeated.0 r repeated.1 in
-    ap is_asked item ∙ all-at is_asked g n repeated.0 (ap (list_all is_asked) same ∙ held.asked) repeated.1
-
-repeated-answer-here : (h : List Record) (now : ℕ) (user : User) (plan : Plan) (ask : Ask) (n : ℕ) (r : Record) (told : Reply) → IsRepeated h n (verdict_here h (moment_of h now user ask.request) user plan ask) → r ≡ get_or h n r → told ≡ said (take (n + 1) h) r → IsAnswered h now user plan ask told h
-repeated-answer-here h now user plan ask n r told repeated is says =
-    let item : r ≡ repeated.0 = is ∙ get_or_from_slice_get h n repeated.0 r repeated.1 in
-    let answer = answer-repeated h now user plan ask (take (n + 1) h) repeated.0 repeated.2 in
-    record { reply = says ∙ ap (said (take (n + 1) h)) item ∙ sym answer.0; list = sym answer.1 }
-
-pub repeated-answer : (g h : List Record) (now moment : ℕ) (user : User) (plan : Plan) (ask : Ask) (n : ℕ) (r : Record) (told : Reply) → g ≡ h → moment ≡ moment_of g now user ask.request → IsRepeated g n (verdict_here g moment user plan ask) → r ≡ get_or g n r → told ≡ said (take (n + 1) g) r → IsAnswered h now user plan ask told h
-repeated-answer g h now moment user plan ask n r told same at repeated is says =
-    subst (λ (t : List Record). IsAnswered t now user plan ask told t) same
-    (repeated-answer-here g now user plan ask n r told (subst (λ (m : ℕ). IsRepeated g n (verdict_here g m user plan ask)) at repeated) is says)
+pub repeated-answer : (h : List Record) (now moment : ℕ) (user : User) (plan : Plan) (ask : Ask) (told : Reply) → moment ≡ moment_of h now user ask.request → IsRepeated told (verdict_here h moment user plan ask) → IsAnswered h now user plan ask told h
+repeated-answer h now moment user plan ask told at repeated =
+    let here : IsRepeated told (verdict_here h (moment_of h now user ask.request) user plan ask) = subst (λ (m : ℕ). IsRepeated told (verdict_here h m user plan ask)) at repeated in
+    let answer = answer-repeated h now user plan ask here.list here.own here.verdict in
+    record { reply = here.says ∙ sym answer.0; list = sym answer.1 }
 
 idle-answer-here : (h : List Record) (now : ℕ) (user : User) (plan : Plan) (ask : Ask) (told : Reply) → is_change ask.request ≡ true → IsDecision h (moment_of h now user ask.request) user plan ask decision.Idle → told ≡ reply.Ok (history.place h (named_user user ask.request)) done.Idle → IsAnswered h now user plan ask told h
 idle-answer-here h now user plan ask told change idle says =
@@ -340,22 +306,6 @@ decided-next s g now moment user plan ask e made held posed same at d is =
     let there : IsDecision s.records (moment_of s.records now user ask.request) user plan ask (decision.Made e) = subst (λ (m : ℕ). IsDecision s.records m user plan ask (decision.Made e)) at_here here in
     let made_is : made ≡ record_under (moment_of s.records now user ask.request) user (named_user user ask.request) ask.key plan e = is ∙ ap (λ (m : ℕ). record_under m user (named_user user ask.request) ask.key plan e) at_here in
     subst (IsNext s.index s.count s.records) (sym made_is) (decided-next-here s now user plan ask e held posed there)
-
--- the list is held behind a record that is put, or as it was
-pub put-held : {E : Type 0} (index count : ℕ) (told : Result Reply E) (old new : List Record) (r : Record) → IfOk told (λ reply. IsPutWith old new r reply) → OnErr told (new ≡ old) → IsHeld index count old → IsNext index count old r → IsHeld index count new
-put-held index count (Ok reply) old new r put same held next = put.held index count held next
-put-held index count (Err e) old new r put same held next = subst (IsHeld index count) (sym same) held
-
-put-here : (h g : List Record) (r : Record) (reply : Reply) → length h + 1 < 2 ^ 32 - 1 → reply ≡ said (h ++ r ∷ []) r → g ≡ h ++ r ∷ [] → IsPutWith h g r reply
-put-here h g r reply room says put = record { said_so = says; put = put; held = λ i c held next. subst (IsHeld i c) (sym put) (held-push i c h r held next room) }
-
-put-so : {E : Type 0} (told : Result Reply E) (h g : List Record) (made r : Record) → made ≡ r → length h + 1 < 2 ^ 32 - 1 → IfOk told (λ reply. reply ≡ said (h ++ made ∷ []) made) → OnOk told (g ≡ h ++ made ∷ []) → IfOk told (λ reply. IsPutWith h g r reply)
-put-so (Ok reply) h g made r same room says put = subst (λ (x : Record). IsPutWith h g x reply) same (put-here h g made reply room says put)
-put-so (Err e) h g made r same room says put = tt
-
-pub put-with : {E : Type 0} (told : Result Reply E) (h l g : List Record) (made r : Record) → l ≡ h → made ≡ r → length h + 1 < 2 ^ 32 - 1 → IfOk told (λ reply. reply ≡ said (l ++ made ∷ []) made) → OnOk told (g ≡ l ++ made ∷ []) → IfOk told (λ reply. IsPutWith h g r reply)
-put-with told h l g made r list same room says put =
-    put-so told h g made r same room (subst (λ (t : List Record). IfOk told (λ reply. reply ≡ said (t ++ made ∷ []) made)) list says) (subst (λ (t : List Record). OnOk told (g ≡ t ++ made ∷ [])) list put)
 
 granted-answer-here : (h new : List Record) (now : ℕ) (user : User) (plan : Plan) (ask : Ask) (e : Event) (told : Reply) → IsDecision h (moment_of h now user ask.request) user plan ask (decision.Made e) → IsPutWith h new (record_by (moment_of h now user ask.request) user plan ask e) told → IsAnswered h now user plan ask told new
 granted-answer-here h new now user plan ask e told made put =

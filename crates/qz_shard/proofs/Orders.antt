@@ -1,4 +1,4 @@
--- Attempts in order of user and number, and the first of them that passes.
+-- Attempts in order of user and number.
 use Rattle.std.proofs.Common.{◌≡◌, ◌<◌, ◌⊎◌, inl, inr, eqb, ltb, Bool, true, false, ◌&&◌, ◌||◌, List, [], ◌∷◌, ◌++◌, Option, Some, None, refl, sym, ap, append-nil, ◌∙◌, arith, eq-eqb}
 use Rattle.std.specs.Prelude.{filter, option_to_list, if◌then◌else◌, nat_lt, ◌==◌}
 use Rattle.std.proofs.Math.Bool.{and-false, and-true}
@@ -6,7 +6,6 @@ use Rattle.std.proofs.lemmas.Bool.{eqb-true, eqb-false, lt-ltb, ltb-true, ltb-fa
 use Rattle.qz_grading.specs.declared.refusal.AttemptId.{AttemptId}
 use Rattle.qz_terms.specs.Lists.{first_of, in_order, placed}
 use Rattle.qz_terms.specs.History.{attempt_before}
-use Rattle.qz_shard.specs.Lives.{comes_first, sooner}
 
 -- ---- the order
 
@@ -100,11 +99,6 @@ unfolding Before Rising
 rising-placed x [] rising = (tt, tt)
 rising-placed x (y ∷ ys) rising = rising-placed-by x y ys (attempt_before x y) (attempt_before y x) refl refl rising (rising-placed x ys rising.1)
 
-in_order-rises : (xs : List AttemptId) → Rising (in_order attempt_before xs)
-unfolding Rising
-in_order-rises [] = tt
-in_order-rises (x ∷ xs) = rising-placed x (in_order attempt_before xs) (in_order-rises xs)
-
 placed-first : (x : AttemptId) (xs : List AttemptId) → Before x xs → placed attempt_before x xs ≡ x ∷ xs
 unfolding Before
 placed-first x [] b = refl
@@ -114,103 +108,3 @@ pub in_order-rising : (xs : List AttemptId) → Rising xs → in_order attempt_b
 unfolding Rising
 in_order-rising [] r = refl
 in_order-rising (x ∷ xs) r = ap (placed attempt_before x) (in_order-rising xs r.1) ∙ placed-first x xs r.0
-
--- ---- the first that passes
-
--- of a list in order
-abbrev first_passing : (AttemptId → Bool) → List AttemptId → Option AttemptId
-first_passing p xs = first_of (filter p xs)
-
-comes_first-by : (p : AttemptId → Bool) (x y : AttemptId) (ys : List AttemptId) (b : Bool) → p y ≡ b → attempt_before x y ≡ true → comes_first x (first_passing p ys) ≡ true → comes_first x (first_passing p (y ∷ ys)) ≡ true
-comes_first-by p x y ys true is first rest = rw is first
-comes_first-by p x y ys false is first rest = rw is rest
-
-comes_first-all : (p : AttemptId → Bool) (x : AttemptId) (ys : List AttemptId) → Before x ys → comes_first x (first_passing p ys) ≡ true
-unfolding Before
-comes_first-all p x [] b = refl
-comes_first-all p x (y ∷ ys) b = comes_first-by p x y ys (p y) refl b.0 (comes_first-all p x ys b.1)
-
-first-ahead : (p : AttemptId → Bool) (x : AttemptId) (ys : List AttemptId) (b : Bool) → p x ≡ b → comes_first x (first_passing p ys) ≡ true → first_passing p (x ∷ ys) ≡ sooner p (first_passing p ys) (Some x)
-first-ahead p x ys true is first = rw (is, first) refl
-first-ahead p x ys false is first = rw (is, first) refl
-
-first-behind : (p : AttemptId → Bool) (x y : AttemptId) (ys zs : List AttemptId) (b : Bool) → p y ≡ b → attempt_before x y ≡ false → first_passing p zs ≡ sooner p (first_passing p ys) (Some x) → first_passing p (y ∷ zs) ≡ sooner p (first_passing p (y ∷ ys)) (Some x)
-first-behind p x y ys zs true is later rest = rw (is, later) refl
-first-behind p x y ys zs false is later rest = rw is rest
-
-first-again : (p : AttemptId → Bool) (x y : AttemptId) (ys : List AttemptId) (b : Bool) → p y ≡ b → x ≡ y → attempt_before x y ≡ false → first_passing p (y ∷ ys) ≡ sooner p (first_passing p (y ∷ ys)) (Some x)
-first-again p x y ys true is same later = rw (is, later) refl
-first-again p x y ys false is same later = let none : p x ≡ false = ap p same ∙ is in rw (is, none, and-false (comes_first x (first_passing p ys))) refl
-
-first-placed-by : (p : AttemptId → Bool) (x y : AttemptId) (ys : List AttemptId) (b c : Bool) → attempt_before x y ≡ b → attempt_before y x ≡ c → Rising (y ∷ ys)
-    → first_passing p (placed attempt_before x ys) ≡ sooner p (first_passing p ys) (Some x) → first_passing p (placed attempt_before x (y ∷ ys)) ≡ sooner p (first_passing p (y ∷ ys)) (Some x)
-unfolding Before Rising
-first-placed-by p x y ys true c is also rising rest = rw is (first-ahead p x (y ∷ ys) (p x) refl (comes_first-all p x (y ∷ ys) (is, before-all x y ys is rising.0)))
-first-placed-by p x y ys false true is also rising rest = rw (is, also) (first-behind p x y ys (placed attempt_before x ys) (p y) refl is rest)
-first-placed-by p x y ys false false is also rising rest = rw (is, also) (first-again p x y ys (p y) refl (one x y is also) is)
-
-first-placed : (p : AttemptId → Bool) (x : AttemptId) (ys : List AttemptId) → Rising ys → first_passing p (placed attempt_before x ys) ≡ sooner p (first_passing p ys) (Some x)
-unfolding Rising
-first-placed p x [] rising = first-ahead p x [] (p x) refl refl
-first-placed p x (y ∷ ys) rising = first-placed-by p x y ys (attempt_before x y) (attempt_before y x) refl refl rising (first-placed p x ys rising.1)
-
--- ---- one more at the end
-
--- the first of what is found so far and one that passes
-nearer : Option AttemptId → AttemptId → Option AttemptId
-nearer found x = if comes_first x found then Some x else found
-
-not-nearer : (x y : AttemptId) (o : Option AttemptId) (b : Bool) → attempt_before y x ≡ b → comes_first x o ≡ true → comes_first y o ≡ false → attempt_before y x ≡ false
-not-nearer x y o false is first second = is
-not-nearer x y None true is first second = absurd cc
-not-nearer x y (Some z) true is first second = let nearest = before-after y x z is first in absurd cc
-
--- it is all one which of two is found first
-either : (x y : AttemptId) (b c : Bool) → attempt_before x y ≡ b → attempt_before y x ≡ c → nearer (Some x) y ≡ nearer (Some y) x
-unfolding nearer
-either x y true true is also = absurd (never-both x y is also)
-either x y true false is also = rw (is, also) refl
-either x y false true is also = rw (is, also) refl
-either x y false false is also = rw (is, also, one x y is also) refl
-
-swap-nearer : (x y : AttemptId) (o : Option AttemptId) (b c : Bool) → comes_first x o ≡ b → comes_first y o ≡ c → nearer (nearer o x) y ≡ nearer (nearer o y) x
-unfolding nearer
-swap-nearer x y o true true is also = rw (is, also) (either x y (attempt_before x y) (attempt_before y x) refl refl)
-swap-nearer x y o true false is also = simp (is, also, not-nearer x y o (attempt_before y x) refl is also) refl
-swap-nearer x y o false true is also = simp (is, also, not-nearer y x o (attempt_before x y) refl also is) refl
-swap-nearer x y o false false is also = simp (is, also) refl
-
-sooner-by : (p : AttemptId → Bool) (x : AttemptId) (b : Bool) → p x ≡ b → (o : Option AttemptId) → sooner p o (Some x) ≡ (if b then nearer o x else o)
-unfolding nearer
-sooner-by p x true is o = rw (is, and-true (comes_first x o)) refl
-sooner-by p x false is o = rw (is, and-false (comes_first x o)) refl
-
-swap-by : (p : AttemptId → Bool) (x y : AttemptId) (o : Option AttemptId) (b c : Bool) → p x ≡ b → p y ≡ c → sooner p (sooner p o (Some x)) (Some y) ≡ sooner p (sooner p o (Some y)) (Some x)
-swap-by p x y o true true is also =
-    let near_x = sooner-by p x true is in
-    let near_y = sooner-by p y true also in
-    near_y _ ∙ ap (λ (q : Option AttemptId). nearer q y) (near_x o) ∙ swap-nearer x y o (comes_first x o) (comes_first y o) refl refl ∙ sym (near_x _ ∙ ap (λ (q : Option AttemptId). nearer q x) (near_y o))
-swap-by p x y o b false is also =
-    let none = sooner-by p y false also in
-    none (sooner p o (Some x)) ∙ sym (ap (λ (q : Option AttemptId). sooner p q (Some x)) (none o))
-swap-by p x y o false c is also =
-    let none = sooner-by p x false is in
-    ap (λ (q : Option AttemptId). sooner p q (Some y)) (none o) ∙ sym (none (sooner p o (Some y)))
-
-swap : (p : AttemptId → Bool) (x y : AttemptId) (o : Option AttemptId) → sooner p (sooner p o (Some x)) (Some y) ≡ sooner p (sooner p o (Some y)) (Some x)
-swap p x y o = swap-by p x y o (p x) (p y) refl refl
-
--- the first of a list in order, of one more that is met
-first-more : (p : AttemptId → Bool) (x : AttemptId) (xs : List AttemptId) → first_passing p (in_order attempt_before (x ∷ xs)) ≡ sooner p (first_passing p (in_order attempt_before xs)) (Some x)
-first-more p x xs = first-placed p x (in_order attempt_before xs) (in_order-rises xs)
-
-first-push : (p : AttemptId → Bool) (xs : List AttemptId) (y : AttemptId) → first_passing p (in_order attempt_before (xs ++ y ∷ [])) ≡ sooner p (first_passing p (in_order attempt_before xs)) (Some y)
-first-push p [] y = first-more p y []
-first-push p (x ∷ xs) y =
-    first-more p x (xs ++ y ∷ []) ∙ ap (λ (o : Option AttemptId). sooner p o (Some x)) (first-push p xs y)
-    ∙ swap p y x (first_passing p (in_order attempt_before xs))
-    ∙ sym (ap (λ (o : Option AttemptId). sooner p o (Some y)) (first-more p x xs))
-
-pub first-told : (p : AttemptId → Bool) (xs : List AttemptId) (o : Option AttemptId) → first_of (filter p (in_order attempt_before (xs ++ option_to_list o))) ≡ sooner p (first_of (filter p (in_order attempt_before xs))) o
-first-told p xs None = ap (λ (ys : List AttemptId). first_passing p (in_order attempt_before ys)) (append-nil xs)
-first-told p xs (Some y) = first-push p xs y

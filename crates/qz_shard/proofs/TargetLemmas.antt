@@ -1,7 +1,7 @@
 -- The first slot that a job has left, found attempt by attempt, and what is known of it.
 use Rattle.std.proofs.Common.{◌≡◌, ℕ, ◌+◌, Bool, true, false, not, ◌&&◌, List, [], ◌∷◌, ◌++◌, Option, Some, None, append-nil, map, refl, sym, ap, subst, ◌∙◌, option_map, eq-eqb, All}
 use Rattle.std.specs.Option.{option_or}
-use Rattle.std.specs.Prelude.{◌==◌, filter, filter_map, flat_map, if◌then◌else◌, is_some, nat_lt, option_and_then, option_to_list, unwrap_or}
+use Rattle.std.specs.Prelude.{◌==◌, filter, filter_map, flat_map, if◌then◌else◌, is_some, nat_lt, option_and_then, option_to_list, unwrap_or, find}
 use Rattle.std.proofs.lemmas.Bool.{eqb-true, not-true}
 use Rattle.std.proofs.lemmas.List.Elements.{All-cons, All-head, All-nil, All-push, All-tail, All-weaker}
 use Rattle.qz_grading.specs.declared.question.Question.{Question}
@@ -75,6 +75,18 @@ first-flat h job position (a ∷ xs) = first-flat-step h job position a xs (filt
 -- the attempts of the job's quiz, in order
 abbrev pub attempts_of : List Record → Job → List AttemptId
 attempts_of h job = in_order attempt_before (filter_map (attempt_at job.plan.quiz) h)
+
+find-by : {A : Type 0} (p : A → Bool) (x : A) (xs : List A) (b : Bool) → p x ≡ b → find p xs ≡ first_of (filter p xs) → find p (x ∷ xs) ≡ first_of (filter p (x ∷ xs))
+find-by p x xs true is rest = rw is refl
+find-by p x xs false is rest = rw is rest
+
+find-first : {A : Type 0} (p : A → Bool) (xs : List A) → find p xs ≡ first_of (filter p xs)
+find-first p [] = refl
+find-first p (x ∷ xs) = find-by p x xs (p x) refl (find-first p xs)
+
+-- what is found among the attempts of the job's quiz
+pub found-in : (h : List Record) (job : Job) (xs : List AttemptId) (o : Option AttemptId) → o ≡ find (has_left h job.number job.position) xs → xs ≡ attempts_of h job → o ≡ first_of (filter (has_left h job.number job.position) (attempts_of h job))
+found-in h job xs o is all = is ∙ find-first (has_left h job.number job.position) xs ∙ ap (λ (ys : List AttemptId). first_of (filter (has_left h job.number job.position) ys)) all
 
 pub target-by : (h : List Record) (job : Job) (o : Option AttemptId) → o ≡ first_of (filter (has_left h job.number job.position) (attempts_of h job)) → first_target h job ≡ option_and_then (first_of_attempt h job.number job.position) o
 target-by h job o is = first-flat h job.number job.position (attempts_of h job) ∙ ap (option_and_then (first_of_attempt h job.number job.position)) (sym is)

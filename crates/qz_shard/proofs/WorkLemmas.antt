@@ -26,13 +26,13 @@ use Rattle.qz_terms.specs.Kept.{is_planned}
 use Rattle.qz_terms.specs.Legal.{is_here}
 use Rattle.qz_terms.specs.Lists.{first_of, up_to_first}
 use Rattle.qz_terms.specs.History.{is_done, is_done_in, learns, question, targets, time, version}
-use Rattle.qz_terms.proofs.Walks.{IsFirstAt, first_of-push, found_nowhere, found_up_to}
+use Rattle.qz_terms.proofs.Walks.{first_of-push}
+use Rattle.qz_index.specs.Jobs.{done_in}
 use Rattle.qz_shard.specs.declared.working.Work.TheVariants as work
 use Rattle.qz_shard.specs.Holdings.{IsHeld, IsWorkable}
 use Rattle.qz_shard.specs.Nexts.{IsNext, IsPutWith}
 use Rattle.qz_shard.specs.Works.{IsWork, IsWorked}
 use Rattle.qz_shard.proofs.Allowing.{time-again}
-use Rattle.qz_shard.proofs.HistoryLemmas.{there-by}
 use Rattle.qz_shard.proofs.Keeping.{all-at, start-here}
 use Rattle.qz_shard.proofs.Learning.{learns-new}
 use Rattle.qz_shard.proofs.Making.{learned-kept, time-kept}
@@ -41,23 +41,19 @@ use Rattle.qz_shard.proofs.TargetLemmas.{IsLeft, left}
 
 -- ---- whether a job is done
 
-any-first-step : {A : Type 0} (p : A → Bool) (x : A) (xs : List A) (b : Bool) → p x ≡ b → list_any p xs ≡ is_some (first_of (filter p xs)) → list_any p (x ∷ xs) ≡ is_some (first_of (filter p (x ∷ xs)))
-any-first-step p x xs true is rest = rw is refl
-any-first-step p x xs false is rest = rw is rest
+done-by : (b : Bool) (n place : ℕ) → Some place ≡ (if b then Some n else None) → (b ≡ true) × (place ≡ n)
+done-by true n place told = (refl, cc)
+done-by false n place told = absurd cc
 
-any-first : {A : Type 0} (p : A → Bool) (xs : List A) → list_any p xs ≡ is_some (first_of (filter p xs))
-any-first p [] = refl
-any-first p (x ∷ xs) = any-first-step p x xs (p x) refl (any-first p xs)
+undone-by : (b : Bool) (n : ℕ) → let o : Option ℕ = if b then Some n else None in None ≡ o → b ≡ false
+undone-by true n told = absurd cc
+undone-by false n told = refl
 
-pub undone : (h : List Record) (job : ℕ) → position (is_done_in job) h ≡ None → is_done h job ≡ false
-undone h job none = any-first (is_done_in job) h ∙ ap is_some (found_nowhere (is_done_in job) h none)
+pub undone : (h : List Record) (job : ℕ) → None ≡ done_in h job → is_done h job ≡ false
+undone h job told = undone-by (is_done h job) (done_place h job) told
 
-pub done-there : (h : List Record) (now caller : ℕ) (job : Job) (n : ℕ) → position (is_done_in job.number) h ≡ Some n → IsWork h now caller job (work.AlreadyDone (n + 1))
-done-there h now caller job n found =
-    let at : IsFirstAt (is_done_in job.number) h n = found_up_to (is_done_in job.number) h n found in
-    let inside = at.inside in
-    let long : length (up_to_first (is_done_in job.number) h) ≡ n + 1 = ap (λ (l : List Record). length l) at.up_to ∙ length-take-le (n + 1) h (omega arith) in
-    (any-first (is_done_in job.number) h ∙ ap is_some at.item ∙ there-by h n (slice_get h n) refl inside, sym long)
+pub done-there : (h : List Record) (now caller : ℕ) (job : Job) (place : ℕ) → Some place ≡ done_in h job.number → IsWork h now caller job (work.AlreadyDone place)
+done-there h now caller job place told = done-by (is_done h job.number) (done_place h job.number) place told
 
 pub put-work : (h : List Record) (now caller : ℕ) (job : Job) (r : Record) → is_done h job.number ≡ false → Some r ≡ put_target h now caller job (first_target h job) → IsWork h now caller job (work.Put r)
 put-work h now caller job r still is = (still, rw still (sym is))

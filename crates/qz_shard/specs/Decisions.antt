@@ -1,5 +1,5 @@
 -- What the parts of a shard that decide a request promise each other.
-use Rattle.std.specs.Prelude.{◌≡◌, ℕ, ◌+◌, List, take, length, slice_get, Option, Some, None, option_map, Result, MatchResult}
+use Rattle.std.specs.Prelude.{◌≡◌, ℕ, List, length, Option, Some, None, option_map, Result, MatchResult}
 use Rattle.qz_grading.specs.declared.refusal.Refusal.TheVariants as refusal
 use Rattle.qz_grading.specs.declared.refusal.Refusal.{Refusal}
 use Rattle.qz_terms.specs.declared.ask.Ask.{Ask}
@@ -7,9 +7,10 @@ use Rattle.qz_terms.specs.declared.people.User.{User}
 use Rattle.qz_terms.specs.declared.plan.Plan.{Plan}
 use Rattle.qz_terms.specs.declared.record.Event.{Event}
 use Rattle.qz_terms.specs.declared.record.Record.{Record}
+use Rattle.qz_terms.specs.declared.reply.Reply.{Reply}
 use Rattle.qz_terms.specs.declared.request.Request.{Request}
 use Rattle.qz_terms.specs.declared.request.Request.TheVariants as request
-use Rattle.qz_terms.specs.Answer.{event_here, named_user}
+use Rattle.qz_terms.specs.Answer.{event_here, named_user, said}
 use Rattle.qz_terms.specs.Cause.{Verdict, Denied, Granted, Repeated, cause_here, verdict_here}
 use Rattle.qz_shard.specs.Holdings.{IsHeld}
 use Rattle.qz_shard.specs.declared.decision.Decision.{Decision}
@@ -23,15 +24,18 @@ pub record IsSound (h : List Record) : Type 0 where
   pub count : ℕ
   pub held : IsHeld index count h
 
--- a record at this place, from 0, is answered again
-abbrev pub IsRepeated : List Record → ℕ → Verdict → Type 0
-IsRepeated h n v = (r : Record) × (slice_get h n ≡ Some r) × (v ≡ Repeated (take (n + 1) h) r)
+-- what was said of a record is told again
+pub record IsRepeated (told : Reply) (v : Verdict) : Type 0 where
+  pub list : List Record
+  pub own : Record
+  pub verdict : v ≡ Repeated list own
+  pub says : told ≡ said list own
 
 -- what stands under a key gives this verdict, if any
-abbrev pub IsFound : List Record → Option Found → Option Verdict → Type 0
-IsFound h None v = v ≡ None
-IsFound h (Some (found.Same n)) v = (w : Verdict) × (v ≡ Some w) × IsRepeated h n w
-IsFound h (Some (found.Other place)) v = v ≡ Some (Denied (refusal.KeyReused place))
+abbrev pub IsFound : Option Found → Option Verdict → Type 0
+IsFound None v = v ≡ None
+IsFound (Some (found.Same told)) v = (w : Verdict) × ((v ≡ Some w) × IsRepeated told w)
+IsFound (Some (found.Other place)) v = v ≡ Some (Denied (refusal.KeyReused place))
 
 -- the event that a request makes of its user's list, where it makes one, or the first cause behind the key
 abbrev pub IsFate : List Record → ℕ → User → Plan → Request → Result (Option Event) Refusal → Type 0
@@ -47,6 +51,6 @@ IsWhole plan x = Unit {0}
 -- what is done with a request, by its verdict
 abbrev pub IsDecision : List Record → ℕ → User → Plan → Ask → Decision → Type 0
 IsDecision h moment user plan ask (decision.Refused r) = verdict_here h moment user plan ask ≡ Denied r
-IsDecision h moment user plan ask (decision.Repeated n) = IsRepeated h n (verdict_here h moment user plan ask)
+IsDecision h moment user plan ask (decision.Repeated told) = IsRepeated told (verdict_here h moment user plan ask)
 IsDecision h moment user plan ask decision.Idle = (verdict_here h moment user plan ask ≡ Granted) × (event_here h moment user plan ask.request ≡ None)
 IsDecision h moment user plan ask (decision.Made e) = (verdict_here h moment user plan ask ≡ Granted) × (event_here h moment user plan ask.request ≡ Some (named_user user ask.request, e))

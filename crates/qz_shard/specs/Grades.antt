@@ -1,12 +1,11 @@
 -- The finished attempts of a user at a quiz, from which a grade is made, and the grades of all users at it.
 use Rattle.std.specs.List.{AllPairs}
-use Rattle.std.specs.Prelude.{◌≡◌, ℕ, ◌<◌, ℤ, nat_lt, true, List, Option, All}
+use Rattle.std.specs.Prelude.{◌≡◌, ℕ, ◌<◌, ℤ, true, List, Option, All}
 use Rattle.qz_gradebook.specs.declared.finished.Finished.{Finished}
 use Rattle.qz_grading.specs.declared.refusal.AttemptId.{AttemptId}
 use Rattle.qz_terms.specs.declared.grades.Policy.{Policy}
 use Rattle.qz_terms.specs.declared.record.Record.{Record}
 use Rattle.qz_terms.specs.History.{attempt_before, row, total}
-use Rattle.qz_terms.specs.Lists.{placed}
 
 -- an attempt of a quiz, with its total
 abbrev pub finished_at : List Record → ℕ → AttemptId → Finished
@@ -20,12 +19,3 @@ pub record AreNumbered (attempts : List AttemptId) : Type 0 where
 -- a user with the grade at a quiz, which is none where no total is taken
 abbrev pub graded : List Record → ℕ → Policy → ℕ → ℕ × Option ℤ
 graded h q policy u = (u, row h q policy u)
-
--- users in order of number, each once
-abbrev pub AreRising : List ℕ → Type 0
-AreRising users = AllPairs (λ u v. nat_lt u v ≡ true) users
-
--- a user was put among these, and they are in order
-pub record IsUserPut (user : ℕ) (old new : List ℕ) : Type 0 where
-  pub placed_so : new ≡ placed nat_lt user old
-  pub order : AreRising new

@@ -2,10 +2,10 @@ pub mod Readings
 pub mod Holdings
 pub mod Decisions
 pub mod Plays
-pub mod Replays
+pub mod Books
+pub mod Gradings
 pub mod Nexts
 pub mod Answering
 pub mod Grades
 pub mod Works
 pub mod Pages
-pub mod Lives

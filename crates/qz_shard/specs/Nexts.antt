@@ -1,5 +1,5 @@
 -- A record that may be put next, and a list that it was put into.
-use Rattle.std.specs.Prelude.{◌≡◌, ℕ, true, List, [], ◌∷◌, ◌++◌}
+use Rattle.std.specs.Prelude.{◌≡◌, ℕ, ◌+◌, ◌-◌, ◌<◌, ◌^◌, true, List, [], ◌∷◌, ◌++◌, length}
 use Rattle.qz_terms.specs.declared.ask.Ask.{Ask}
 use Rattle.qz_terms.specs.declared.people.User.{User}
 use Rattle.qz_terms.specs.declared.plan.Plan.{Plan}
@@ -27,8 +27,12 @@ pub record CanGrow (h : List Record) (r : Record) : Type 0 where
 abbrev pub record_by : ℕ → User → Plan → Ask → Event → Record
 record_by moment user plan ask e = record_under moment user (named_user user ask.request) ask.key plan e
 
--- the record stands at the end, and this is said of it
+-- the record stands at the end
+pub record IsPut (h g : List Record) (r : Record) : Type 0 where
+  pub put : g ≡ h ++ r ∷ []
+  pub few : length h + 1 < 2 ^ 32 - 1
+
+-- and this is said of it
 pub record IsPutWith (h g : List Record) (r : Record) (told : Reply) : Type 0 where
   pub said_so : told ≡ said (h ++ r ∷ []) r
   pub put : g ≡ h ++ r ∷ []
-  pub held : (index count : ℕ) → IsHeld index count h → IsNext index count h r → IsHeld index count g

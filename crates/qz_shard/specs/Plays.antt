@@ -1,7 +1,6 @@
--- What a slot that is played again promises.
-use Rattle.std.specs.Prelude.{◌≡◌, ℕ, List, map, zip, filter_map, Option, Some, None, Result, MatchResult}
+-- What a slot that is played promises.
+use Rattle.std.specs.Prelude.{◌≡◌, ℕ, List, Option, Some, None, Result, MatchResult}
 use Rattle.qz_grading.specs.declared.outcome.Moved.{Moved}
-use Rattle.qz_grading.specs.declared.question.Question.{Question}
 use Rattle.qz_grading.specs.declared.refusal.AttemptId.{AttemptId}
 use Rattle.qz_grading.specs.declared.refusal.Refusal.{Refusal}
 use Rattle.qz_grading.specs.declared.response.Step.{Step}
@@ -13,27 +12,15 @@ use Rattle.qz_terms.specs.declared.record.Event.{Event}
 use Rattle.qz_terms.specs.declared.record.Record.{Record}
 use Rattle.qz_terms.specs.Answer.{stepped_by}
 use Rattle.qz_terms.specs.Cause.{answering_cause}
-use Rattle.qz_terms.specs.History.{Slot, slot}
-use Rattle.qz_terms.specs.History as history
-use Rattle.qz_terms.specs.Lists.{places_to}
-use Rattle.qz_usage.specs.Runs.{Run, IsBound, behaviour_of}
-use Rattle.qz_usage.specs.Usages.{AreBound, scored}
-use Rattle.qz_shard.specs.declared.slots.Played.{Played}
-
--- the slot that a run plays
-abbrev pub slot_of : Run → Question → Slot
-slot_of r q = record { behaviour = behaviour_of r; bound = r.bound; question = q; steps = r.steps }
+use Rattle.qz_terms.specs.History.{Slot}
+use Rattle.qz_usage.specs.Runs.{IsBound}
+use Rattle.qz_lives.specs.Attempts.{slot_of}
+use Rattle.qz_shard.specs.declared.book.Played.{Played}
 
 -- a slot of a list and its run
 abbrev pub IsSlot : Option Played → Option Slot → Type 0
 IsSlot None s = s ≡ None
-IsSlot (Some p) s = (s ≡ Some (slot_of p.run p.question.now)) × IsBound p.run p.question.now
-
--- the runs of an attempt's first slots, which count as these slots do
-pub record ArePlayed (h : List Record) (a : AttemptId) (n : ℕ) (runs : List Run) : Type 0 where
-  pub questions : List Question
-  pub bound : AreBound runs questions
-  pub count : map scored (zip runs questions) ≡ map history.scored (filter_map (slot h a) (places_to n))
+IsSlot (Some p) s = (s ≡ Some (slot_of p.run.now p.question.now)) × IsBound p.run.now p.question.now
 
 -- a step is taken on a slot, or refused for its first cause
 abbrev pub IsMove : Slot → Step → Result Moved Refusal → Type 0

@@ -1,28 +1,29 @@
 //! What is done with a request: it is refused, it is answered again, or it makes an event.
 
 ghost use Rattle.std.specs.Prelude.{◌≡◌, length, true, option_map, unwrap_or, Some, None, IfOk};
-ghost use Rattle.qz_grading.specs.Steps.{is_answering};
+ghost use Rattle.qz_index.specs.Keys.{AreKeys};
 ghost use Rattle.qz_terms.specs.Answer.{named_user};
 ghost use Rattle.qz_terms.specs.Cause.{missing_here};
 ghost use Rattle.qz_terms.specs.declared.request.Request.TheVariants as request;
 ghost use Rattle.qz_shard.specs.Decisions.{IsSound, IsFate, IsDecision, IsWhole};
 ghost use Rattle.qz_shard.specs.Holdings.{is_change};
 
+use crate::book::Book;
 use crate::fates::{Fate, fate_of_finish, fate_of_settle, fate_of_start};
 use crate::keys::{Found, by_key};
 use crate::missing::missing_here;
 use crate::stepping::{fate_of_mark, fate_of_step};
-use qz_grading::{Answer, Refusal, Response, Step, Steps};
-use qz_terms::{Ask, Event, Plan, Record, Request, User, forbidden};
+use qz_grading::{Answer, Refusal, Response, Step};
+use qz_index::Keys;
+use qz_terms::{Ask, Event, Plan, Reply, Request, User, forbidden};
 use qz_text::{NoMemory, TryCopy};
 use std::alloc::Global;
-use std::sync::ledger::Ledger;
 
 /// What is done with a request.
 pub(crate) enum Decision {
     Refused(Refusal),
-    /// It is answered as the record at this place, from 0, was.
-    Repeated(usize),
+    /// It stands already, and gets the reply that it got.
+    Repeated(Reply),
     /// There is nothing to do.
     Idle,
     /// It makes an event.
@@ -40,23 +41,22 @@ fn response_of(alloc: Global, answer: &Answer, certainty: u8) -> Result<Response
 }
 
 /// What a request that may change the list comes to, behind the tests of its key.
-fn fate<L: Ledger>(
+fn fate(
     alloc: Global,
-    records: &[Record],
+    book: &Book,
     moment: u64,
     user: &User,
     plan: &Plan,
     request: &Request,
-    steps: &mut Steps<L>,
 ) -> Result<Fate, NoMemory>
-    requires sound { IsSound records.now }
+    requires sound { IsSound book.now }
     requires whole { IsWhole plan.now request.now }
     requires change { is_change request.now ≡ true }
-    requires there { missing_here records.now user.now request.now ≡ None }
-    ensures { IfOk result (IsFate records.now moment user.now plan.now request.now) }
+    requires there { missing_here book.now user.now request.now ≡ None }
+    ensures { IfOk result (IsFate book.now moment user.now plan.now request.now) }
 {
     match request {
-        Request::Start { quiz } => fate_of_start(alloc, records, moment, user, plan, *quiz),
+        Request::Start { quiz } => fate_of_start(alloc, book, moment, user, plan, *quiz),
         Request::Save {
             attempt,
             slot,
@@ -64,9 +64,7 @@ fn fate<L: Ledger>(
             response,
         } => {
             let step = Step::Save(response_of(alloc, response, *certainty)?);
-            fate_of_step(
-                alloc, records, moment, user, plan, *attempt, *slot, step, steps,
-            )
+            Ok(fate_of_step(book, moment, user, plan, *attempt, *slot, step))
         }
         Request::Submit {
             attempt,
@@ -75,30 +73,19 @@ fn fate<L: Ledger>(
             response,
         } => {
             let step = Step::Submit(response_of(alloc, response, *certainty)?);
-            fate_of_step(
-                alloc, records, moment, user, plan, *attempt, *slot, step, steps,
-            )
+            Ok(fate_of_step(book, moment, user, plan, *attempt, *slot, step))
         }
-        Request::Again { attempt, slot } => fate_of_step(
-            alloc,
-            records,
-            moment,
-            user,
-            plan,
-            *attempt,
-            *slot,
-            Step::Again,
-            steps,
-        ),
-        Request::Finish { attempt } => { Ok(fate_of_finish(records, moment, user, plan, *attempt)) }
+        Request::Again { attempt, slot } => {
+            let step = Step::Again;
+            Ok(fate_of_step(book, moment, user, plan, *attempt, *slot, step))
+        }
+        Request::Finish { attempt } => { Ok(fate_of_finish(book, moment, user, plan, *attempt)) }
         Request::Mark {
             attempt,
             slot,
             mark,
-        } => fate_of_mark(
-            alloc, records, moment, user, plan, *attempt, *slot, *mark, steps,
-        ),
-        Request::Settle { attempt } => { Ok(fate_of_settle(records, moment, user, plan, *attempt)) }
+        } => { Ok(fate_of_mark(book, moment, user, plan, *attempt, *slot, *mark)) }
+        Request::Settle { attempt } => { Ok(fate_of_settle(book, moment, user, plan, *attempt)) }
         Request::User { .. }
         | Request::Group { .. }
         | Request::Member { .. }
@@ -127,32 +114,33 @@ fn fate<L: Ledger>(
 
 /// What is done with a request. The causes for which it may be refused are tested in their order: the rule of callers, what isn't
 /// there, the key, and what lies with the attempt.
-pub(crate) fn decide<L: Ledger>(
+pub(crate) fn decide(
     alloc: Global,
-    records: &[Record],
+    book: &Book,
+    keys: &Keys,
     moment: u64,
     user: &User,
     plan: &Plan,
     ask: &Ask,
-    steps: &mut Steps<L>,
 ) -> Result<Decision, NoMemory>
-    requires sound { IsSound records.now }
+    requires sound { IsSound book.now }
+    requires keys { AreKeys keys.now book.now }
     requires whole { IsWhole plan.now ask.now.request }
     requires change { is_change ask.now.request ≡ true }
-    ensures { IfOk result (IsDecision records.now moment user.now plan.now ask.now) }
+    ensures { IfOk result (IsDecision book.now moment user.now plan.now ask.now) }
 {
     if let Some(refusal) = forbidden(user, &ask.request) {
         return Ok(Decision::Refused(refusal));
     }
-    if let Some(refusal) = missing_here(records, user, &ask.request) {
+    if let Some(refusal) = missing_here(book, user, &ask.request) {
         return Ok(Decision::Refused(refusal));
     }
-    match by_key(records, user.number, ask) {
-        Some(Found::Same(at)) => return Ok(Decision::Repeated(at)),
+    match by_key(alloc, book, keys, user.number, ask)? {
+        Some(Found::Same(reply)) => return Ok(Decision::Repeated(reply)),
         Some(Found::Other(place)) => return Ok(Decision::Refused(Refusal::KeyReused { place })),
         None => {}
     }
-    match fate(alloc, records, moment, user, plan, &ask.request, steps)? {
+    match fate(alloc, book, moment, user, plan, &ask.request)? {
         Ok(Some(event)) => Ok(Decision::Made(event)),
         Ok(None) => Ok(Decision::Idle),
         Err(refusal) => Ok(Decision::Refused(refusal)),

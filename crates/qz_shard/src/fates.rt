@@ -7,12 +7,12 @@ ghost use Rattle.qz_terms.specs.History.{ended_at};
 ghost use Rattle.qz_terms.specs.declared.request.Request.TheVariants as request;
 ghost use Rattle.qz_shard.specs.Decisions.{IsSound, IsFate};
 
-use crate::attempts::{attempts, is_overdue, unfinished};
-use crate::history::{ended_at, start};
+use crate::attempts::{is_overdue, unfinished};
+use crate::book::Book;
 use crate::starting::started;
 use qz_access::{may_finish, may_start};
 use qz_grading::{AttemptId, Refusal};
-use qz_terms::{Event, Handling, How, Plan, Record, Settings, User};
+use qz_terms::{Event, Handling, How, Plan, Settings, User};
 use qz_text::NoMemory;
 use std::alloc::Global;
 
@@ -25,18 +25,18 @@ const MOST_ATTEMPTS: u32 = 1_000;
 /// What a start comes to.
 pub(crate) fn fate_of_start(
     alloc: Global,
-    records: &[Record],
+    book: &Book,
     moment: u64,
     user: &User,
     plan: &Plan,
     quiz: u32,
 ) -> Result<Fate, NoMemory>
-    requires sound { IsSound records.now }
+    requires sound { IsSound book.now }
     requires whole { length plan.now.questions ≡ length plan.now.slots }
-    ensures { IfOk result (IsFate records.now moment user.now plan.now (request.Start quiz)) }
+    ensures { IfOk result (IsFate book.now moment user.now plan.now (request.Start quiz)) }
 {
-    let made = attempts(alloc, records, quiz, user.number)?;
-    let goes_on = unfinished(records, &plan.settings, moment, &made);
+    let made = book.attempts(quiz, user.number);
+    let goes_on = unfinished(book, &plan.settings, moment, made);
     let count = made.len() as u64;
     if let Err(refusal) = may_start(&plan.settings, plan.ready, moment, count, goes_on) {
         return Ok(Err(refusal));
@@ -46,36 +46,31 @@ pub(crate) fn fate_of_start(
             limit: MOST_ATTEMPTS,
         }));
     }
-    Ok(Ok(Some(started(alloc, records, user, plan)?)))
+    Ok(Ok(Some(started(alloc, book, user, plan)?)))
 }
 
 /// The first cause that lies with time for which a finish is refused.
-fn finish_time(
-    records: &[Record],
-    settings: &Settings,
-    moment: u64,
-    attempt: AttemptId,
-) -> Option<Refusal>
-    requires sound { IsSound records.now }
-    ensures { result ≡ time_cause (λ began. finish_cause settings.now began moment (ended_at records.now attempt)) records.now attempt }
+fn finish_time(book: &Book, settings: &Settings, moment: u64, attempt: AttemptId) -> Option<Refusal>
+    requires sound { IsSound book.now }
+    ensures { result ≡ time_cause (λ began. finish_cause settings.now began moment (ended_at book.now attempt)) book.now attempt }
 {
-    let begun = start(records, attempt)?;
-    let ended = ended_at(records, attempt);
+    let begun = book.begun(attempt)?;
+    let ended = book.ended_at(attempt);
     may_finish(settings, begun.moment, moment, ended).err()
 }
 
 /// What a finish comes to.
 pub(crate) fn fate_of_finish(
-    records: &[Record],
+    book: &Book,
     moment: u64,
     user: &User,
     plan: &Plan,
     attempt: AttemptId,
 ) -> Fate
-    requires sound { IsSound records.now }
-    ensures { IsFate records.now moment user.now plan.now (request.Finish attempt) result }
+    requires sound { IsSound book.now }
+    ensures { IsFate book.now moment user.now plan.now (request.Finish attempt) result }
 {
-    match finish_time(records, &plan.settings, moment, attempt) {
+    match finish_time(book, &plan.settings, moment, attempt) {
         Some(refusal) => Err(refusal),
         None => Ok(Some(Event::Ended {
             attempt,
@@ -96,16 +91,16 @@ fn settled_by(handling: Handling) -> How
 
 /// What a settling comes to: an attempt that goes on and is expired ends, and any other stays as it is.
 pub(crate) fn fate_of_settle(
-    records: &[Record],
+    book: &Book,
     moment: u64,
     user: &User,
     plan: &Plan,
     attempt: AttemptId,
 ) -> Fate
-    requires sound { IsSound records.now }
-    ensures { IsFate records.now moment user.now plan.now (request.Settle attempt) result }
+    requires sound { IsSound book.now }
+    ensures { IsFate book.now moment user.now plan.now (request.Settle attempt) result }
 {
-    if !is_overdue(records, moment, plan, attempt) {
+    if !is_overdue(book, moment, plan, attempt) {
         return Ok(None);
     }
     Ok(Some(Event::Ended {

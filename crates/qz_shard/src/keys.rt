@@ -1,29 +1,31 @@
 //! Requests that are asked again: a key stands in the list with the request that it was first given to.
 
-ghost use Rattle.std.specs.Prelude.{◌≡◌, ◌+◌, take, option_and_then};
-ghost use Rattle.qz_terms.specs.Cause.{by_key, said_at, same_slot, same_step, spells};
+ghost use Rattle.std.specs.Prelude.{◌≡◌, IfOk};
+ghost use Rattle.qz_index.specs.Keys.{AreKeys};
+ghost use Rattle.qz_terms.specs.Cause.{by_key, same_slot, same_step, spells};
+ghost use Rattle.qz_terms.specs.History.{same_attempt};
 ghost use Rattle.qz_shard.specs.Decisions.{IsFound};
 
-use crate::history::{is_same, place};
+use crate::book::Book;
 use qz_grading::{AttemptId, Step, same_answer};
-use qz_terms::{Ask, Event, Record, Request, place_of};
+use qz_index::Keys;
+use qz_terms::{Ask, Event, Record, Reply, Request};
+use qz_text::{NoMemory, TryCopy};
+use std::alloc::Global;
 
 /// What stands under a request's key.
 pub(crate) enum Found {
-    /// The same request, at this place in the list, from 0.
-    Same(usize),
+    /// The same request, which got this reply.
+    Same(Reply),
     /// Another one, whose reply had this place.
     Other(u64),
 }
 
-/// The place that the reply for a record carries, over the list that ends with it.
-pub(crate) fn said_at(records: &[Record], record: &Record) -> u64
-    ensures { result ≡ said_at records.now «record».now }
+/// Whether two attempts are one.
+fn is_same(one: AttemptId, other: AttemptId) -> bool
+    ensures { result ≡ same_attempt one other }
 {
-    match &record.event {
-        Event::Founded { .. } | Event::Asked { .. } | Event::JobDone { .. } => records.len() as u64,
-        _ => place(records, record.owner),
-    }
+    one.user == other.user && one.nth == other.nth
 }
 
 /// Whether a request is about this slot.
@@ -108,18 +110,28 @@ fn spells(request: &Request, record: &Record) -> bool
 }
 
 /// What stands under the key of a request, if it has one and it stands there.
-pub(crate) fn by_key(records: &[Record], caller: u32, ask: &Ask) -> Option<Found>
-    ensures { IsFound records.now result (by_key (spells ask.now.request) caller ask.now.key records.now) }
+pub(crate) fn by_key(
+    alloc: Global,
+    book: &Book,
+    keys: &Keys,
+    caller: u32,
+    ask: &Ask,
+) -> Result<Option<Found>, NoMemory>
+    requires { AreKeys keys.now book.now }
+    ensures { IfOk result (λ found. IsFound found (by_key (spells ask.now.request) caller ask.now.key book.now)) }
 {
     let Some(key) = &ask.key else {
-        return None;
+        return Ok(None);
     };
-    let Some(at) = place_of(records, caller, key) else {
-        return None;
+    let Some(replied) = keys.look(caller, key) else {
+        return Ok(None);
     };
-    let record = &records[at];
+    let record = &book.as_slice()[replied.at];
     if spells(&ask.request, record) {
-        return Some(Found::Same(at));
+        return Ok(Some(Found::Same(replied.reply.try_copy(alloc)?)));
     }
-    Some(Found::Other(said_at(&records[..at + 1], record)))
+    match &replied.reply {
+        Reply::Ok { place, .. } => Ok(Some(Found::Other(*place))),
+        Reply::Refused(_) => unreachable!(),
+    }
 }

@@ -2,14 +2,15 @@
 #![tactic(auto)]
 
 mod attempts;
+mod book;
 mod decision;
 mod fates;
 mod feedback;
 mod grades;
-mod history;
 mod keys;
+mod known;
 pub mod laws;
-mod lives;
+mod listing;
 mod looking;
 mod missing;
 mod pages;
@@ -22,7 +23,6 @@ mod slots;
 mod starting;
 mod stepping;
 mod targets;
-mod totals;
 mod viewing;
 mod working;
 

@@ -11,19 +11,17 @@ ghost use Rattle.qz_terms.specs.Parts.{feedbacks, hint_by, part, shows_feedback}
 ghost use Rattle.qz_terms.specs.declared.reply.Done.TheVariants as done;
 ghost use Rattle.qz_usage.specs.Runs.{IsBound};
 ghost use Rattle.qz_shard.specs.Decisions.{IsSound};
-ghost use Rattle.qz_shard.specs.Plays.{slot_of};
+ghost use Rattle.qz_lives.specs.Attempts.{slot_of};
 
+use crate::book::Book;
 use crate::feedback::feedbacks;
-use crate::history::slot_count;
 use crate::review::{shown_mark, shown_state};
-use crate::slots::slot;
 use crate::viewing::due_now;
-use qz_grading::{AttemptId, Outcome, Question, Response, State, Step, Steps};
-use qz_terms::{Done, Part, Plan, Record};
+use qz_grading::{AttemptId, Outcome, Question, Response, State, Step};
+use qz_terms::{Done, Part, Plan};
 use qz_text::{Listed, NoMemory, Text, TryCopy};
 use qz_usage::SlotRun;
 use std::alloc::Global;
-use std::sync::ledger::Ledger;
 
 /// How many steps come before the first Finish.
 fn count_before(steps: &[Step]) -> usize
@@ -133,42 +131,39 @@ fn part(alloc: Global, visible: bool, question: &Question, run: &SlotRun) -> Res
 }
 
 /// A part for each slot of an attempt.
-fn parts<L: Ledger>(
+fn parts(
     alloc: Global,
-    records: &[Record],
+    book: &Book,
     visible: bool,
     attempt: AttemptId,
-    steps: &mut Steps<L>,
 ) -> Result<Listed<Part>, NoMemory>
-    requires { IsSound records.now }
-    ensures { IfOk result (λ made. made ≡ map (part visible) (slots records.now attempt)) }
+    ensures { IfOk result (λ made. made ≡ map (part visible) (slots book.now attempt)) }
 {
-    let count = slot_count(records, attempt);
+    let count = book.slot_count(attempt);
     let mut items = Vec::new(alloc);
     for place in 0..count {
-        if let Some(played) = slot(alloc, records, attempt, place as u16 + 1, steps)? {
-            items.push(part(alloc, visible, played.question, &played.run)?)?;
+        if let Some(played) = book.slot(attempt, place as u16 + 1) {
+            items.push(part(alloc, visible, played.question, played.run)?)?;
         }
     }
     Ok(Listed { items })
 }
 
 /// An attempt as a page: the quiz's name, when the attempt is due, and a part for each slot.
-pub(crate) fn page<L: Ledger>(
+pub(crate) fn page(
     alloc: Global,
-    records: &[Record],
+    book: &Book,
     plan: &Plan,
     visible: bool,
     attempt: AttemptId,
-    steps: &mut Steps<L>,
 ) -> Result<Done, NoMemory>
-    requires sound { IsSound records.now }
-    ensures { IfOk result (λ told. told ≡ done.Page attempt plan.now.name (due_now records.now plan.now attempt) (map (part visible) (slots records.now attempt))) }
+    requires sound { IsSound book.now }
+    ensures { IfOk result (λ told. told ≡ done.Page attempt plan.now.name (due_now book.now plan.now attempt) (map (part visible) (slots book.now attempt))) }
 {
     Ok(Done::Page {
         attempt,
         quiz: plan.name.try_copy(alloc)?,
-        due: due_now(records, plan, attempt),
-        parts: parts(alloc, records, visible, attempt, steps)?,
+        due: due_now(book, plan, attempt),
+        parts: parts(alloc, book, visible, attempt)?,
     })
 }

@@ -1,6 +1,6 @@
 //! A shard and what is asked of it.
 
-ghost use Rattle.std.specs.Prelude.{◌≡◌, ◌⊎◌, ◌≤◌, List, [], length, map, true, false, Ok, Some, None, option_map, IfOk, IfErr, OnOk, OnErr, MatchResult};
+ghost use Rattle.std.specs.Prelude.{◌≡◌, ◌⊎◌, ◌+◌, ◌≤◌, List, [], length, map, true, false, Ok, Some, None, option_map, IfOk, IfErr, OnOk, OnErr, MatchResult};
 ghost use Rattle.qz_decimal.specs.Numbers.{IsMaxSum, IsQuizGrade};
 ghost use Rattle.qz_grading.specs.declared.refusal.Refusal.TheVariants as refusal;
 ghost use Rattle.qz_terms.specs.declared.reply.Done.TheVariants as done;
@@ -11,18 +11,20 @@ ghost use Rattle.qz_terms.specs.Legal.{IsLegal};
 ghost use Rattle.qz_shard.specs.Answering.{IsAnswered, IsPosed};
 ghost use Rattle.qz_shard.specs.Grades.{graded};
 ghost use Rattle.qz_shard.specs.Holdings.{is_shard, is_change, is_look, IsAsked, StartsHere, older, Answers, IsAlone, IsAnsweredAgain, IsWorkable, Works};
+ghost use Rattle.qz_lives.specs.Changes.{gradings_by};
+ghost use Rattle.qz_shard.specs.Gradings.{most_gradings, most_of_work};
+ghost use Rattle.qz_shard.specs.Nexts.{IsNext, IsPutWith};
 ghost use Rattle.qz_shard.specs.Works.{IsWorked};
 
+use crate::book::Book;
 use crate::decision::{Decision, decide};
-use crate::history::{floor, place, start};
-use crate::lives::live_after;
 use crate::looking::seen;
-use crate::putting::{moment_of, put, put_record};
-use crate::replies::said;
+use crate::putting::{moment_of, record_of, tell};
 use crate::rows::rows;
 use crate::working::{Work, work_on};
 use qz_decimal::Grade;
 use qz_grading::{AttemptId, Refusal, Steps, Thing};
+use qz_index::Keys;
 use qz_terms::{Ask, Done, Job, Plan, Policy, Record, Reply, Request, User, named_user};
 use qz_text::{Listed, NoMemory};
 use std::alloc::Global;
@@ -37,34 +39,37 @@ pub struct Older {
 }
 
 /// What is said of a request that had nothing to do.
-fn idle(records: &[Record], user: &User, request: &Request) -> Reply
-    ensures { result ≡ reply.Ok (place records.now (named_user user.now request.now)) done.Idle }
+fn idle(book: &Book, user: &User, request: &Request) -> Reply
+    ensures { result ≡ reply.Ok (place book.now (named_user user.now request.now)) done.Idle }
 {
     Reply::Ok {
-        place: place(records, named_user(user, request)),
+        place: book.place(named_user(user, request)),
         done: Done::Idle,
     }
 }
 
 /// The records of the attempts of a part of the users: those whose number, modulo the number of shards, is the shard's index.
 ///
-/// It keeps nothing else, and each call reads the whole list, a fixed number of times for each slot or attempt that the
-/// request is about.
+/// Beside them it keeps an index of them, what each attempt has come to, and what was said under each key. So a request walks no
+/// list of records, and only a step that is put is graded.
 #[derive(Drop)]
 pub struct Shard {
     index: u8,
     count: u8,
-    records: Listed<Record>,
+    book: Book,
+    keys: Keys,
 }
 
 impl Model for Shard {
-    ghost use Rattle.qz_shard.specs.Holdings.{Holding, IsHeld};
+    ghost use Rattle.qz_shard.specs.Holdings.{Holding};
 
     ghost Value = { Holding };
 
-    ghost view = { λ s. record { index = s.index; count = s.count; records = s.records } };
+    ghost use Rattle.qz_shard.specs.Books.{IsAnswering};
 
-    ghost invariant = { λ s. IsHeld s.index s.count s.records };
+    ghost view = { λ s. record { index = s.index; count = s.count; records = s.book } };
+
+    ghost invariant = { λ s. IsAnswering s.index s.count s.book s.keys };
 }
 
 impl Shard {
@@ -76,7 +81,8 @@ impl Shard {
         Shard {
             index,
             count,
-            records: Listed::empty(alloc),
+            book: Book::new(alloc),
+            keys: Keys::new(alloc),
         }
     }
 
@@ -85,7 +91,7 @@ impl Shard {
         ensures count { result ≡ length self.now.records }
         ensures legal { IsLegal self.now.index self.now.count self.now.records }
     {
-        self.records.as_slice().len() as u64
+        self.book.len()
     }
 
     /// The quiz of an attempt. Where there is no such attempt it is `Unknown`.
@@ -94,7 +100,7 @@ impl Shard {
         ensures missing { IfErr result (λ r. (quiz self.old.records attempt ≡ None) × (r ≡ Refusal.Unknown Thing.Attempt)) }
         ensures unchanged { self.new ≡ self.old }
     {
-        match start(self.records.as_slice(), attempt) {
+        match self.book.begun(attempt) {
             Some(begun) => Ok(begun.quiz),
             None => Err(Refusal::Unknown {
                 what: Thing::Attempt,
@@ -111,7 +117,7 @@ impl Shard {
         ensures there { result ≡ Ok (live_after self.old.records after) }
         ensures unchanged { self.new ≡ self.old }
     {
-        Ok(live_after(self.records.as_slice(), after))
+        Ok(self.book.live_after(after))
     }
 
     /// The grade (in 10^-5) at a quiz of each user who has an attempt of it here, in order of user, each once. A user of whom no
@@ -129,8 +135,9 @@ impl Shard {
         ensures rows { IfOk result (λ rows. rows ≡ map (graded self.old.records quiz policy.now) (takers self.old.records quiz)) }
         ensures wants { IfErr result (λ r. r ≡ refusal.Memory) }
         ensures unchanged { self.new ≡ self.old }
+        ensures count { steps.new ≡ steps.old }
     {
-        Ok(rows(alloc, self.records.as_slice(), quiz, policy, steps)?)
+        Ok(rows(alloc, &self.book, quiz, policy)?)
     }
 
     /// Answers a request that may change the list: a start, a save, a submit, an again, a finish, a mark or a settling, at this
@@ -160,6 +167,8 @@ impl Shard {
         ensures older { IfErr result (λ o. older self.old.records plan.now ask.now.request ≡ Some o.floor) }
         ensures unchanged { OnErr result (self.new ≡ self.old) }
         ensures shard { (self.new.index ≡ self.old.index) × (self.new.count ≡ self.old.count) }
+        ensures count { steps.new ≤ steps.old + most_gradings self.old.records ask.now.request }
+        ensures still { self.new.records ≡ self.old.records → steps.new ≡ steps.old }
     {
         if let Some(floor) = self.older(plan, &ask.request) {
             return Err(Older { floor });
@@ -186,9 +195,9 @@ impl Shard {
         ensures answer { Answers self.old.records moment user.now plan.now ask.now result self.old.records }
         ensures alone { IsAlone self.old moment user.now plan.now ask.now result }
         ensures unchanged { self.new ≡ self.old }
+        ensures count { steps.new ≡ steps.old }
     {
-        let records = self.records.as_slice();
-        match seen(alloc, records, user, plan, ask, moment, steps) {
+        match seen(alloc, &self.book, user, plan, ask, moment) {
             Ok(reply) => reply,
             Err(NoMemory) => Reply::Refused(Refusal::Memory),
         }
@@ -214,6 +223,8 @@ impl Shard {
         requires { IsWorkable self.old.records job.now moment }
         ensures answer { Works self.old.records moment caller job.now result self.new.records }
         ensures shard { (self.new.index ≡ self.old.index) × (self.new.count ≡ self.old.count) }
+        ensures count { steps.new ≤ steps.old + most_of_work self.old.records job.now }
+        ensures still { self.new.records ≡ self.old.records → steps.new ≡ steps.old }
     {
         match self.worked(alloc, caller, job, moment, steps) {
             Ok(reply) => reply,
@@ -234,15 +245,20 @@ impl Shard {
         ensures worked { IfOk result (λ told. IsWorked self.old.records now caller job.now told self.new.records) }
         ensures unchanged { OnErr result (self.new ≡ self.old) }
         ensures shard { (self.new.index ≡ self.old.index) × (self.new.count ≡ self.old.count) }
+        ensures count { steps.new ≤ steps.old + most_of_work self.old.records job.now }
+        ensures still { self.new.records ≡ self.old.records → steps.new ≡ steps.old }
     {
-        match work_on(alloc, self.records.as_slice(), now, caller, job)? {
-            Work::AlreadyDone(place) => Ok(Reply::Ok {
-                place,
-                done: Done::AlreadyDone { job: job.number },
-            }),
-            Work::NoSlot => Ok(Reply::Refused(Refusal::Unknown { what: Thing::Slot })),
-            Work::Put(record) => put_record(alloc, &mut self.records, record, steps),
-        }
+        let made = match work_on(alloc, &self.book, now, caller, job)? {
+            Work::AlreadyDone(place) => {
+                return Ok(Reply::Ok {
+                    place,
+                    done: Done::AlreadyDone { job: job.number },
+                });
+            }
+            Work::NoSlot => return Ok(Reply::Refused(Refusal::Unknown { what: Thing::Slot })),
+            Work::Put(made) => made,
+        };
+        self.put(alloc, made, steps)
     }
 
     /// Answers a request, and puts the record that it makes. Where memory is wanting the list is as before.
@@ -259,29 +275,39 @@ impl Shard {
         ensures answered { IfOk result (λ told. IsAnswered self.old.records now user.now plan.now ask.now told self.new.records) }
         ensures unchanged { OnErr result (self.new ≡ self.old) }
         ensures shard { (self.new.index ≡ self.old.index) × (self.new.count ≡ self.old.count) }
+        ensures count { steps.new ≤ steps.old + most_gradings self.old.records ask.now.request }
+        ensures still { self.new.records ≡ self.old.records → steps.new ≡ steps.old }
     {
-        let records = self.records.as_slice();
-        let moment = moment_of(records, now, user, &ask.request);
-        let event = match decide(alloc, records, moment, user, plan, ask, steps)? {
+        let moment = moment_of(&self.book, now, user, &ask.request);
+        let event = match decide(alloc, &self.book, &self.keys, moment, user, plan, ask)? {
             Decision::Refused(refusal) => return Ok(Reply::Refused(refusal)),
-            Decision::Repeated(at) => {
-                return said(alloc, &records[..at + 1], &records[at], steps);
-            }
-            Decision::Idle => {
-                return Ok(idle(records, user, &ask.request));
-            }
+            Decision::Repeated(reply) => return Ok(reply),
+            Decision::Idle => return Ok(idle(&self.book, user, &ask.request)),
             Decision::Made(event) => event,
         };
-        put(
-            alloc,
-            &mut self.records,
-            moment,
-            user,
-            plan,
-            ask,
-            event,
-            steps,
-        )
+        let made = record_of(alloc, moment, user, plan, ask, event)?;
+        self.put(alloc, made, steps)
+    }
+
+    /// Puts a record and gives what is said of it, which is kept with its key. All that takes memory is made first, and where it is
+    /// wanting the shard is as before.
+    fn put<L: Ledger>(
+        &mut self,
+        alloc: Global,
+        made: Record,
+        steps: &mut Steps<L>,
+    ) -> Result<Reply, NoMemory>
+        requires { IsNext self.old.index self.old.count self.old.records made }
+        ensures put { IfOk result (λ reply. IsPutWith self.old.records self.new.records made reply) }
+        ensures unchanged { OnErr result (self.new ≡ self.old) }
+        ensures shard { (self.new.index ≡ self.old.index) × (self.new.count ≡ self.old.count) }
+        ensures count { steps.new ≤ steps.old + gradings_by self.old.records made.event }
+        ensures still { OnErr result (steps.new ≡ steps.old) }
+    {
+        self.keys.grow(alloc, &made)?;
+        let place = self.book.as_slice().len();
+        self.book.put(alloc, made, steps)?;
+        Ok(tell(&self.book, &mut self.keys, place))
     }
 
     /// The floor of the quiz, where the plan of a start is older.
@@ -291,7 +317,7 @@ impl Shard {
         let Request::Start { .. } = request else {
             return None;
         };
-        let floor = floor(self.records.as_slice(), plan.quiz);
+        let floor = self.book.floor(plan.quiz);
         (plan.at < floor).then_some(floor)
     }
 }

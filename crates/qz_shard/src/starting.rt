@@ -1,14 +1,14 @@
 //! What a start puts into the list.
 
-ghost use Rattle.std.specs.Prelude.{◌≡◌, ◌+◌, ◌-◌, ◌<◌, ◌^◌, ◌&&◌, not, is_none, length, map, zip, take, IfOk};
+ghost use Rattle.std.specs.Prelude.{◌≡◌, ◌&&◌, not, is_none, length, map, zip, take, IfOk};
 ghost use Rattle.std.specs.List.{list_any};
 ghost use Rattle.qz_terms.specs.Answer.{bind, learned_as, new_versions, started_by};
 ghost use Rattle.qz_terms.specs.History.{version};
 ghost use Rattle.qz_shard.specs.Readings.{is_new, stands_in};
 
-use crate::history::{next_number, version};
+use crate::book::Book;
 use qz_grading::Question;
-use qz_terms::{Bound, Event, Learned, Plan, Planned, Record, User};
+use qz_terms::{Bound, Event, Learned, Plan, Planned, User};
 use qz_text::{Listed, NoMemory, TryCopy};
 use std::alloc::Global;
 
@@ -37,25 +37,25 @@ fn stands_in(slot: &Planned, earlier: &[Planned]) -> bool
 }
 
 /// Whether the version of a slot is new to the shard, behind the slots before.
-fn is_new(records: &[Record], earlier: &[Planned], slot: &Planned) -> bool
-    ensures { result ≡ is_new records.now earlier.now slot.now }
+fn is_new(book: &Book, earlier: &[Planned], slot: &Planned) -> bool
+    ensures { result ≡ is_new book.now earlier.now slot.now }
 {
-    !stands_in(slot, earlier) && version(records, slot.entry, slot.version).is_none()
+    !stands_in(slot, earlier) && book.version(slot.entry, slot.version).is_none()
 }
 
 /// The versions that a start teaches the shard, each once, in order of slot.
 fn learned_of(
     alloc: Global,
-    records: &[Record],
+    book: &Book,
     slots: &[Planned],
     questions: &[Question],
 ) -> Result<Listed<Learned>, NoMemory>
     requires { length questions.now ≡ length slots.now }
-    ensures { IfOk result (λ learned. learned ≡ new_versions records.now (map learned_as (zip slots.now questions.now))) }
+    ensures { IfOk result (λ learned. learned ≡ new_versions book.now (map learned_as (zip slots.now questions.now))) }
 {
     let mut items = Vec::new(alloc);
     for (place, slot) in slots.iter().enumerate() {
-        if is_new(records, &slots[..place], slot) {
+        if is_new(book, &slots[..place], slot) {
             items.push(Learned {
                 entry: slot.entry,
                 version: slot.version,
@@ -69,22 +69,21 @@ fn learned_of(
 /// The event of a start: the user's next attempt, with the latest version of each slot bound.
 pub(crate) fn started(
     alloc: Global,
-    records: &[Record],
+    book: &Book,
     user: &User,
     plan: &Plan,
 ) -> Result<Event, NoMemory>
-    requires few { length records.now < 2 ^ 32 - 1 }
-    requires whole { length plan.now.questions ≡ length plan.now.slots }
-    ensures { IfOk result (λ event. event ≡ started_by records.now user.now plan.now) }
+    requires { length plan.now.questions ≡ length plan.now.slots }
+    ensures { IfOk result (λ event. event ≡ started_by book.now user.now plan.now) }
 {
     Ok(Event::Started {
         quiz: plan.quiz,
-        nth: next_number(records, user.number),
+        nth: book.next_number(user.number),
         behaviour: plan.behaviour,
         bounds: bounds_of(alloc, plan)?,
         learned: learned_of(
             alloc,
-            records,
+            book,
             plan.slots.as_slice(),
             plan.questions.as_slice(),
         )?,

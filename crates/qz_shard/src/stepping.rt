@@ -1,7 +1,6 @@
 //! What a step on a slot comes to.
 
-ghost use Rattle.std.specs.Prelude.{◌≡◌, true, None, IfOk, IfSome};
-ghost use Rattle.qz_grading.specs.Steps.{given};
+ghost use Rattle.std.specs.Prelude.{◌≡◌, None};
 ghost use Rattle.qz_terms.specs.Access.{answer_cause};
 ghost use Rattle.qz_terms.specs.Cause.{missing_slot, refusal_shown, sees_marks, time_cause};
 ghost use Rattle.qz_terms.specs.History.{ended_at};
@@ -9,33 +8,29 @@ ghost use Rattle.qz_terms.specs.declared.request.Request.TheVariants as request;
 ghost use Rattle.qz_shard.specs.Decisions.{IsFate, IsSound};
 ghost use Rattle.qz_terms.specs.Answer.{acted_or_noted};
 ghost use Rattle.qz_usage.specs.Runs.{IsBound};
-ghost use Rattle.qz_shard.specs.Plays.{IsMove, IsStepFate, slot_of};
+ghost use Rattle.qz_lives.specs.Attempts.{slot_of};
+ghost use Rattle.qz_shard.specs.Plays.{IsMove, IsStepFate};
 
-use crate::attempts::is_ended;
+use crate::book::{Book, Played};
 use crate::fates::Fate;
-use crate::history::{ended_at, start};
 use crate::review::{shown_state, shows_marks};
-use crate::slots::{Played, slot_there};
+use crate::slots::slot_there;
 use qz_access::may_answer;
 use qz_decimal::Mark;
-use qz_grading::{AttemptId, Moved, Question, Refusal, Step, Steps};
-use qz_terms::{Event, Plan, Record, Settings, User, is_student};
-use qz_text::{NoMemory, TryCopy};
-use qz_usage::SlotRun;
-use std::alloc::Global;
-use std::sync::ledger::Ledger;
+use qz_grading::{AttemptId, Moved, Refusal, Step};
+use qz_terms::{Event, Plan, Settings, User, is_student};
 
 /// Whether a user is shown the marks of an attempt. To a student own marks are shown as the settings say, to all others always.
 pub(crate) fn sees_marks(
-    records: &[Record],
+    book: &Book,
     settings: &Settings,
     user: &User,
     attempt: AttemptId,
     moment: u64,
 ) -> bool
-    ensures { result ≡ sees_marks records.now settings.now user.now attempt moment }
+    ensures { result ≡ sees_marks book.now settings.now user.now attempt moment }
 {
-    !is_student(user) || shows_marks(settings, is_ended(records, attempt), moment)
+    !is_student(user) || shows_marks(settings, book.is_ended(attempt), moment)
 }
 
 /// A refusal as it is shown: the state that it carries tells no mark that is hidden.
@@ -51,33 +46,24 @@ fn refusal_shown(visible: bool, refusal: Refusal) -> Refusal
 }
 
 /// The first cause that lies with time for which an answer is refused.
-fn answer_time(
-    records: &[Record],
-    settings: &Settings,
-    moment: u64,
-    attempt: AttemptId,
-) -> Option<Refusal>
-    requires sound { IsSound records.now }
-    ensures { result ≡ time_cause (λ began. answer_cause settings.now began moment (ended_at records.now attempt)) records.now attempt }
+fn answer_time(book: &Book, settings: &Settings, moment: u64, attempt: AttemptId) -> Option<Refusal>
+    requires sound { IsSound book.now }
+    ensures { result ≡ time_cause (λ began. answer_cause settings.now began moment (ended_at book.now attempt)) book.now attempt }
 {
-    let begun = start(records, attempt)?;
-    let ended = ended_at(records, attempt);
+    let begun = book.begun(attempt)?;
+    let ended = book.ended_at(attempt);
     may_answer(settings, begun.moment, moment, ended).err()
 }
 
-/// Takes a step on a slot, or refuses it for its first cause.
-fn step_on<L: Ledger>(
-    mut run: SlotRun,
-    question: &Question,
-    step: Step,
-    steps: &mut Steps<L>,
-) -> Result<Result<Moved, Refusal>, NoMemory>
-    requires question { IsBound run question.now }
-    requires max { IfSome (given step) (λ m. m.1 ≡ run.bound.max) }
-    ensures { IfOk result (IsMove (slot_of run question.now) step) }
+/// What a step on a slot comes to: it is taken or the same as before, or it is refused for its first cause. Nothing is graded.
+fn step_on(played: Played<'_>, step: &Step) -> Result<Moved, Refusal>
+    requires question { IsBound played.run.now played.question.now }
+    ensures { IsMove (slot_of played.entry.run.now played.entry.question.now) step.now result }
 {
-    run.reserve()?;
-    Ok(run.act(question, step, steps))
+    match played.run.cause(played.question, step) {
+        Some(refusal) => Err(refusal),
+        None => Ok(played.run.moved(step)),
+    }
 }
 
 /// The event of a step: one that is the same as before is noted.
@@ -99,59 +85,56 @@ fn event_of(moved: Moved, attempt: AttemptId, slot: u16, step: Step) -> Event
 }
 
 /// What a Save, a Submit or an Again comes to.
-pub(crate) fn fate_of_step<L: Ledger>(
-    alloc: Global,
-    records: &[Record],
+pub(crate) fn fate_of_step(
+    book: &Book,
     moment: u64,
     user: &User,
     plan: &Plan,
     attempt: AttemptId,
     place: u16,
     step: Step,
-    steps: &mut Steps<L>,
-) -> Result<Fate, NoMemory>
-    requires sound { IsSound records.now }
-    requires unmarked { given step ≡ None }
-    requires there { missing_slot records.now user.now attempt place ≡ None }
-    ensures { IfOk result (IsStepFate records.now moment user.now plan.now attempt place step) }
+) -> Fate
+    requires sound { IsSound book.now }
+    requires there { missing_slot book.now user.now attempt place ≡ None }
+    ensures { IsStepFate book.now moment user.now plan.now attempt place step result }
 {
-    if let Some(refusal) = answer_time(records, &plan.settings, moment, attempt) {
-        return Ok(Err(refusal));
+    if let Some(refusal) = answer_time(book, &plan.settings, moment, attempt) {
+        return Err(refusal);
     }
-    let visible = sees_marks(records, &plan.settings, user, attempt, moment);
-    let Played { question, run } = slot_there(alloc, records, attempt, place, steps)?;
-    let asked = step.try_copy(alloc)?;
-    match step_on(run, question, asked, steps)? {
-        Err(refusal) => Ok(Err(refusal_shown(visible, refusal))),
-        Ok(moved) => Ok(Ok(Some(event_of(moved, attempt, place, step)))),
+    let visible = sees_marks(book, &plan.settings, user, attempt, moment);
+    let played = slot_there(book, attempt, place);
+    match step_on(played, &step) {
+        Err(refusal) => Err(refusal_shown(visible, refusal)),
+        Ok(moved) => Ok(Some(event_of(moved, attempt, place, step))),
     }
 }
 
 /// What a teacher's Mark (in 10^-7) comes to: it is kept with the max mark that is bound now.
-pub(crate) fn fate_of_mark<L: Ledger>(
-    alloc: Global,
-    records: &[Record],
+pub(crate) fn fate_of_mark(
+    book: &Book,
     moment: u64,
     user: &User,
     plan: &Plan,
     attempt: AttemptId,
     place: u16,
     mark: Mark,
-    steps: &mut Steps<L>,
-) -> Result<Fate, NoMemory>
-    requires sound { IsSound records.now }
-    requires there { missing_slot records.now user.now attempt place ≡ None }
-    ensures { IfOk result (IsFate records.now moment user.now plan.now (request.Mark attempt place mark)) }
+) -> Fate
+    requires sound { IsSound book.now }
+    requires there { missing_slot book.now user.now attempt place ≡ None }
+    ensures { IsFate book.now moment user.now plan.now (request.Mark attempt place mark) result }
 {
-    let visible = sees_marks(records, &plan.settings, user, attempt, moment);
-    let Played { question, run } = slot_there(alloc, records, attempt, place, steps)?;
-    let max = run.bound().max;
-    if let Err(refusal) = step_on(run, question, Step::Mark { mark, max }, steps)? {
-        return Ok(Err(refusal_shown(visible, refusal)));
+    let visible = sees_marks(book, &plan.settings, user, attempt, moment);
+    let played = slot_there(book, attempt, place);
+    let step = Step::Mark {
+        mark,
+        max: played.run.bound().max,
+    };
+    match step_on(played, &step) {
+        Err(refusal) => Err(refusal_shown(visible, refusal)),
+        Ok(_) => Ok(Some(Event::Acted {
+            attempt,
+            slot: place,
+            step,
+        })),
     }
-    Ok(Ok(Some(Event::Acted {
-        attempt,
-        slot: place,
-        step: Step::Mark { mark, max },
-    })))
 }

@@ -1,89 +1,58 @@
 //! What a look at a slot or at an attempt is shown.
 
-ghost use Rattle.std.specs.Prelude.{◌≡◌, ◌≤◌, length, true, IfOk};
+ghost use Rattle.std.specs.Prelude.{◌≡◌, true, is_some};
+ghost use Rattle.qz_grading.specs.Steps.{is_answering};
 ghost use Rattle.qz_terms.specs.Answer.{answering_steps, due_now, status_by, version_now, viewed};
 ghost use Rattle.qz_terms.specs.History as history;
 ghost use Rattle.qz_terms.specs.Lists.{how_many};
 ghost use Rattle.qz_terms.specs.Review.{shown_value};
 ghost use Rattle.qz_terms.specs.declared.reply.Done.TheVariants as done;
 ghost use Rattle.qz_shard.specs.Decisions.{IsSound};
-ghost use Rattle.qz_shard.specs.Readings.{answers_in};
 
-use crate::history::{bound, ended, is_same, start};
+use crate::book::Book;
 use crate::review::{shown_mark, shown_state};
-use crate::slots::standing;
-use crate::totals::total;
+use crate::slots::slot_there;
 use qz_access::due;
-use qz_grading::{AttemptId, Step, Steps};
-use qz_terms::{Done, Event, How, Plan, Record, Status};
-use qz_text::NoMemory;
-use std::alloc::Global;
-use std::sync::ledger::Ledger;
+use qz_grading::{AttemptId, Step};
+use qz_terms::{Done, How, Plan, Status};
 
-/// Whether a record takes a Save, a Submit or an Again on a slot.
-fn answers_in(attempt: AttemptId, slot: u16, record: &Record) -> bool
-    ensures { result ≡ answers_in attempt slot «record».now }
+/// How many of these steps are a Save, a Submit or an Again.
+fn answering(steps: &[Step]) -> usize
+    ensures { result ≡ how_many is_answering steps.now }
 {
-    match &record.event {
-        Event::Acted {
-            attempt: other,
-            slot: place,
-            step,
-        } if is_same(attempt, *other) && slot == *place => {
-            matches!(step, Step::Save(_) | Step::Submit(_) | Step::Again)
-        }
-        _ => false,
-    }
-}
-
-/// How many records take a Save, a Submit or an Again on a slot.
-fn answering_records(records: &[Record], attempt: AttemptId, slot: u16) -> usize
-    ensures value { result ≡ how_many (answers_in attempt slot) records.now }
-    ensures few { result ≤ length records.now }
-{
-    records
-        .iter()
-        .filter(|record| answers_in(attempt, slot, record))
-        .count()
+    steps.iter().filter(|step| step.is_answering()).count()
 }
 
 /// How many Save, Submit and Again steps a slot has.
-fn answering_steps(records: &[Record], attempt: AttemptId, slot: u16) -> u32
-    requires { IsSound records.now }
-    ensures { result ≡ answering_steps records.now attempt slot }
+fn answering_steps(book: &Book, attempt: AttemptId, slot: u16) -> u32
+    requires { is_some (history.slot book.now attempt slot) ≡ true }
+    ensures { result ≡ answering_steps book.now attempt slot }
 {
-    answering_records(records, attempt, slot) as u32
+    answering(slot_there(book, attempt, slot).run.steps()) as u32
 }
 
 /// The version of a slot's question that is bound now, and 0 where there is no such slot.
-fn version_now(records: &[Record], attempt: AttemptId, slot: u16) -> u32
-    ensures { result ≡ version_now records.now attempt slot }
+fn version_now(book: &Book, attempt: AttemptId, slot: u16) -> u32
+    ensures { result ≡ version_now book.now attempt slot }
 {
-    match bound(records, attempt, slot) {
+    match book.bound(attempt, slot) {
         Some(bound) => bound.version,
         None => 0,
     }
 }
 
 /// A slot as it is shown: its state, its mark, the version bound, and how many Save, Submit and Again steps it has.
-pub(crate) fn viewed<L: Ledger>(
-    alloc: Global,
-    records: &[Record],
-    visible: bool,
-    attempt: AttemptId,
-    slot: u16,
-    steps: &mut Steps<L>,
-) -> Result<Done, NoMemory>
-    requires { IsSound records.now }
-    ensures { IfOk result (λ told. told ≡ viewed records.now visible attempt slot) }
+pub(crate) fn viewed(book: &Book, visible: bool, attempt: AttemptId, slot: u16) -> Done
+    requires { is_some (history.slot book.now attempt slot) ≡ true }
+    ensures { result ≡ viewed book.now visible attempt slot }
 {
-    let (state, mark) = standing(alloc, records, attempt, slot, steps)?;
-    Ok(Done::SlotView {
+    let (state, mark) = book.standing(attempt, slot);
+    Done::SlotView {
         state: shown_state(visible, state),
         mark: shown_mark(visible, mark),
-        version: version_now(records, attempt, slot),
-        steps: answering_steps(records, attempt, slot),
-    })
+        version: version_now(book, attempt, slot),
+        steps: answering_steps(book, attempt, slot),
+    }
 }
 
 /// Whether an attempt goes on, or how it ended.
@@ -98,30 +67,22 @@ fn status_by(ended: Option<How>) -> Status
 }
 
 /// When an attempt is due under a plan, if it is there and ever due.
-pub(crate) fn due_now(records: &[Record], plan: &Plan, attempt: AttemptId) -> Option<u64>
-    requires sound { IsSound records.now }
-    ensures { result ≡ due_now records.now plan.now attempt }
+pub(crate) fn due_now(book: &Book, plan: &Plan, attempt: AttemptId) -> Option<u64>
+    requires sound { IsSound book.now }
+    ensures { result ≡ due_now book.now plan.now attempt }
 {
-    let begun = start(records, attempt)?;
+    let begun = book.begun(attempt)?;
     due(&plan.settings, begun.moment)
 }
 
 /// An attempt as it is shown: whether it goes on or how it ended, its total, and when it is due.
-pub(crate) fn standing_of<L: Ledger>(
-    alloc: Global,
-    records: &[Record],
-    plan: &Plan,
-    visible: bool,
-    attempt: AttemptId,
-    steps: &mut Steps<L>,
-) -> Result<Done, NoMemory>
-    requires sound { IsSound records.now }
-    ensures { IfOk result (λ told. told ≡ done.Attempt (status_by (history.ended records.now attempt)) (shown_value visible (history.total records.now attempt)) (due_now records.now plan.now attempt)) }
+pub(crate) fn standing_of(book: &Book, plan: &Plan, visible: bool, attempt: AttemptId) -> Done
+    requires { IsSound book.now }
+    ensures { (result ≡ done.Attempt (status_by (history.ended book.now attempt)) (shown_value visible (history.total book.now attempt)) (due_now book.now plan.now attempt)) }
 {
-    let total = total(alloc, records, attempt, steps)?;
-    Ok(Done::Attempt {
-        status: status_by(ended(records, attempt)),
-        total: shown_mark(visible, total),
-        due: due_now(records, plan, attempt),
-    })
+    Done::Attempt {
+        status: status_by(book.ended(attempt)),
+        total: shown_mark(visible, book.total(attempt)),
+        due: due_now(book, plan, attempt),
+    }
 }

@@ -1,16 +1,16 @@
 //! What a worker's request puts: a slot of a job is bound anew or skipped, or the job is done.
 
-ghost use Rattle.std.specs.Prelude.{◌≡◌, ◌∷◌, [], option_copied, position, All, IfOk, IfSome};
+ghost use Rattle.std.specs.Prelude.{◌≡◌, ◌∷◌, [], option_copied, All, IfOk, IfSome};
 ghost use Rattle.qz_grading.specs.Grading.{at_place};
 ghost use Rattle.qz_grading.specs.Questions.{IsQuestion};
 ghost use Rattle.qz_grading.specs.Shapes.{same_shape};
-ghost use Rattle.qz_terms.specs.Answer.{done_place, learned_as, new_versions, put_by_job, put_target, rebound_or_skipped, record_of_job, target_event};
-ghost use Rattle.qz_terms.specs.History.{is_done, is_done_in, question};
+ghost use Rattle.qz_terms.specs.Answer.{learned_as, new_versions, put_target, rebound_or_skipped, record_of_job, target_event};
+ghost use Rattle.qz_terms.specs.History.{question};
 ghost use Rattle.qz_terms.specs.Kept.{IsKept};
 ghost use Rattle.qz_shard.specs.Decisions.{IsSound};
 ghost use Rattle.qz_shard.specs.Works.{IsWork};
 
-use crate::history::{bound, time, version};
+use crate::book::Book;
 use crate::targets::first_target;
 use qz_grading::{AttemptId, Question, Shape, shape_of};
 use qz_terms::{Bound, Event, Job, Learned, Planned, Record};
@@ -25,23 +25,6 @@ pub(crate) enum Work {
     NoSlot,
     /// This record is put.
     Put(Record),
-}
-
-/// Whether a record says that a job is done.
-fn is_done_in(job: u32, record: &Record) -> bool
-    ensures { result ≡ is_done_in job «record».now }
-{
-    match &record.event {
-        Event::JobDone { job: other, .. } => *other == job,
-        _ => false,
-    }
-}
-
-/// The place, from 0, of the record that says that a job is done.
-fn done_at(records: &[Record], job: u32) -> Option<usize>
-    ensures { result ≡ position (is_done_in job) records.now }
-{
-    records.iter().position(|record| is_done_in(job, record))
 }
 
 /// The slot of a plan with this number, from 1.
@@ -62,25 +45,25 @@ fn question_at(questions: &[Question], slot: u16) -> Option<&Question>
 }
 
 /// The question that is bound to a slot of an attempt now.
-fn question_of(records: &[Record], attempt: AttemptId, slot: u16) -> Option<&Question>
-    ensures value { option_copied result ≡ question records.now attempt slot }
-    ensures kept { All IsKept records.now → IfSome result (λ q. IsQuestion q.now) }
+fn question_of(book: &Book, attempt: AttemptId, slot: u16) -> Option<&Question>
+    ensures value { option_copied result ≡ question book.now attempt slot }
+    ensures kept { All IsKept book.now → IfSome result (λ q. IsQuestion q.now) }
 {
-    let bound = bound(records, attempt, slot)?;
-    version(records, bound.entry, bound.version)
+    let bound = book.bound(attempt, slot)?;
+    book.version(bound.entry, bound.version)
 }
 
 /// What the shard learns where it binds this version.
 fn learned_of(
     alloc: Global,
-    records: &[Record],
+    book: &Book,
     planned: &Planned,
     question: &Question,
 ) -> Result<Listed<Learned>, NoMemory>
-    ensures { IfOk result (λ learned. learned ≡ new_versions records.now (learned_as (planned.now, question.now) ∷ [])) }
+    ensures { IfOk result (λ learned. learned ≡ new_versions book.now (learned_as (planned.now, question.now) ∷ [])) }
 {
     let mut items = Vec::new(alloc);
-    if version(records, planned.entry, planned.version).is_none() {
+    if book.version(planned.entry, planned.version).is_none() {
         items.push(Learned {
             entry: planned.entry,
             version: planned.version,
@@ -100,7 +83,7 @@ fn same_shape(one: Shape, other: Shape) -> bool
 /// The event of a target: a newer version of the same shape is bound to it, and one of another shape is skipped.
 fn rebound_or_skipped(
     alloc: Global,
-    records: &[Record],
+    book: &Book,
     job: &Job,
     attempt: AttemptId,
     slot: u16,
@@ -110,7 +93,7 @@ fn rebound_or_skipped(
 ) -> Result<Event, NoMemory>
     requires old { IsQuestion old.now }
     requires newer { IsQuestion newer.now }
-    ensures { IfOk result (λ event. event ≡ rebound_or_skipped records.now job.now attempt slot planned.now old.now newer.now) }
+    ensures { IfOk result (λ event. event ≡ rebound_or_skipped book.now job.now attempt slot planned.now old.now newer.now) }
 {
     let (was, is) = (shape_of(old), shape_of(newer));
     if !same_shape(was, is) {
@@ -132,23 +115,23 @@ fn rebound_or_skipped(
             max: planned.max,
             at: job.position,
         },
-        learned: learned_of(alloc, records, planned, newer)?,
+        learned: learned_of(alloc, book, planned, newer)?,
     })
 }
 
 /// The event of a target, if the job's plan has its slot.
 fn target_event(
     alloc: Global,
-    records: &[Record],
+    book: &Book,
     job: &Job,
     attempt: AttemptId,
     slot: u16,
 ) -> Result<Option<Event>, NoMemory>
-    requires sound { IsSound records.now }
+    requires sound { IsSound book.now }
     requires questions { All IsQuestion job.now.plan.questions }
-    ensures { IfOk result (λ event. event ≡ target_event records.now job.now (attempt, slot)) }
+    ensures { IfOk result (λ event. event ≡ target_event book.now job.now (attempt, slot)) }
 {
-    let Some(old) = question_of(records, attempt, slot) else {
+    let Some(old) = question_of(book, attempt, slot) else {
         return Ok(None);
     };
     let Some(planned) = planned_at(job.plan.slots.as_slice(), slot) else {
@@ -157,7 +140,7 @@ fn target_event(
     let Some(newer) = question_at(job.plan.questions.as_slice(), slot) else {
         return Ok(None);
     };
-    let event = rebound_or_skipped(alloc, records, job, attempt, slot, planned, old, newer)?;
+    let event = rebound_or_skipped(alloc, book, job, attempt, slot, planned, old, newer)?;
     Ok(Some(event))
 }
 
@@ -178,15 +161,15 @@ fn record_of(moment: u64, caller: u32, owner: u32, event: Event) -> Record
 /// The record of the first target, or of the job that is done.
 fn put_target(
     alloc: Global,
-    records: &[Record],
+    book: &Book,
     now: u64,
     caller: u32,
     job: &Job,
     target: Option<(AttemptId, u16)>,
 ) -> Result<Option<Record>, NoMemory>
-    requires sound { IsSound records.now }
+    requires sound { IsSound book.now }
     requires questions { All IsQuestion job.now.plan.questions }
-    ensures { IfOk result (λ put. put ≡ put_target records.now now caller job.now target) }
+    ensures { IfOk result (λ put. put ≡ put_target book.now now caller job.now target) }
 {
     let Some((attempt, slot)) = target else {
         let done = Event::JobDone {
@@ -194,32 +177,32 @@ fn put_target(
             quiz: job.plan.quiz,
             position: job.position,
         };
-        return Ok(Some(record_of(time(records, 0, now), caller, 0, done)));
+        return Ok(Some(record_of(book.time(0, now), caller, 0, done)));
     };
-    let Some(event) = target_event(alloc, records, job, attempt, slot)? else {
+    let Some(event) = target_event(alloc, book, job, attempt, slot)? else {
         return Ok(None);
     };
-    let moment = time(records, attempt.user, now);
+    let moment = book.time(attempt.user, now);
     Ok(Some(record_of(moment, caller, attempt.user, event)))
 }
 
 /// What a worker's request comes to. One target is taken, and the job is done where none is left.
 pub(crate) fn work_on(
     alloc: Global,
-    records: &[Record],
+    book: &Book,
     now: u64,
     caller: u32,
     job: &Job,
 ) -> Result<Work, NoMemory>
-    requires sound { IsSound records.now }
+    requires sound { IsSound book.now }
     requires questions { All IsQuestion job.now.plan.questions }
-    ensures { IfOk result (IsWork records.now now caller job.now) }
+    ensures { IfOk result (IsWork book.now now caller job.now) }
 {
-    if let Some(before) = done_at(records, job.number) {
-        return Ok(Work::AlreadyDone(before as u64 + 1));
+    if let Some(place) = book.done_place(job.number) {
+        return Ok(Work::AlreadyDone(place));
     }
-    let target = first_target(records, job);
-    match put_target(alloc, records, now, caller, job, target)? {
+    let target = first_target(alloc, book, job)?;
+    match put_target(alloc, book, now, caller, job, target)? {
         Some(record) => Ok(Work::Put(record)),
         None => Ok(Work::NoSlot),
     }

@@ -274,6 +274,14 @@ impl SlotRun {
         &self.bound
     }
 
+    /// Whether `act` would keep a step that it doesn't refuse, or find it the same as before. It counts no grading.
+    pub fn moved(&self, step: &Step) -> Moved
+        requires { (q : Question) × IsBound self.now q }
+        ensures { result ≡ moved self.now.steps step.now }
+    {
+        self.player.moved(&self.steps, step)
+    }
+
     /// The steps taken, in order.
     pub fn steps(&self) -> &[Step]
         ensures value { result.now ≡ self.now.steps }
@@ -282,8 +290,8 @@ impl SlotRun {
         &self.steps
     }
 
-    /// The first cause for which a step is refused.
-    fn cause(&self, question: &Question, step: &Step) -> Option<Refusal>
+    /// The first cause for which `act` refuses a step, if it does. It counts no grading.
+    pub fn cause(&self, question: &Question, step: &Step) -> Option<Refusal>
         requires { IsBound self.now question.now }
         ensures { result ≡ step_cause (behaviour_of self.now) question.now self.now.bound.max self.now.steps step.now }
     {

@@ -4,7 +4,6 @@ use Rattle.qz_terms.specs.declared.ask.Ask.{Ask}
 use Rattle.qz_terms.specs.declared.people.Caller.{Caller}
 use Rattle.qz_terms.specs.declared.people.Caller.TheVariants as caller
 use Rattle.qz_terms.specs.declared.request.Request.{Request}
-use Rattle.qz_terms.specs.declared.request.Request.TheVariants as request
 use Rattle.qz_terms.specs.Cause.{is_keyed, is_keyless}
 use Rattle.qz_terms.specs.Kept.{KeepsAsked, asks_described, is_moment}
 use Rattle.qz_wire.specs.declared.verbs.Verb.{Verb}
@@ -14,7 +13,7 @@ use Rattle.qz_wire.specs.Numbered.{◌>>=◌, line_at as word_at, or_line as or_
 use Rattle.qz_wire.specs.Requests.{request_of}
 use Rattle.qz_wire.specs.Words.{moment_of, token_of, key_of}
 
--- the requests about attempts and grades that are read so far
+-- the requests about attempts and grades
 abbrev pub attempt_verb_of : List ℕ → Option Verb
 attempt_verb_of word =
     if bytes_eq word (codes "start") then Some verb.Start
@@ -23,15 +22,16 @@ attempt_verb_of word =
     else (if bytes_eq word (codes "again") then Some verb.Again
     else (if bytes_eq word (codes "finish") then Some verb.Finish
     else (if bytes_eq word (codes "mark") then Some verb.Mark
+    else (if bytes_eq word (codes "work") then Some verb.Work
     else (if bytes_eq word (codes "settle") then Some verb.Settle
     else (if bytes_eq word (codes "live") then Some verb.Live
     else (if bytes_eq word (codes "view") then Some verb.View
     else (if bytes_eq word (codes "total") then Some verb.Total
     else (if bytes_eq word (codes "page") then Some verb.Page
     else (if bytes_eq word (codes "grade") then Some verb.Grade
-    else (if bytes_eq word (codes "report") then Some verb.Report else None))))))))))))
+    else (if bytes_eq word (codes "report") then Some verb.Report else None)))))))))))))
 
--- all requests that are read so far
+-- all requests
 abbrev pub verb_of : List ℕ → Option Verb
 verb_of word =
     if bytes_eq word (codes "user") then Some verb.User
@@ -47,12 +47,16 @@ verb_of word =
     else (if bytes_eq word (codes "policy") then Some verb.Policy
     else (if bytes_eq word (codes "times") then Some verb.Times
     else (if bytes_eq word (codes "override") then Some verb.Override
-    else (if bytes_eq word (codes "bank") then Some verb.Bank else attempt_verb_of word)))))))))))))
+    else (if bytes_eq word (codes "regrade") then Some verb.Regrade
+    else (if bytes_eq word (codes "jobs") then Some verb.Jobs
+    else (if bytes_eq word (codes "bank") then Some verb.Bank else attempt_verb_of word)))))))))))))))
 
--- a request that only looks has no key, nor has one that ends an attempt whose time is over, and any other has one
+-- A request that only looks has no key, nor has one that does a step of a job or ends an attempt whose time is over. Any other has one.
 abbrev pub wants_key : Verb → Bool
+wants_key verb.Work = false
 wants_key verb.Settle = false
 wants_key verb.Live = false
+wants_key verb.Jobs = false
 wants_key verb.View = false
 wants_key verb.Total = false
 wants_key verb.Page = false
@@ -81,46 +85,14 @@ ask_of words = do
 
 -- ---- what can be asked
 
--- the requests that are read so far
-abbrev pub IsRead : Request → Type 0
-IsRead (request.User name role token) = Unit {0}
-IsRead (request.Group name) = Unit {0}
-IsRead (request.Member group user) = Unit {0}
-IsRead (request.Import gift) = Unit {0}
-IsRead (request.Edit entry gift) = Unit {0}
-IsRead (request.Tune entry penalty hints) = Unit {0}
-IsRead (request.Quiz name behaviour) = Unit {0}
-IsRead (request.Slot quiz entry max) = Unit {0}
-IsRead (request.Ready quiz) = Unit {0}
-IsRead (request.Remax quiz slot max) = Unit {0}
-IsRead (request.Policy quiz method grade) = Unit {0}
-IsRead (request.Times quiz opens closes limit allowed handling grace review) = Unit {0}
-IsRead (request.Override quiz whom number opens closes limit allowed) = Unit {0}
-IsRead (request.Start quiz) = Unit {0}
-IsRead (request.Save attempt slot certainty response) = Unit {0}
-IsRead (request.Submit attempt slot certainty response) = Unit {0}
-IsRead (request.Again attempt slot) = Unit {0}
-IsRead (request.Finish attempt) = Unit {0}
-IsRead (request.Mark attempt slot mark) = Unit {0}
-IsRead (request.Settle attempt) = Unit {0}
-IsRead (request.Live shard attempt) = Unit {0}
-IsRead (request.View attempt slot) = Unit {0}
-IsRead (request.Total attempt) = Unit {0}
-IsRead (request.Page attempt) = Unit {0}
-IsRead (request.Grade quiz owner) = Unit {0}
-IsRead (request.Report quiz) = Unit {0}
-IsRead (request.Bank entry version) = Unit {0}
-IsRead x = ⊥
-
 -- whoever writes a line has a token
 abbrev pub HasToken : Caller → Type 0
 HasToken (caller.Token token) = Unit {0}
 HasToken caller.Worker = ⊥
 
--- what a line asks: by a token, a request that is read, which has a key where it has to, and all is in range
+-- what a line asks: by a token, a request that has a key where it has to, and all is in range
 pub record CanBeAsked (ask : Ask) (moment : ℕ) : Type 0 where
   pub token : HasToken ask.caller
-  pub read : IsRead ask.request
   pub keyed : is_keyed ask ≡ true
   pub kept : KeepsAsked ask.request
   pub described : asks_described ask.request ≡ true
@@ -128,7 +100,6 @@ pub record CanBeAsked (ask : Ask) (moment : ℕ) : Type 0 where
 
 -- a request of this command
 pub record IsOfVerb (v : Verb) (x : Request) : Type 0 where
-  pub read : IsRead x
   pub keyless : is_keyless x ≡ not (wants_key v)
   pub kept : KeepsAsked x
   pub described : asks_described x ≡ true

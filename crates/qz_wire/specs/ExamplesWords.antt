@@ -23,7 +23,7 @@ use Rattle.qz_wire.specs.Asking.{ask_of}
 use Rattle.qz_wire.specs.BankWords.{hints_of, name_of}
 use Rattle.qz_wire.specs.Escapes.{text_word}
 use Rattle.qz_wire.specs.Replies.{reply_words}
-use Rattle.qz_wire.specs.Requests.{policy_of, times_of, override_of, mark_request_of, settle_of, live_of, view_of, total_of}
+use Rattle.qz_wire.specs.Requests.{policy_of, times_of, override_of, mark_request_of, regrade_of, work_of, settle_of, live_of, jobs_of, view_of, total_of}
 use Rattle.qz_wire.specs.Words.{text_of, words_of}
 
 pub escapes : text_of (codes "a\\sb\\n\\\\s") ≡ Some (codes "a b\n\\s")
@@ -188,9 +188,26 @@ pub a_key_is_missing : ask_of (words_of (codes "5 root - mark 2.1 3 1")) ≡ Err
 unfolding ask_of
 a_key_is_missing = refl
 
-pub not_read_yet : ask_of (words_of (codes "5 root k regrade 1")) ≡ Err (record { place = 4; rule = 0 })
+pub no_command : ask_of (words_of (codes "5 root k regrades 1")) ≡ Err (record { place = 4; rule = 0 })
 unfolding ask_of
-not_read_yet = refl
+no_command = refl
+
+pub asking_for_a_job : ask_of (words_of (codes "5 root k regrade 1")) ≡ Ok (5, record { caller = caller.Token (codes "root"); key = Some (codes "k"); request = request.Regrade 1 })
+unfolding ask_of regrade_of
+asking_for_a_job = refl
+
+-- the number of a shard is below 256
+pub working : (work_of (words_of (codes "1 255")) ≡ Ok (request.Work 1 255)) × (work_of (words_of (codes "1 256")) ≡ Err 6)
+unfolding work_of
+working = (refl, refl)
+
+pub counting_jobs : ask_of (words_of (codes "5 root - jobs")) ≡ Ok (5, record { caller = caller.Token (codes "root"); key = None; request = request.Jobs })
+unfolding ask_of jobs_of
+counting_jobs = refl
+
+pub no_word_behind_jobs : ask_of (words_of (codes "5 root - jobs 1")) ≡ Err (record { place = 5; rule = 0 })
+unfolding ask_of jobs_of
+no_word_behind_jobs = refl
 
 -- ---- replies
 

@@ -131,6 +131,23 @@ override_of words = do
   allowed ← word_at (or_dash allowed_of) 11 limit.1
   end_at 12 (request.Override quiz.0 whom.0 number.0 opens.0 closes.0 limit.0 allowed.0) allowed.1
 
+-- ---- jobs
+
+unfoldable pub regrade_of : List (List ℕ) → Result Request ℕ
+regrade_of words = do
+  quiz ← word_at number_of 5 words
+  end_at 6 (request.Regrade quiz.0) quiz.1
+
+-- a job and the shard in which it goes on
+unfoldable pub work_of : List (List ℕ) → Result Request ℕ
+work_of words = do
+  job ← word_at number_of 5 words
+  shard ← word_at shard_of 6 job.1
+  end_at 7 (request.Work job.0 shard.0) shard.1
+
+unfoldable pub jobs_of : List (List ℕ) → Result Request ℕ
+jobs_of words = end_at 5 request.Jobs words
+
 -- ---- attempts
 
 unfoldable pub start_of : List (List ℕ) → Result Request ℕ
@@ -227,14 +244,17 @@ request_of verb.Remax words = at_word (remax_of words)
 request_of verb.Policy words = at_word (policy_of words)
 request_of verb.Times words = at_word (times_of words)
 request_of verb.Override words = at_word (override_of words)
+request_of verb.Regrade words = at_word (regrade_of words)
 request_of verb.Start words = at_word (start_of words)
 request_of verb.Save words = at_word (save_of words)
 request_of verb.Submit words = at_word (submit_of words)
 request_of verb.Again words = at_word (again_of words)
 request_of verb.Finish words = at_word (finish_of words)
 request_of verb.Mark words = at_word (mark_request_of words)
+request_of verb.Work words = at_word (work_of words)
 request_of verb.Settle words = at_word (settle_of words)
 request_of verb.Live words = at_word (live_of words)
+request_of verb.Jobs words = at_word (jobs_of words)
 request_of verb.View words = at_word (view_of words)
 request_of verb.Total words = at_word (total_of words)
 request_of verb.Page words = at_word (page_of words)

@@ -9,11 +9,11 @@ ghost use Rattle.qz_wire.specs.Words.{words_of, words_after, moment_of, last_mom
 
 use crate::arguments::{malformed, token_at};
 use crate::attempt_requests::{
-    again, finish, grade, live, mark, page, report, save, settle, start, submit, total, view,
+    again, finish, grade, live, mark, page, report, save, settle, start, submit, total, view, work,
 };
 use crate::catalog_requests::{
-    bank, edit, group, import, member, policy, quiz, ready, remax, set_otherwise, slot, times,
-    tune, user,
+    bank, edit, group, import, jobs, member, policy, quiz, ready, regrade, remax, set_otherwise,
+    slot, times, tune, user,
 };
 use crate::verbs::{Verb, takes_key, verb_in};
 use crate::words::{WordFault, first_word, key_in, moment_in, next_word};
@@ -43,14 +43,17 @@ pub fn request(alloc: Global, verb: Verb, rest: &[u8]) -> Result<Request, Refusa
         Verb::Policy => Ok(policy(rest)?),
         Verb::Times => Ok(times(rest)?),
         Verb::Override => Ok(set_otherwise(rest)?),
+        Verb::Regrade => Ok(regrade(rest)?),
         Verb::Start => Ok(start(rest)?),
         Verb::Save => Ok(save(alloc, rest)?),
         Verb::Submit => Ok(submit(alloc, rest)?),
         Verb::Again => Ok(again(rest)?),
         Verb::Finish => Ok(finish(rest)?),
         Verb::Mark => Ok(mark(rest)?),
+        Verb::Work => Ok(work(rest)?),
         Verb::Settle => Ok(settle(rest)?),
         Verb::Live => Ok(live(rest)?),
+        Verb::Jobs => Ok(jobs(rest)?),
         Verb::View => Ok(view(rest)?),
         Verb::Total => Ok(total(rest)?),
         Verb::Page => Ok(page(rest)?),

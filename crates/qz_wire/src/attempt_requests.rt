@@ -2,7 +2,7 @@
 
 ghost use Rattle.std.specs.Prelude.{IfOk};
 ghost use Rattle.qz_wire.specs.Asking.{IsOfVerb};
-ghost use Rattle.qz_wire.specs.Requests.{start_of, save_of, submit_of, again_of, finish_of, mark_request_of, settle_of, live_of, view_of, total_of, page_of, grade_of, report_of};
+ghost use Rattle.qz_wire.specs.Requests.{start_of, save_of, submit_of, again_of, finish_of, mark_request_of, work_of, settle_of, live_of, view_of, total_of, page_of, grade_of, report_of};
 ghost use Rattle.qz_wire.specs.Words.{words_after, Reads};
 ghost use Rattle.qz_wire.specs.declared.verbs.Verb.{Verb};
 
@@ -94,6 +94,17 @@ pub fn mark(mut rest: &[u8]) -> Result<Request, WordFault>
         slot,
         mark,
     })
+}
+
+#[tactic(auto, unfolding(crate::specs::Requests::work_of))]
+pub fn work(mut rest: &[u8]) -> Result<Request, WordFault>
+    ensures value { Reads (λ x. x) result (work_of (words_after rest.now)) }
+    ensures verb { IfOk result (IsOfVerb Verb.Work) }
+{
+    let job = number_at(&mut rest, 5)?;
+    let shard = shard_at(&mut rest, 6)?;
+    end(rest, 7)?;
+    Ok(Request::Work { job, shard })
 }
 
 #[tactic(auto, unfolding(crate::specs::Requests::settle_of))]

@@ -3,7 +3,7 @@
 ghost use Rattle.std.specs.Prelude.{IfOk};
 ghost use Rattle.qz_wire.specs.Asking.{IsOfVerb};
 ghost use Rattle.qz_wire.specs.Faults.{ReadsOr};
-ghost use Rattle.qz_wire.specs.Requests.{user_of, group_of, member_of, import_of, edit_of, tune_of, bank_of, quiz_of, slot_request_of, ready_of, remax_of, policy_of, times_of, override_of};
+ghost use Rattle.qz_wire.specs.Requests.{user_of, group_of, member_of, import_of, edit_of, tune_of, bank_of, quiz_of, slot_request_of, ready_of, remax_of, policy_of, times_of, override_of, regrade_of, jobs_of};
 ghost use Rattle.qz_wire.specs.Words.{words_after, Reads};
 ghost use Rattle.qz_wire.specs.declared.verbs.Verb.{Verb};
 
@@ -209,4 +209,23 @@ pub fn set_otherwise(mut rest: &[u8]) -> Result<Request, WordFault>
         limit,
         allowed,
     })
+}
+
+#[tactic(auto, unfolding(crate::specs::Requests::regrade_of))]
+pub fn regrade(mut rest: &[u8]) -> Result<Request, WordFault>
+    ensures value { Reads (λ x. x) result (regrade_of (words_after rest.now)) }
+    ensures verb { IfOk result (IsOfVerb Verb.Regrade) }
+{
+    let quiz = number_at(&mut rest, 5)?;
+    end(rest, 6)?;
+    Ok(Request::Regrade { quiz })
+}
+
+#[tactic(auto, unfolding(crate::specs::Requests::jobs_of))]
+pub fn jobs(rest: &[u8]) -> Result<Request, WordFault>
+    ensures value { Reads (λ x. x) result (jobs_of (words_after rest.now)) }
+    ensures verb { IfOk result (IsOfVerb Verb.Jobs) }
+{
+    end(rest, 5)?;
+    Ok(Request::Jobs)
 }

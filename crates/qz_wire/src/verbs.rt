@@ -5,7 +5,7 @@ ghost use Rattle.qz_wire.specs.Asking.{attempt_verb_of, verb_of, takes_key};
 
 use qz_text::Text;
 
-/// The requests that are read so far.
+/// The commands of requests.
 #[derive(Clone, Copy, PartialEq, Eq)]
 pub enum Verb {
     User,
@@ -21,14 +21,17 @@ pub enum Verb {
     Policy,
     Times,
     Override,
+    Regrade,
     Start,
     Save,
     Submit,
     Again,
     Finish,
     Mark,
+    Work,
     Settle,
     Live,
+    Jobs,
     View,
     Total,
     Page,
@@ -67,6 +70,10 @@ pub fn verb_in(word: &[u8]) -> Option<Verb>
         Some(Verb::Times)
     } else if word == b"override".as_slice() {
         Some(Verb::Override)
+    } else if word == b"regrade".as_slice() {
+        Some(Verb::Regrade)
+    } else if word == b"jobs".as_slice() {
+        Some(Verb::Jobs)
     } else if word == b"bank".as_slice() {
         Some(Verb::Bank)
     } else {
@@ -90,6 +97,8 @@ fn attempt_verb_in(word: &[u8]) -> Option<Verb>
         Some(Verb::Finish)
     } else if word == b"mark".as_slice() {
         Some(Verb::Mark)
+    } else if word == b"work".as_slice() {
+        Some(Verb::Work)
     } else if word == b"settle".as_slice() {
         Some(Verb::Settle)
     } else if word == b"live".as_slice() {
@@ -114,8 +123,10 @@ pub fn takes_key(verb: Verb, key: &Option<Text>) -> bool
     ensures { result ≡ takes_key verb key.now }
 {
     match verb {
-        Verb::Settle
+        Verb::Work
+        | Verb::Settle
         | Verb::Live
+        | Verb::Jobs
         | Verb::View
         | Verb::Total
         | Verb::Page
@@ -135,6 +146,7 @@ pub fn takes_key(verb: Verb, key: &Option<Text>) -> bool
         | Verb::Policy
         | Verb::Times
         | Verb::Override
+        | Verb::Regrade
         | Verb::Start
         | Verb::Save
         | Verb::Submit

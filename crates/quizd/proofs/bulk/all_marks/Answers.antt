@@ -1,7 +1,10 @@
-use Rattle.std.proofs.Common.{◌∙◌}
-use Rattle.qz_terms.specs.Serial.{part_list}
+use Rattle.std.proofs.Common.{◌≡◌, length, ap, ◌∙◌}
+use Rattle.qz_terms.specs.Serial.{Lists, part_list}
 use Rattle.quizd.proofs.BulkLemmas.{more_marks}
 use Rattle.quizd.proofs.bulk.all_marks.Goals as goal
+
+pub marks_onto-requires : goal.marks_onto-requires
+marks_onto-requires c = record { one = ap (λ (l : Lists). length l.parts) c.loop-before.invariant.1 ∙ c.requires.one }
 
 pub loop-before-preserved : goal.loop-before-preserved
 loop-before-preserved c =

@@ -1,21 +1,34 @@
-use Rattle.std.proofs.Common.{sym, ap, ◌∙◌, arith}
+use Rattle.std.proofs.Common.{◌≡◌, List, length, map, ap, ◌∙◌, arith}
 use Rattle.std.specs.List.{list_all}
+use Rattle.std.proofs.lemmas.List.{take_all}
+use Rattle.qz_terms.specs.declared.plan.Planned.{Planned}
+use Rattle.qz_terms.specs.Catalog.{slots}
 use Rattle.qz_terms.specs.Kept.{is_planned}
+use Rattle.qz_roster.proofs.NextLemmas.{slots-length}
+use Rattle.qz_catalog.specs.Readings.{planned_by}
+use Rattle.qz_catalog.proofs.Accepted.{few-slots}
 use Rattle.qz_catalog.proofs.Marks.{planned-slots}
-use Rattle.qz_catalog.proofs.Plans.{laid-all, laid-more, laid-same}
-use Rattle.qz_catalog.proofs.planning.slots.Goals.{in-Some+in_ok-push, in_default}
+use Rattle.qz_catalog.proofs.Slots.{laid-out}
 use Rattle.qz_catalog.proofs.planning.slots.Goals as goal
 
-pub loop-record-preserved : goal.loop-record-preserved
-loop-record-preserved c =
-    let list = c.args.records.now in
-    elim c.match-slot_by.branch [
-      | in-Some+in_ok-push w ↦ rw w.items-is (laid-more list c.args.quiz c.loop-record.record-index c.record-item.result c.loop-record.items.items _ w.in-Some.made w.planned.result _ c.requires.legal c.loop-record-test.true c.record-item.is (sym w.in-Some.is ∙ c.slot_by.ensures) (let count = w.len.ensures in omega (arith, count)) w.planned.ensures w.in_ok-push.ensures.items c.loop-record.invariant)
-      | in_default w ↦ rw w.items-is (laid-same list c.args.quiz c.loop-record.record-index c.record-item.result c.loop-record.items.items c.loop-record-test.true c.record-item.is (sym w.in_default.is ∙ c.slot_by.ensures) c.loop-record.invariant)
-    ]
-
 pub returns-clause-value : goal.returns-clause-value
-returns-clause-value c = laid-all c.args.records.now c.args.quiz c.loop-record.record-index c.loop-record.items.items c.loop-record-test.false c.loop-record.invariant
+returns-clause-value c =
+    c.loop-slot.invariant ∙ ap (map (planned_by c.args.book.now.records.items)) (take_all c.loop-slot.slot-index c.slots_made-made.result.now c.loop-slot-test.false)
+    ∙ laid-out c.args.book.now.records.items c.args.quiz c.slots_made-made.result.now c.slots_made-made.ensures
+
+pub returns-clause-few : goal.returns-clause-few
+returns-clause-few c =
+    let all : c.loop-slot.items.items ≡ slots c.args.book.now.records.items c.args.quiz =
+    c.loop-slot.invariant ∙ ap (map (planned_by c.args.book.now.records.items)) (take_all c.loop-slot.slot-index c.slots_made-made.result.now c.loop-slot-test.false)
+    ∙ laid-out c.args.book.now.records.items c.args.quiz c.slots_made-made.result.now c.slots_made-made.ensures in
+    let long = ap (λ (l : List Planned). length l) all in
+    let count = slots-length c.args.book.now.records.items c.args.quiz in
+    let few = few-slots c.args.book.now.records.items c.args.quiz c.requires.held.legal in
+    omega arith
 
 pub returns-clause-marks : goal.returns-clause-marks
-returns-clause-marks c = ap (list_all is_planned) (laid-all c.args.records.now c.args.quiz c.loop-record.record-index c.loop-record.items.items c.loop-record-test.false c.loop-record.invariant) ∙ planned-slots c.args.records.now c.args.quiz c.requires.legal
+returns-clause-marks c =
+    let all : c.loop-slot.items.items ≡ slots c.args.book.now.records.items c.args.quiz =
+    c.loop-slot.invariant ∙ ap (map (planned_by c.args.book.now.records.items)) (take_all c.loop-slot.slot-index c.slots_made-made.result.now c.loop-slot-test.false)
+    ∙ laid-out c.args.book.now.records.items c.args.quiz c.slots_made-made.result.now c.slots_made-made.ensures in
+    ap (list_all is_planned) all ∙ planned-slots c.args.book.now.records.items c.args.quiz c.requires.held.legal

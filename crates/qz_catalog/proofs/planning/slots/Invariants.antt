@@ -1,5 +1,6 @@
-use Rattle.qz_catalog.proofs.Plans.{IsLaidOut}
+use Rattle.std.proofs.Common.{◌≡◌, map, take}
+use Rattle.qz_catalog.specs.Readings.{planned_by}
 use Rattle.qz_catalog.proofs.planning.slots.Given as goal
 
-abbrev pub invariant-loop-record : goal.invariant-loop-record
-invariant-loop-record l = IsLaidOut l.records l.quiz l.record-index l.items.items
+abbrev pub invariant-loop-slot : goal.invariant-loop-slot
+invariant-loop-slot l = l.items.items ≡ map (planned_by l.book.records.items) (take l.slot-index l.made)

@@ -1,10 +1,13 @@
-use Rattle.std.proofs.Common.{sym, ap, ◌∙◌, ℕ, Option, option_map}
-use Rattle.std.specs.Prelude.{ℤ, unwrap_or}
-use Rattle.qz_catalog.proofs.Slots.{entry-told}
+use Rattle.std.proofs.Common.{length, inl, inr}
+use Rattle.qz_catalog.proofs.Slots.{entry-at, entry-past, place-past}
 use Rattle.qz_catalog.proofs.quizzes.slot_entry.Goals as goal
 
-pub returns-in-Some : goal.returns-in-Some
-returns-in-Some c = sym (entry-told c.args.records.now c.args.quiz c.args.number ∙ ap (λ (o : Option (ℕ × ℤ)). unwrap_or (option_map (λ (s : ℕ × ℤ). s.0) o) 0) (sym c.slot.ensures ∙ c.in-Some.is))
+pub returns-then-number-slots : goal.returns-then-number-slots
+returns-then-number-slots c = entry-at c.args.book.now.records.items c.args.quiz c.args.number c.from-number.result c.slots_made-slots.result.now c.index-slots-number.result c.slots_made-slots.ensures c.from-number.ensures c.if-number-ge1.true c.if-number-slots.true
 
-pub returns-in-None : goal.returns-in-None
-returns-in-None c = sym (entry-told c.args.records.now c.args.quiz c.args.number ∙ ap (λ (o : Option (ℕ × ℤ)). unwrap_or (option_map (λ (s : ℕ × ℤ). s.0) o) 0) (sym c.slot.ensures ∙ c.in-None.is))
+pub returns-else-number-ge1 : goal.returns-else-number-ge1
+returns-else-number-ge1 c = entry-past c.args.book.now.records.items c.args.quiz c.args.number c.from-number.result c.slots_made-slots.result.now c.slots_made-slots.ensures c.from-number.ensures
+    (elim c.else-number-ge1.either [
+      | inl past ↦ place-past (length c.slots_made-slots.result.now) c.from-number.result (inr past.1)
+      | inr none ↦ place-past (length c.slots_made-slots.result.now) c.from-number.result (inl none)
+    ])

@@ -10,4 +10,4 @@ then_some-is true x = refl
 then_some-is false x = refl
 
 pub loop-attempt-preserved : goal.loop-attempt-preserved
-loop-attempt-preserved c = c.or-found.ensures ∙ first_passing_at (goes_on c.args.records.now c.args.settings.now c.args.moment) c.args.attempts.now c.loop-attempt.attempt-index _ c.loop-attempt.found c.then_some-here.result c.goes_on.result c.loop-attempt-test.true c.goes_on.ensures (c.then_some-here.ensures ∙ then_some-is c.goes_on.result _) c.loop-attempt.invariant
+loop-attempt-preserved c = c.or-found.ensures ∙ first_passing_at (goes_on c.args.book.now c.args.settings.now c.args.moment) c.args.attempts.now c.loop-attempt.attempt-index _ c.loop-attempt.found c.then_some-here.result c.goes_on.result c.loop-attempt-test.true c.goes_on.ensures (c.then_some-here.ensures ∙ then_some-is c.goes_on.result _) c.loop-attempt.invariant

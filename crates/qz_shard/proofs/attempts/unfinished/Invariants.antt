@@ -5,4 +5,4 @@ use Rattle.qz_terms.specs.Lists.{first_of}
 use Rattle.qz_shard.proofs.attempts.unfinished.Given as goal
 
 abbrev pub invariant-loop-attempt : goal.invariant-loop-attempt
-invariant-loop-attempt l = l.found ≡ first_of (filter (goes_on l.records l.settings l.moment) (take l.attempt-index l.attempts))
+invariant-loop-attempt l = l.found ≡ first_of (filter (goes_on l.book l.settings l.moment) (take l.attempt-index l.attempts))

@@ -3,4 +3,4 @@ use Rattle.qz_shard.proofs.GradeLemmas.{ArePut}
 use Rattle.qz_shard.proofs.grades.finished_rows.Given as goal
 
 abbrev pub invariant-loop-attempt : goal.invariant-loop-attempt
-invariant-loop-attempt g l = ArePut l.records l.quiz (take l.attempt-index l.attempts) l.rows.finished
+invariant-loop-attempt l = ArePut l.book l.quiz (take l.attempt-index l.attempts) l.rows.finished

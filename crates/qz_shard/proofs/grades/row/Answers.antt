@@ -7,16 +7,16 @@ use Rattle.qz_shard.proofs.GradeLemmas.{totals-put}
 use Rattle.qz_shard.proofs.Numbered.{attempts-numbered, attempts-users}
 use Rattle.qz_shard.proofs.grades.row.Goals as goal
 
-pub finished_rows-requires-clause-numbered : goal.finished_rows-requires-clause-numbered
-finished_rows-requires-clause-numbered g c = rw (c.deref.ensures.value, c.in_ok-attempts.ensures) (attempts-numbered c.requires.sound.index c.requires.sound.count c.args.records.now c.args.quiz c.args.user c.requires.sound.held.legal)
+pub finished_rows-requires : goal.finished_rows-requires
+finished_rows-requires c = rw c.attempts.ensures (attempts-numbered c.requires.sound.index c.requires.sound.count c.args.book.now c.args.quiz c.args.user c.requires.sound.held.legal)
 
 pub returns : goal.returns
-returns g c =
-    let h = c.args.records.now in
+returns c =
+    let h = c.args.book.now in
     let q = c.args.quiz in
     let u = c.args.user in
     let legal = c.requires.sound.held.legal in
     let numbered = attempts-numbered c.requires.sound.index c.requires.sound.count h q u legal in
     let users = attempts-users c.requires.sound.index c.requires.sound.count h q u legal in
-    let read : totals_of c.in_ok-rows.rows.finished q u ≡ map (total h) (filter (is_finished h) (attempts h q u)) = rw (c.in_ok-rows.ensures, c.deref.ensures.value, c.in_ok-attempts.ensures) (totals-put h q u (attempts h q u) numbered.order users) in
+    let read : totals_of c.in_ok-rows.rows.finished q u ≡ map (total h) (filter (is_finished h) (attempts h q u)) = rw (c.in_ok-rows.ensures, c.attempts.ensures) (totals-put h q u (attempts h q u) numbered.order users) in
     c.row.ensures ∙ ap (λ (ts : List (Option ℤ)). row_of c.args.policy.now ts) read

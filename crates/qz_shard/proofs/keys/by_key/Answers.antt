@@ -1,13 +1,25 @@
-use Rattle.std.proofs.Common.{sym, ◌∙◌}
+use Rattle.std.proofs.Common.{◌≡◌, List, Some, get_or, sym, ap, subst, ◌∙◌}
+use Rattle.qz_terms.specs.declared.record.Record.{Record}
+use Rattle.qz_terms.specs.declared.reply.Reply.{Reply}
+use Rattle.qz_index.specs.Keys.{said_under}
 use Rattle.qz_terms.specs.Cause.{spells}
-use Rattle.qz_shard.proofs.DecisionLemmas.{key-nowhere, key-same, key-other}
+use Rattle.qz_shard.proofs.DecisionLemmas.{key-other, key-same, never-refused}
 use Rattle.qz_shard.proofs.keys.by_key.Goals as goal
 
-pub returns-in_default-place_of : goal.returns-in_default-place_of
-returns-in_default-place_of c = rw c.in-Some.is (key-nowhere (spells c.args.ask.now.request) c.args.caller c.in-Some.key c.args.records.now (sym c.place_of.ensures ∙ c.in_default-place_of.is))
-
 pub returns-then-spells : goal.returns-then-spells
-returns-then-spells c = rw c.in-Some.is (key-same (spells c.args.ask.now.request) c.args.caller c.in-Some.key c.args.records.now c.in-Some-place_of.at c.index-records-at.result (sym c.place_of.ensures ∙ c.in-Some-place_of.is) c.index-records-at.is (sym c.spells.ensures ∙ c.if-spells.true))
+returns-then-spells c =
+    let book = c.args.book.now in
+    let r = c.index-as_slice-replied.result in
+    let replied = c.in-Some-look.replied.now in
+    let item : r ≡ get_or book replied.at r = subst (λ (l : List Record). r ≡ get_or l replied.at r) c.as_slice.ensures c.index-as_slice-replied.is in
+    rw c.in-Some.is (key-same (spells c.args.ask.now.request) c.args.caller c.in-Some.key book replied.at r replied.reply c.in_ok-try_copy.field-0
+    (sym (c.in-Some-look.ensures.at book c.requires)) item (c.in-Some-look.ensures.reply book c.requires) c.in_ok-try_copy.ensures (sym c.spells.ensures ∙ c.if-spells.true))
 
 pub returns : goal.returns
-returns c = rw (c.in-Some.is, c.said_at.ensures) (key-other (spells c.args.ask.now.request) c.args.caller c.in-Some.key c.args.records.now c.in-Some-place_of.at c.index-records-at.result (sym c.place_of.ensures ∙ c.in-Some-place_of.is) c.index-records-at.is (sym c.spells.ensures ∙ c.if-spells.false))
+returns c =
+    let book = c.args.book.now in
+    let r = c.index-as_slice-replied.result in
+    let replied = c.in-Some-look.replied.now in
+    let item : r ≡ get_or book replied.at r = subst (λ (l : List Record). r ≡ get_or l replied.at r) c.as_slice.ensures c.index-as_slice-replied.is in
+    rw c.in-Some.is (key-other (spells c.args.ask.now.request) c.args.caller c.in-Some.key book replied.at r replied.reply c.in-Ok.place _
+    (sym (c.in-Some-look.ensures.at book c.requires)) item (c.in-Some-look.ensures.reply book c.requires) c.in-Ok.is (sym c.spells.ensures ∙ c.if-spells.false))

@@ -9,8 +9,8 @@ use Rattle.qz_shard.proofs.LookLemmas.{look-answered}
 use Rattle.qz_shard.proofs.looking.seen.Goals as goal
 
 pub returns : goal.returns
-returns g c =
-    let h = c.args.records.now in
+returns c =
+    let h = c.args.book.now in
     let user = c.args.user.now in
     let plan = c.args.plan.now in
     let ask = c.args.ask.now in

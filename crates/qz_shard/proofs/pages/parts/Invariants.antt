@@ -6,4 +6,4 @@ use Rattle.qz_terms.specs.Parts.{part}
 use Rattle.qz_shard.proofs.pages.parts.Given as goal
 
 abbrev pub invariant-loop-place : goal.invariant-loop-place
-invariant-loop-place g l = l.items.items ≡ map (part l.visible) (filter_map (slot l.records l.attempt) (places_to l.place))
+invariant-loop-place l = l.items.items ≡ map (part l.visible) (filter_map (slot l.book l.attempt) (places_to l.place))

@@ -1,5 +1,5 @@
 use Rattle.qz_shard.proofs.StepLemmas.{slot-some}
 use Rattle.qz_shard.proofs.stepping.fate_of_mark.Goals as goal
 
-pub slot_there-requires-clause-there : goal.slot_there-requires-clause-there
-slot_there-requires-clause-there g c = slot-some c.args.records.now c.args.user.now c.args.attempt c.args.place c.requires.sound c.requires.there
+pub slot_there-played-requires : goal.slot_there-played-requires
+slot_there-played-requires c = slot-some c.args.book.now c.args.user.now c.args.attempt c.args.place c.requires.sound c.requires.there

@@ -7,7 +7,7 @@ use Rattle.qz_shard.proofs.targets.first_left.Goals as goal
 
 pub loop-place-preserved : goal.loop-place-preserved
 loop-place-preserved c =
-    let test = is_target c.args.records.now c.args.job c.args.position c.args.attempt in
+    let test = is_target c.args.book.now c.args.job c.args.position c.args.attempt in
     let n = c.loop-place.place in
     c.found_or-found.ensures
     ∙ ap (λ (o : Option ℕ). option_or o (if test (n + 1) then Some (n + 1) else None)) c.loop-place.invariant

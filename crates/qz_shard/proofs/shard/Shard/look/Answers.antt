@@ -6,7 +6,7 @@ use Rattle.qz_shard.proofs.shard.Shard.look.Goals as goal
 
 pub returns-clause-alone : goal.returns-clause-alone
 returns-clause-alone g c = elim c.match-seen.branch [
-  | in-Ok w ↦ answered_alone c.args.self.now c.as_slice-records.result.now c.args.moment c.args.user.now c.args.plan.now c.args.ask.now w.in-Ok.reply c.match-seen.result _
-      (c.as_slice-records.ensures ∙ ap (λ (s : Holding). s.records) c.self.view_is) w.in-Ok.ensures w.result-is
+  | in-Ok w ↦ answered_alone c.args.self.now c.self.inside.book c.args.moment c.args.user.now c.args.plan.now c.args.ask.now w.in-Ok.reply c.match-seen.result _
+      (ap (λ (s : Holding). s.records) c.self.view_is) w.in-Ok.ensures w.result-is
   | in-Err w ↦ wanting_alone c.args.self.now c.args.moment c.args.user.now c.args.plan.now c.args.ask.now c.match-seen.result w.result-is
 ]

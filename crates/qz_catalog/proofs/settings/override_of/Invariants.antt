@@ -1,9 +1,0 @@
-use Rattle.std.proofs.Common.{◌≡◌, take}
-use Rattle.std.specs.Prelude.{filter_map}
-use Rattle.qz_grading.specs.Steps.{last_of}
-use Rattle.qz_terms.specs.declared.record.Record.{Record}
-use Rattle.qz_terms.specs.Catalog.{asked, override_by}
-use Rattle.qz_catalog.proofs.settings.override_of.Given as goal
-
-abbrev pub invariant-loop-record : goal.invariant-loop-record
-invariant-loop-record l = l.last ≡ last_of (filter_map (λ (r : Record). override_by l.quiz l.whom l.number (asked r)) (take l.record-index l.records))

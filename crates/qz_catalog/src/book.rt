@@ -1,0 +1,14 @@
+//! The records of a catalogue, and what is kept beside them.
+
+use qz_bank::Entries;
+use qz_roster::Roster;
+use qz_terms::Record;
+
+/// The records, the bank that they make, what else they tell, and for each of them the number that its reply shows, or 0.
+#[derive(Drop)]
+pub(crate) struct Book {
+    pub records: Vec<Record>,
+    pub entries: Entries,
+    pub roster: Roster,
+    pub shown: Vec<u32>,
+}

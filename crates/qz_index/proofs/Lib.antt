@@ -1,0 +1,9 @@
+pub mod Filled
+pub mod JobLemmas
+pub mod OwnerLemmas
+pub mod TextLemmas
+pub mod VersionLemmas
+pub mod KeyLemmas
+pub mod Sorting
+pub mod StartLemmas
+pub mod TakerLemmas

@@ -1,0 +1,6 @@
+pub mod Owners
+pub mod Versions
+pub mod Attempts
+pub mod Jobs
+pub mod Keys
+pub mod Indexed

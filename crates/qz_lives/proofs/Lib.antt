@@ -1,0 +1,15 @@
+pub mod Legality
+pub mod Keeping
+pub mod Effects
+pub mod Tellings
+pub mod Keys
+pub mod Places
+pub mod Rooms
+pub mod Changing
+pub mod Putting
+pub mod Following
+pub mod Loops
+pub mod Reading
+pub mod Growing
+pub mod Orders
+pub mod Lively

@@ -1,0 +1,4 @@
+pub mod Runs
+pub mod Ones
+pub mod Attempts
+pub mod Changes

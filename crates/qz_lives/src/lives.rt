@@ -1,0 +1,475 @@
+//! The attempts of a shard.
+
+ghost use Rattle.std.specs.Prelude.{◌≡◌, ◌+◌, ◌<◌, ◌≤◌, [], ◌∷◌, ◌++◌, List, length, filter, option_map, IfOk, IfSome, OnErr, OnOk, true, is_some, Some};
+ghost use Rattle.std.specs.Option.{option_copied};
+ghost use Rattle.std.specs.BTreeMap.{get};
+ghost use Rattle.qz_grading.specs.Steps.{is_answering, is_save};
+ghost use Rattle.qz_grading.specs.declared.refusal.AttemptId.{AttemptId};
+ghost use Rattle.qz_terms.specs.declared.record.Record.{Record};
+ghost use Rattle.qz_terms.specs.History as history;
+ghost use Rattle.qz_usage.specs.Usages.{IsTotal};
+ghost use Rattle.qz_decimal.specs.Numbers.{IsMaxMark, IsSlotMark};
+ghost use Rattle.qz_terms.specs.Lists.{how_many};
+ghost use Rattle.qz_usage.specs.Runs.{Run, bound_of};
+ghost use Rattle.qz_lives.specs.declared.live.Live.{Live};
+ghost use Rattle.qz_lives.specs.Attempts.{AreLives, IsSlotAt, begun_of, by_number, goes_on_in, key_of, live_in, run_in};
+ghost use Rattle.qz_lives.specs.Changes.{AreAlike, Becomes, CanAct, CanEnd, CanRebind, HasAbandoned, HasActed, HasEntry, HasFinished, HasRebound, IsCounted, IsLawful, IsReady, IsSame, IsTakenOut, Keeps, Knows, Leaves, gradings_by};
+ghost use Rattle.qz_lives.specs.Runs.{HaveRoom, IsRoomy};
+
+use crate::{Begun, Ending, Live, Prepared, Versions};
+use qz_decimal::Mark;
+use qz_grading::{AttemptId, Question, State, Step, Steps};
+use qz_terms::{Bound, Event, How, Record};
+use qz_text::{NoMemory, TryCopy};
+use qz_usage::SlotRun;
+use std::alloc::Global;
+use std::collections::BTreeMap;
+use std::ops::Bound as End;
+use std::sync::ledger::Ledger;
+
+/// The attempts of a shard, each with what its slots have come to, and in order those that go on.
+///
+/// What is read takes no memory, and its time grows with the logarithm of the number of attempts. Each clause of a reading
+/// holds for every list whose attempts these are.
+#[derive(Drop)]
+pub struct Lives {
+    /// An entry without an attempt is room for one that starts.
+    attempts: BTreeMap<(u32, u32), Option<Live>>,
+    /// Whether an attempt goes on. One that has ended has no entry.
+    going: BTreeMap<(u32, u32), bool>,
+}
+
+fn key_of(attempt: AttemptId) -> (u32, u32)
+    ensures { result ≡ key_of attempt }
+{
+    (attempt.user, attempt.nth)
+}
+
+/// How many of these steps are a Save, a Submit or an Again.
+fn answering(steps: &[Step]) -> usize
+    ensures { result ≡ how_many is_answering steps.now }
+{
+    steps.iter().filter(|step| step.is_answering()).count()
+}
+
+impl Lives {
+    /// No attempts. It takes no memory.
+    pub fn new(alloc: Global) -> Lives
+        ensures { AreLives result [] }
+    {
+        Lives {
+            attempts: BTreeMap::new(alloc),
+            going: BTreeMap::new(alloc),
+        }
+    }
+
+    /// What is kept of an attempt, if it was started.
+    fn attempt(&self, attempt: AttemptId) -> Option<&Live>
+        ensures { option_copied result ≡ live_in self.now attempt }
+    {
+        self.attempts.get(&key_of(attempt))?.as_ref()
+    }
+
+    /// How an attempt began, if it is there.
+    pub fn begun(&self, attempt: AttemptId) -> Option<Begun>
+        ensures { (h : List Record) → AreLives self.now h
+            → result ≡ option_map begun_of (history.start h attempt) }
+    {
+        Some(self.attempt(attempt)?.begun())
+    }
+
+    /// How an attempt ended, if it did.
+    pub fn ended(&self, attempt: AttemptId) -> Option<How>
+        ensures { (h : List Record) → AreLives self.now h → result ≡ history.ended h attempt }
+    {
+        Some(self.attempt(attempt)?.ending()?.how)
+    }
+
+    /// At which place an attempt ended, if it did: the number of its user's records up to that one.
+    pub fn ended_at(&self, attempt: AttemptId) -> Option<u64>
+        ensures { (h : List Record) → AreLives self.now h → result ≡ history.ended_at h attempt }
+    {
+        Some(self.attempt(attempt)?.ending()?.place)
+    }
+
+    /// Whether an attempt has ended.
+    pub fn is_ended(&self, attempt: AttemptId) -> bool
+        ensures { (h : List Record) → AreLives self.now h → result ≡ history.is_ended h attempt }
+    {
+        self.ended(attempt).is_some()
+    }
+
+    /// Whether an attempt ended by a finish.
+    pub fn is_finished(&self, attempt: AttemptId) -> bool
+        ensures { (h : List Record) → AreLives self.now h → result ≡ history.is_finished h attempt }
+    {
+        matches!(self.ended(attempt), Some(How::Finished))
+    }
+
+    /// The quiz of an attempt, if it is there.
+    pub fn quiz(&self, attempt: AttemptId) -> Option<u32>
+        ensures { (h : List Record) → AreLives self.now h → result ≡ history.quiz h attempt }
+    {
+        Some(self.begun(attempt)?.quiz)
+    }
+
+    /// How many slots an attempt has, at most 200.
+    pub fn slot_count(&self, attempt: AttemptId) -> usize
+        ensures value { (h : List Record) → AreLives self.now h → result ≡ history.slot_count h attempt }
+        ensures few { (h : List Record) → AreLives self.now h → result ≤ 200 }
+    {
+        match self.begun(attempt) {
+            Some(begun) => begun.slots,
+            None => 0,
+        }
+    }
+
+    /// What is bound to a slot now, if it is there. Slots are numbered from 1.
+    pub fn bound(&self, attempt: AttemptId, slot: u16) -> Option<Bound>
+        ensures value { (h : List Record) → AreLives self.now h → result ≡ history.bound h attempt slot }
+        ensures max { IfSome result (λ b. IsMaxMark b.max) }
+    {
+        Some(*self.slot(attempt, slot)?.bound())
+    }
+
+    /// A slot, if it is there, which tells its state, its mark and what a step on it would come to.
+    pub fn slot(&self, attempt: AttemptId, slot: u16) -> Option<&SlotRun>
+        ensures value { option_copied result ≡ run_in self.now attempt slot }
+        ensures plays { (h : List Record) → AreLives self.now h → IsSlotAt h attempt slot (option_copied result) }
+        ensures bound { (h : List Record) → AreLives self.now h
+            → option_map bound_of (option_copied result) ≡ history.bound h attempt slot }
+    {
+        self.attempt(attempt)?.slot(slot)
+    }
+
+    /// The state and the mark (in 10^-7) of a slot: todo without a mark where there is no such slot.
+    pub fn standing(&self, attempt: AttemptId, slot: u16) -> (State, Option<Mark>)
+        ensures state { (h : List Record) → AreLives self.now h → result.0 ≡ history.state h attempt slot }
+        ensures mark { (h : List Record) → AreLives self.now h → result.1 ≡ history.mark h attempt slot }
+        ensures range { IfSome result.1 IsSlotMark }
+    {
+        match self.slot(attempt, slot) {
+            Some(run) => (run.state(), run.mark()),
+            None => (State::Todo, None),
+        }
+    }
+
+    /// How many Save, Submit and Again steps a slot has taken, at most 10,000; none where there is no such slot.
+    pub fn answering(&self, attempt: AttemptId, slot: u16) -> usize
+        ensures { (h : List Record) → AreLives self.now h → is_some (history.slot h attempt slot) ≡ true
+            → result ≡ how_many is_answering (history.steps h attempt slot) }
+    {
+        match self.slot(attempt, slot) {
+            Some(run) => answering(run.steps()),
+            None => 0,
+        }
+    }
+
+    /// The total of an attempt (in 10^-7), and none where it isn't finished or a teacher's mark is missing that would count. Its
+    /// time grows with the number of the attempt's slots.
+    pub fn total(&self, attempt: AttemptId) -> Option<Mark>
+        ensures value { (h : List Record) → AreLives self.now h → result ≡ history.total h attempt }
+        ensures range { IfSome result IsTotal }
+    {
+        self.attempt(attempt)?.total()
+    }
+
+    /// The first attempt after this one, in order of user and number, that hasn't ended.
+    pub fn live_after(&self, after: AttemptId) -> Option<AttemptId>
+        ensures { (h : List Record) → AreLives self.now h → result ≡ history.live_after h after }
+    {
+        let after = key_of(after);
+        for (key, goes_on) in self.going.range((End::Excluded(after), End::Unbounded)) {
+            if *goes_on {
+                return Some(AttemptId {
+                    user: key.0,
+                    nth: key.1,
+                });
+            }
+        }
+        None
+    }
+
+    /// Makes all that takes memory before a record is put: an entry for an attempt that starts, and the attempt with its slots;
+    /// room for the steps that the record takes, and a copy of the step. What is read stays as it is, also where memory is
+    /// wanting.
+    ///
+    /// `records` are those before, and `versions` knows the questions that the list with this record has learned.
+    pub fn grow<V: Versions>(
+        &mut self,
+        alloc: Global,
+        records: &[Record],
+        record: &Record,
+        versions: &V,
+    ) -> Result<Prepared, NoMemory>
+        requires lives { AreLives self.old records.now }
+        requires lawful { IsLawful (records.now ++ «record».now ∷ []) }
+        requires known { Knows (V.version_of versions.now) (records.now ++ «record».now ∷ []) }
+        ensures kept { (h : List Record) → AreLives self.old h → AreLives self.new h }
+        ensures ready { IfOk result (IsReady self.new (V.version_of versions.now) «record».now) }
+    {
+        match &record.event {
+            Event::Started {
+                quiz,
+                nth,
+                behaviour,
+                bounds,
+                ..
+            } => {
+                let begun = Begun {
+                    moment: record.moment,
+                    quiz: *quiz,
+                    behaviour: *behaviour,
+                    slots: bounds.as_slice().len(),
+                };
+                let live = Live::open(alloc, begun, bounds.as_slice(), versions)?;
+                self.grow_entry(AttemptId {
+                    user: record.owner,
+                    nth: *nth,
+                })?;
+                Ok(Prepared::Attempt(live))
+            }
+            Event::Acted {
+                attempt,
+                slot,
+                step,
+            } => {
+                let step = step.try_copy(alloc)?;
+                self.reserve(*attempt, *slot)?;
+                Ok(Prepared::Step(step))
+            }
+            Event::Ended {
+                attempt,
+                how: How::Finished,
+            } => {
+                self.reserve_all(*attempt)?;
+                Ok(Prepared::Nothing)
+            }
+            _ => Ok(Prepared::Nothing),
+        }
+    }
+
+    /// Makes an entry for an attempt, which tells nothing of it yet.
+    pub(crate) fn grow_entry(&mut self, attempt: AttemptId) -> Result<(), NoMemory>
+        ensures entry { OnOk result (HasEntry self.new attempt) }
+        ensures kept { IsSame self.old self.new }
+    {
+        self.grow_attempt(attempt)?;
+        self.grow_going(attempt)
+    }
+
+    fn grow_attempt(&mut self, attempt: AttemptId) -> Result<(), NoMemory>
+        ensures entry { OnOk result (is_some (get by_number self.new.attempts (key_of attempt)) ≡ true) }
+        ensures kept { (a : AttemptId) → live_in self.new a ≡ live_in self.old a }
+        ensures rest { self.new.going ≡ self.old.going }
+    {
+        let key = key_of(attempt);
+        if !self.attempts.contains_key(&key) {
+            self.attempts.insert(key, None)?;
+        }
+        Ok(())
+    }
+
+    fn grow_going(&mut self, attempt: AttemptId) -> Result<(), NoMemory>
+        ensures entry { OnOk result (is_some (get by_number self.new.going (key_of attempt)) ≡ true) }
+        ensures kept { (a : AttemptId) → goes_on_in self.new a ≡ goes_on_in self.old a }
+        ensures rest { self.new.attempts ≡ self.old.attempts }
+    {
+        let key = key_of(attempt);
+        if !self.going.contains_key(&key) {
+            self.going.insert(key, false)?;
+        }
+        Ok(())
+    }
+
+    /// Takes an attempt that is there out of its entry, which stays.
+    fn take(&mut self, attempt: AttemptId) -> Live
+        requires { is_some (live_in self.old attempt) ≡ true }
+        ensures value { live_in self.old attempt ≡ Some result }
+        ensures rest { IsTakenOut self.old self.new attempt }
+    {
+        // The entry is there, so this takes no memory.
+        match self.attempts.insert(key_of(attempt), None) {
+            Ok(Some(Some(live))) => live,
+            _ => unreachable!(),
+        }
+    }
+
+    /// Puts an attempt into its entry.
+    fn keep(&mut self, attempt: AttemptId, live: Live)
+        requires { is_some (get by_number self.old.attempts (key_of attempt)) ≡ true }
+        ensures { Keeps self.old self.new attempt live }
+    {
+        // The entry is there, so this takes no memory.
+        match self.attempts.insert(key_of(attempt), Some(live)) {
+            Ok(_) => {}
+            Err(_) => unreachable!(),
+        }
+    }
+
+    /// Tells that an attempt goes on no more.
+    fn leave(&mut self, attempt: AttemptId)
+        ensures { Leaves self.old self.new attempt }
+    {
+        let _ = self.going.remove(&key_of(attempt));
+    }
+
+    /// Makes room for one more step in a slot of an attempt that is there.
+    fn reserve(&mut self, attempt: AttemptId, slot: u16) -> Result<(), NoMemory>
+        requires { is_some (live_in self.old attempt) ≡ true }
+        ensures room { OnOk result (IfSome (run_in self.new attempt slot) IsRoomy) }
+        ensures kept { AreAlike self.old self.new }
+    {
+        let mut live = self.take(attempt);
+        let done = live.reserve(slot);
+        self.keep(attempt, live);
+        done
+    }
+
+    /// Makes room for one more step in each slot of an attempt that is there.
+    fn reserve_all(&mut self, attempt: AttemptId) -> Result<(), NoMemory>
+        requires there { is_some (live_in self.old attempt) ≡ true }
+        requires count { IfSome (live_in self.old attempt) IsCounted }
+        ensures room { OnOk result (IfSome (live_in self.new attempt) (λ l. HaveRoom l.slots)) }
+        ensures kept { AreAlike self.old self.new }
+    {
+        let mut live = self.take(attempt);
+        let done = live.reserve_all();
+        self.keep(attempt, live);
+        done
+    }
+
+    /// Follows a record behind those whose attempts these are. It takes no memory.
+    ///
+    /// `place` is the number of its owner's records, this one among them. A step that is taken grades once at most, and a Save
+    /// never; a finish once for each slot; and where a version is bound, its steps are graded again. Nothing else grades.
+    pub fn put<V: Versions, L: Ledger>(
+        &mut self,
+        records: &[Record],
+        record: &Record,
+        prepared: Prepared,
+        place: u64,
+        versions: &V,
+        steps: &mut Steps<L>,
+    )
+        requires lives { AreLives self.old records.now }
+        requires lawful { IsLawful (records.now ++ «record».now ∷ []) }
+        requires known { Knows (V.version_of versions.now) (records.now ++ «record».now ∷ []) }
+        requires ready { IsReady self.old (V.version_of versions.now) «record».now prepared }
+        requires place { place ≡ history.place (records.now ++ «record».now ∷ []) («record».now).owner }
+        ensures lives { AreLives self.new (records.now ++ «record».now ∷ []) }
+        ensures count { steps.new ≤ steps.old + gradings_by records.now («record».now).event }
+    {
+        match &record.event {
+            Event::Started { nth, .. } => {
+                let attempt = AttemptId {
+                    user: record.owner,
+                    nth: *nth,
+                };
+                match prepared {
+                    Prepared::Attempt(live) => self.start(attempt, live),
+                    _ => unreachable!(),
+                }
+            }
+            Event::Acted { attempt, slot, .. } => match prepared {
+                Prepared::Step(step) => self.act(*attempt, *slot, step, versions, steps),
+                _ => unreachable!(),
+            },
+            Event::Ended { attempt, how } => {
+                let ending = Ending { how: *how, place };
+                match how {
+                    How::Finished => self.finish(*attempt, ending, versions, steps),
+                    How::Abandoned => self.abandon(*attempt, ending),
+                }
+            }
+            Event::Rebound {
+                attempt,
+                slot,
+                bound,
+                ..
+            } => self.rebind(*attempt, *slot, *bound, versions, steps),
+            _ => {}
+        }
+    }
+
+    /// Puts an attempt that starts.
+    pub(crate) fn start(&mut self, attempt: AttemptId, live: Live)
+        requires { HasEntry self.old attempt }
+        ensures { Becomes self.old self.new attempt live true }
+    {
+        self.keep(attempt, live);
+        // The entry is there, so this takes no memory.
+        match self.going.insert(key_of(attempt), true) {
+            Ok(_) => {}
+            Err(_) => unreachable!(),
+        }
+    }
+
+    /// Follows a step that was taken on a slot.
+    fn act<V: Versions, L: Ledger>(
+        &mut self,
+        attempt: AttemptId,
+        slot: u16,
+        step: Step,
+        versions: &V,
+        steps: &mut Steps<L>,
+    )
+        requires { CanAct (V.version_of versions.now) self.old attempt slot step }
+        ensures acted { HasActed (V.version_of versions.now) self.old self.new attempt slot step }
+        ensures count { steps.new ≤ steps.old + 1 }
+        ensures save { is_save step ≡ true → steps.new ≡ steps.old }
+    {
+        let mut live = self.take(attempt);
+        live.act(slot, step, versions, steps);
+        self.keep(attempt, live);
+    }
+
+    /// Binds another version to a slot.
+    fn rebind<V: Versions, L: Ledger>(
+        &mut self,
+        attempt: AttemptId,
+        slot: u16,
+        bound: Bound,
+        versions: &V,
+        steps: &mut Steps<L>,
+    )
+        requires { CanRebind (V.version_of versions.now) self.old attempt slot bound }
+        ensures rebound { HasRebound (V.version_of versions.now) self.old self.new attempt slot bound }
+        ensures count { (r : Run) → run_in self.old attempt slot ≡ Some r
+            → steps.new ≤ steps.old + length r.steps + 1 }
+    {
+        let mut live = self.take(attempt);
+        live.rebind(slot, bound, versions, steps);
+        self.keep(attempt, live);
+    }
+
+    /// Finishes each slot of an attempt, which then goes on no more.
+    fn finish<V: Versions, L: Ledger>(
+        &mut self,
+        attempt: AttemptId,
+        ending: Ending,
+        versions: &V,
+        steps: &mut Steps<L>,
+    )
+        requires { CanEnd (V.version_of versions.now) self.old attempt }
+        ensures finished { HasFinished (V.version_of versions.now) self.old self.new attempt ending }
+        ensures count { (l : Live) → live_in self.old attempt ≡ Some l
+            → steps.new ≤ steps.old + length l.slots }
+    {
+        let mut live = self.take(attempt);
+        live.finish(ending, versions, steps);
+        self.keep(attempt, live);
+        self.leave(attempt);
+    }
+
+    /// Ends an attempt without a finish.
+    pub(crate) fn abandon(&mut self, attempt: AttemptId, ending: Ending)
+        requires { is_some (live_in self.old attempt) ≡ true }
+        ensures { HasAbandoned self.old self.new attempt ending }
+    {
+        let mut live = self.take(attempt);
+        live.abandon(ending);
+        self.keep(attempt, live);
+        self.leave(attempt);
+    }
+}

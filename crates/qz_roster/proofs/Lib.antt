@@ -1,0 +1,10 @@
+pub mod Telling
+pub mod Reading
+pub mod TextLemmas
+pub mod PeopleLemmas
+pub mod QuizLemmas
+pub mod NextLemmas
+pub mod CountLemmas
+pub mod Filled
+pub mod MemberLemmas
+pub mod OverrideLemmas

@@ -1,0 +1,31 @@
+use Rattle.std.proofs.Common.{◌≡◌, IsSome, Some, refl, sym, ap, subst, ◌∙◌}
+use Rattle.std.specs.BTreeMap.{get}
+use Rattle.qz_terms.specs.declared.request.Whom.{Whom}
+use Rattle.qz_terms.specs.Catalog.{asked}
+use Rattle.qz_roster.specs.Overrides.{of_whom, set_otherwise}
+use Rattle.qz_roster.specs.Pairs.{pair_cmp}
+use Rattle.qz_roster.proofs.OverrideLemmas.{group-set, overrides-kept, overrides-same, user-set}
+use Rattle.qz_roster.proofs.overrides.Overrides.keep.Goals as goal
+
+pub returns-in_default : goal.returns-in_default
+returns-in_default c = overrides-same c.args.records.now c.args.record.now c.args.self.now c.requires.overrides (sym c.set_otherwise.ensures ∙ c.in_default.is)
+
+pub fill-requires : goal.fill-requires
+fill-requires c =
+    let t = c.in-Some.target in
+    subst (λ (w : Whom). IsSome (get pair_cmp (of_whom c.args.self.now w) (t.quiz, t.number))) c.in-User.is (c.requires.room.there t c.in-Some.set (sym c.set_otherwise.ensures ∙ c.in-Some.is))
+
+pub fill-requires-in-Group : goal.fill-requires-in-Group
+fill-requires-in-Group c =
+    let t = c.in-Some.target in
+    subst (λ (w : Whom). IsSome (get pair_cmp (of_whom c.args.self.now w) (t.quiz, t.number))) c.in-Group.is (c.requires.room.there t c.in-Some.set (sym c.set_otherwise.ensures ∙ c.in-Some.is))
+
+pub returns-in-User : goal.returns-in-User
+returns-in-User c =
+    overrides-kept c.args.records.now c.args.record.now c.args.self.now (record { users = c.fill.new.map; groups = c.args.self.now.groups }) c.in-Some.target c.in-Some.set c.requires.overrides
+    (sym c.set_otherwise.ensures ∙ c.in-Some.is) (user-set c.args.self.now _ c.in-Some.target c.in-Some.set c.in-User.is c.fill.ensures refl)
+
+pub returns-in-Group : goal.returns-in-Group
+returns-in-Group c =
+    overrides-kept c.args.records.now c.args.record.now c.args.self.now (record { users = c.args.self.now.users; groups = c.fill-in-Group.new.map }) c.in-Some.target c.in-Some.set c.requires.overrides
+    (sym c.set_otherwise.ensures ∙ c.in-Some.is) (group-set c.args.self.now _ c.in-Some.target c.in-Some.set c.in-Group.is c.fill-in-Group.ensures refl)

@@ -1,0 +1,215 @@
+ghost use Rattle.std.specs.Prelude.{◌≡◌, ◌≤◌, true, false, is_some, is_none, if◌then◌else◌};
+ghost use Rattle.qz_terms.specs.Cause.{is_keyless};
+ghost use Rattle.qz_terms.specs.Kept.{KeepsAsked, asks_described};
+
+use super::*;
+use qz_decimal::{Fraction, Mark, ONE};
+use qz_grading::{Answer, AttemptId, Bank, Behaviour, Item, Refusal, Thing};
+use qz_samples::truth;
+use qz_terms::{Ask, Caller, Desk, Done, Reply, Request, Role};
+use qz_text::{Listed, NoMemory, Text};
+use std::alloc::Global;
+use std::test::Fail;
+
+// ---- what is asked, all at the moment 1000
+
+/// What a user with this token is told.
+fn ask(
+    alloc: Global,
+    solo: &mut Solo,
+    token: &str,
+    key: Option<Text>,
+    request: Request,
+) -> Result<Reply, NoMemory>
+    requires keyed { (if is_keyless request then is_none «key» else is_some «key») ≡ true }
+    requires kept { KeepsAsked request }
+    requires described { asks_described request ≡ true }
+{
+    let token = Text::of(alloc, token)?;
+    let ask = Ask {
+        caller: Caller::Token(token),
+        key,
+        request,
+    };
+    Ok(solo.ask(alloc, &ask, 1000))
+}
+
+/// Whether a request under this key is accepted.
+fn does(
+    alloc: Global,
+    solo: &mut Solo,
+    token: &str,
+    key: &str,
+    request: Request,
+) -> Result<bool, NoMemory>
+    requires keyed { is_keyless request ≡ false }
+    requires kept { KeepsAsked request }
+    requires described { asks_described request ≡ true }
+{
+    let key = Text::of(alloc, key)?;
+    let reply = ask(alloc, solo, token, Some(key), request)?;
+    Ok(matches!(reply, Reply::Ok { .. }))
+}
+
+/// What the manager is told of a request without a key.
+fn look(alloc: Global, solo: &mut Solo, request: Request) -> Result<Reply, NoMemory>
+    requires keyless { is_keyless request ≡ true }
+    requires kept { KeepsAsked request }
+    requires described { asks_described request ≡ true }
+{
+    ask(alloc, solo, "root", None, request)
+}
+
+fn joins(alloc: Global, solo: &mut Solo, token: &str) -> Result<bool, NoMemory> {
+    let request = Request::User {
+        name: Text::of(alloc, token)?,
+        role: Role::Student,
+        token: Text::of(alloc, token)?,
+    };
+    does(alloc, solo, "root", token, request)
+}
+
+/// One question, of which true is right.
+fn imports(alloc: Global, solo: &mut Solo) -> Result<bool, NoMemory> {
+    let mut items = Vec::new(alloc);
+    items.push(Item {
+        category: Listed::empty(alloc),
+        question: truth(alloc, true, Fraction(0))?,
+    })?;
+    let gift = Bank {
+        items: Listed { items },
+    };
+    does(alloc, solo, "root", "import", Request::Import { gift })
+}
+
+/// A quiz with that question, for a max mark of 1.
+fn makes_quiz(alloc: Global, solo: &mut Solo) -> Result<bool, NoMemory> {
+    let name = Text::of(alloc, "Quiz")?;
+    let behaviour = Behaviour::Deferred;
+    let quiz = Request::Quiz { name, behaviour };
+    let slot = Request::Slot {
+        quiz: 1,
+        entry: 1,
+        max: Mark(ONE),
+    };
+    let made = does(alloc, solo, "root", "quiz", quiz)?;
+    let filled = does(alloc, solo, "root", "slot", slot)?;
+    let ready = does(alloc, solo, "root", "ready", Request::Ready { quiz: 1 })?;
+    Ok(made && filled && ready)
+}
+
+/// Starts, answers with the first choice, and finishes.
+fn takes(alloc: Global, solo: &mut Solo, token: &str, user: u32) -> Result<bool, NoMemory> {
+    let attempt = AttemptId { user, nth: 1 };
+    let save = Request::Save {
+        attempt,
+        slot: 1,
+        certainty: 0,
+        response: Answer::Pick(1),
+    };
+    let started = does(alloc, solo, token, "start", Request::Start { quiz: 1 })?;
+    let saved = does(alloc, solo, token, "save", save)?;
+    let ended = does(alloc, solo, token, "finish", Request::Finish { attempt })?;
+    Ok(started && saved && ended)
+}
+
+/// A school of so many shards, in which the students 4, 2 and 3 took the quiz, in this order.
+fn school(alloc: Global, shards: u8) -> Result<Option<Solo>, NoMemory>
+    requires some { 1 ≤ shards }
+    requires few { shards ≤ 64 }
+{
+    let mut solo = Solo::memory(alloc, shards, "root")?;
+    let joined = joins(alloc, &mut solo, "a")? && joins(alloc, &mut solo, "b")?;
+    let all = joined && joins(alloc, &mut solo, "c")?;
+    let made = imports(alloc, &mut solo)? && makes_quiz(alloc, &mut solo)?;
+    let first = takes(alloc, &mut solo, "c", 4)?;
+    let taken = takes(alloc, &mut solo, "a", 2)? && takes(alloc, &mut solo, "b", 3)?;
+    Ok((all && made && first && taken).then_some(solo))
+}
+
+// ---- what is told
+
+/// Whether a report has a row for each of the users 2, 3 and 4, in this order.
+fn names_all(reply: &Reply) -> bool {
+    match reply {
+        Reply::Ok {
+            done: Done::Report { rows },
+            ..
+        } => match rows.as_slice() {
+            [a, b, c] => a.user == 2 && b.user == 3 && c.user == 4,
+            _ => false,
+        },
+        _ => false,
+    }
+}
+
+fn is_missing(reply: &Reply, thing: Thing) -> bool {
+    match reply {
+        Reply::Refused(Refusal::Unknown { what }) => *what == thing,
+        _ => false,
+    }
+}
+
+fn is_rebound(reply: &Reply, user: u32) -> bool {
+    match reply {
+        Reply::Ok {
+            done: Done::Rebound { attempt, .. },
+            ..
+        } => attempt.user == user,
+        _ => false,
+    }
+}
+
+fn is_job_done(reply: &Reply) -> bool {
+    matches!(
+        reply,
+        Reply::Ok {
+            done: Done::JobDone { .. },
+            ..
+        }
+    )
+}
+
+fn step(alloc: Global, solo: &mut Solo, shard: u8) -> Result<Reply, NoMemory> {
+    look(alloc, solo, Request::Work { job: 1, shard })
+}
+
+fn live(alloc: Global, solo: &mut Solo, shard: u8) -> Result<Reply, NoMemory> {
+    let attempt = AttemptId { user: 0, nth: 0 };
+    look(alloc, solo, Request::Live { shard, attempt })
+}
+
+// ---- the tests
+
+#[test]
+fn one_shard_has_all_users(rt: HostRuntime) -> Result<(), Fail> {
+    let alloc = rt.alloc();
+    let mut solo = school(alloc, 1)?.ok_or("made")?;
+    assert!(rt; solo.len() == 8);
+    let told = look(alloc, &mut solo, Request::Report { quiz: 1 })?;
+    assert!(rt; names_all(&told));
+    assert!(rt; is_missing(&live(alloc, &mut solo, 1)?, Thing::Shard));
+    Ok(())
+}
+
+#[test]
+fn each_user_has_a_shard(rt: HostRuntime) -> Result<(), Fail> {
+    let alloc = rt.alloc();
+    let mut solo = school(alloc, 3)?.ok_or("made")?;
+    let told = look(alloc, &mut solo, Request::Report { quiz: 1 })?;
+    assert!(rt; names_all(&told));
+    assert!(rt;
+        does(
+            alloc,
+            &mut solo,
+            "root",
+            "again",
+            Request::Regrade { quiz: 1 }
+        )?
+    );
+    assert!(rt; is_rebound(&step(alloc, &mut solo, 1)?, 4));
+    assert!(rt; is_job_done(&step(alloc, &mut solo, 1)?));
+    assert!(rt; is_rebound(&step(alloc, &mut solo, 0)?, 3));
+    assert!(rt; is_missing(&step(alloc, &mut solo, 3)?, Thing::Shard));
+    Ok(())
+}
