@@ -365,6 +365,17 @@ fn school_text(alloc: Global, school: &mut Solo, count: u32, before: i128) -> Re
     )
 }
 
+/// What is told of a school of so many students that is made and regraded.
+fn bulk_text(alloc: Global, count: u32) -> Result<Text, NoMemory>
+    requires { count ≤ 2000 }
+    ensures { IfOk result (λ text. text ≡ bulk_text count) }
+{
+    let mut school = school_of(alloc, count)?;
+    let before = mark_sum(alloc, &mut school, count)?;
+    regrade(alloc, &mut school, count)?;
+    school_text(alloc, &mut school, count, before)
+}
+
 /// Makes a school of so many students in memory, from 1 to 2,000, regrades it, and writes how many students there are, how many records
 /// its catalogue and its one shard have, and the sums of all marks before and after the regrade. Answers the exit status.
 ///
@@ -387,10 +398,7 @@ fn bulk_or_stop<O: Sink>(alloc: Global, count: u32, sink: &mut O) -> Result<(), 
     ensures { let ends = BulkEnds count (O.holds sink.old) (O.holds sink.new) (O.faults sink.old) (O.faults sink.new)
         in MatchResult result (λ _. ends None) (λ stop. ends (Some stop)) }
 {
-    let mut school = school_of(alloc, count)?;
-    let before = mark_sum(alloc, &mut school, count)?;
-    regrade(alloc, &mut school, count)?;
-    let text = school_text(alloc, &mut school, count, before)?;
+    let text = bulk_text(alloc, count)?;
     if write_all(sink, text.as_bytes()).is_err() {
         return Err(Stop::SinkFault);
     }

@@ -1,7 +1,7 @@
 //! How a shard answers under a catalogue.
 
 ghost use Rattle.std.specs.Prelude.{◌≡◌, ◌<◌, true, None, Some, MatchResult};
-ghost use Rattle.qz_shard.specs.Holdings.{Answers, IsAsked, IsWorkable, StartsHere, Works, is_change, is_look, older};
+ghost use Rattle.qz_shard.specs.Holdings.{Answers, IsAsked, IsWorkable, StartsHere, Works, is_look, older};
 ghost use Rattle.qz_terms.specs.Answer.{named_user};
 ghost use Rattle.qz_terms.specs.Catalog.{user_of};
 ghost use Rattle.qz_terms.specs.Cause.{forbidden};
@@ -28,8 +28,8 @@ fn looks(request: &Request) -> bool
     )
 }
 
-/// The shard's reply to a request that may change its list. No plan is older than a job that is done there.
-fn applied<L: Ledger>(
+/// The shard's reply to a request under its plan, which isn't older than a job that is done there.
+fn answered<L: Ledger>(
     blank: Blank,
     shard: &mut Shard,
     alloc: Global,
@@ -41,51 +41,6 @@ fn applied<L: Ledger>(
     requires name { blank.name ≡ L.name }
     requires parts { blank.parts ≡ L.parts }
     requires some_part { 0 < blank.parts }
-    requires change { is_change ask.now.request ≡ true }
-    requires asked { IsAsked shard.old.records plan.now ask.now moment }
-    requires here { StartsHere shard.old user.now plan.now ask.now.request }
-    requires newer { older shard.old.records plan.now ask.now.request ≡ None }
-    ensures answer { Answers shard.old.records moment user.now plan.now ask.now result shard.new.records }
-    ensures shard { IsSameShard shard.old shard.new }
-{
-    let mut steps = Steps::<L>::open(blank);
-    match shard.apply(alloc, user, plan, ask, moment, &mut steps) {
-        Ok(reply) => reply,
-        Err(Older { .. }) => unreachable!(),
-    }
-}
-
-/// The shard's reply to a request that only looks.
-fn looked<L: Ledger>(
-    blank: Blank,
-    shard: &mut Shard,
-    alloc: Global,
-    user: &User,
-    plan: &Plan,
-    ask: &Ask,
-    moment: u64,
-) -> Reply
-    requires name { blank.name ≡ L.name }
-    requires parts { blank.parts ≡ L.parts }
-    requires some_part { 0 < blank.parts }
-    requires look { is_look ask.now.request ≡ true }
-    requires asked { IsAsked shard.old.records plan.now ask.now moment }
-    ensures answer { Answers shard.old.records moment user.now plan.now ask.now result shard.old.records }
-    ensures unchanged { shard.new ≡ shard.old }
-{
-    let mut steps = Steps::<L>::open(blank);
-    shard.look(alloc, user, plan, ask, moment, &mut steps)
-}
-
-/// The shard's reply to a request under its plan.
-fn answered(
-    shard: &mut Shard,
-    alloc: Global,
-    user: &User,
-    plan: &Plan,
-    ask: &Ask,
-    moment: u64,
-) -> Reply
     requires served { asks_shard ask.now.request ≡ true }
     requires asked { IsAsked shard.old.records plan.now ask.now moment }
     requires here { StartsHere shard.old user.now plan.now ask.now.request }
@@ -93,10 +48,13 @@ fn answered(
     ensures answer { Answers shard.old.records moment user.now plan.now ask.now result shard.new.records }
     ensures shard { IsSameShard shard.old shard.new }
 {
+    let mut steps = Steps::<L>::open(blank);
     if looks(&ask.request) {
-        looked::<Brand>(Blank::new(1), shard, alloc, user, plan, ask, moment)
-    } else {
-        applied::<Brand>(Blank::new(1), shard, alloc, user, plan, ask, moment)
+        return shard.look(alloc, user, plan, ask, moment, &mut steps);
+    }
+    match shard.apply(alloc, user, plan, ask, moment, &mut steps) {
+        Ok(reply) => reply,
+        Err(Older { .. }) => unreachable!(),
     }
 }
 
@@ -151,7 +109,7 @@ pub(crate) fn told(
     ensures shard { IsSameShard shard.old shard.new }
 {
     let plan = plan_for(catalog, shard, alloc, user, ask)?;
-    let reply = answered(shard, alloc, user, &plan, ask, moment);
+    let reply = answered::<Brand>(Blank::new(1), shard, alloc, user, &plan, ask, moment);
     // Whatever a shard holds is legal.
     let _length = shard.len();
     Ok(reply)
