@@ -1,2 +1,4 @@
 pub mod Banks
+pub mod Room
+pub mod Changes
 pub mod Laws

@@ -1,13 +1,15 @@
 //! All entries.
 
-ghost use Rattle.std.specs.Prelude.{◌≡◌, ◌⊎◌, ◌+◌, ◌<◌, ◌≤◌, [], length, Some, None, OnOk, OnErr, IfOk, IfErr, option_copied, IfSome};
+ghost use Rattle.std.specs.Prelude.{◌≡◌, ◌⊎◌, ◌+◌, ◌++◌, ◌<◌, ◌≤◌, [], length, Some, None, OnOk, OnErr, IfOk, IfErr, option_copied, IfSome};
 ghost use Rattle.qz_grading.specs.declared.refusal.Refusal.TheVariants as refusal;
 ghost use Rattle.qz_grading.specs.Grading.{at_place};
 ghost use Rattle.qz_terms.specs.declared.request.Request.TheVariants as request;
 ghost use Rattle.qz_bank.specs.Banks.{IsBank, IsEntry, change_cause, changed, entry_cause, first_of_import, grown, import_cause, imported, latest, newest, size_cause, version};
+ghost use Rattle.qz_bank.specs.Changes.{CanImport, CanPut, CanRenew, with_change};
 
-use crate::Entry;
 use crate::entry::{edited, first_versions, tuned};
+use crate::room::{make_room, take_room};
+use crate::{Entry, Prepared};
 use qz_decimal::Fraction;
 use qz_grading::{Bank, Question, Refusal, Thing, canonical_size_is_at_most};
 use qz_text::{Listed, Text};
@@ -24,6 +26,9 @@ const MOST_VERSIONS: usize = 1_000;
 const MOST_BYTES: usize = 262_144;
 
 /// The entries of a bank, seen as their list. They count from 1, and none is ever taken away.
+///
+/// A bank changes in two moves. A change is prepared first: that decides every refusal and takes all the memory, and leaves the
+/// bank as it is. It is put then, which takes none.
 #[derive(Drop)]
 pub struct Entries {
     entries: Vec<Entry>,
@@ -51,6 +56,27 @@ impl Entries {
         }
     }
 
+    /// Prepares an import: each question of a bank becomes the first version of a new entry.
+    ///
+    /// More than 20,000 entries are `TooMany`.
+    pub fn prepare_import(&self, alloc: Global, bank: Bank) -> Result<Prepared, Refusal>
+        ensures ready { IfOk result (CanPut self.now) }
+        ensures change { IfOk result (λ p. with_change self.now p ≡ imported self.now bank) }
+        ensures free { OnOk result (import_cause self.now bank ≡ None) }
+        ensures refused { IfErr result (λ r. (r ≡ Refusal.Memory) ⊎ (import_cause self.now bank ≡ Some r)) }
+    {
+        let before = self.entries.len();
+        let count = bank.items.as_slice().len();
+        if count > MOST_ENTRIES - before {
+            return Err(Refusal::TooMany {
+                limit: MOST_ENTRIES as u32,
+            });
+        }
+        let made = first_versions(alloc, bank)?;
+        let room = make_room(alloc, before, count)?;
+        Ok(Prepared::Import { made, room })
+    }
+
     /// Each question of a bank becomes the first version of a new entry. The number of the first of them is told (0 where there is
     /// none), and how many there are.
     ///
@@ -64,13 +90,8 @@ impl Entries {
     {
         let before = self.entries.len();
         let count = bank.items.as_slice().len();
-        if count > MOST_ENTRIES - before {
-            return Err(Refusal::TooMany {
-                limit: MOST_ENTRIES as u32,
-            });
-        }
-        let mut made = first_versions(alloc, bank)?;
-        self.entries.append(&mut made)?;
+        let prepared = self.prepare_import(alloc, bank)?;
+        self.put(prepared);
         let first = if count == 0 { 0 } else { before + 1 };
         Ok((first as u32, count as u32))
     }
@@ -90,6 +111,43 @@ impl Entries {
         Some(self.entry(entry)?.versions.as_slice().len() as u32)
     }
 
+    /// Prepares a new version of an entry, which keeps the penalty and the hints of the one before.
+    ///
+    /// An entry that isn't there is `Unknown`. More than 1,000 versions are `TooMany`, and then a version whose canonical text and
+    /// hints have together more than 262,144 bytes.
+    pub fn prepare_edit(
+        &self,
+        alloc: Global,
+        entry: u32,
+        gift: Question,
+    ) -> Result<Prepared, Refusal>
+        ensures ready { IfOk result (CanPut self.now) }
+        ensures change { IfOk result (λ p. with_change self.now p ≡ changed self.now entry (request.Edit entry gift)) }
+        ensures free { OnOk result (change_cause self.now entry (request.Edit entry gift) ≡ None) }
+        ensures refused { IfErr result (λ r. (r ≡ Refusal.Memory) ⊎ (change_cause self.now entry (request.Edit entry gift) ≡ Some r)) }
+    {
+        let newer = edited(alloc, self.newest(entry)?, gift)?;
+        self.prepare_version(alloc, entry, newer)
+    }
+
+    /// Prepares a new version of an entry, which is the one before with this penalty (in 10^-7) and these hints. It is refused as
+    /// an edit is.
+    pub fn prepare_tune(
+        &self,
+        alloc: Global,
+        entry: u32,
+        penalty: Fraction,
+        hints: Listed<Text>,
+    ) -> Result<Prepared, Refusal>
+        ensures ready { IfOk result (CanPut self.now) }
+        ensures change { IfOk result (λ p. with_change self.now p ≡ changed self.now entry (request.Tune entry penalty hints)) }
+        ensures free { OnOk result (change_cause self.now entry (request.Tune entry penalty hints) ≡ None) }
+        ensures refused { IfErr result (λ r. (r ≡ Refusal.Memory) ⊎ (change_cause self.now entry (request.Tune entry penalty hints) ≡ Some r)) }
+    {
+        let newer = tuned(alloc, self.newest(entry)?, penalty, hints)?;
+        self.prepare_version(alloc, entry, newer)
+    }
+
     /// An entry gets a new version, which keeps the penalty and the hints of the one before. Its number is told.
     ///
     /// An entry that isn't there is `Unknown`. More than 1,000 versions are `TooMany`, and then a version whose canonical text and
@@ -101,8 +159,9 @@ impl Entries {
         ensures refused { IfErr result (λ r. (r ≡ Refusal.Memory) ⊎ (change_cause self.old entry (request.Edit entry gift) ≡ Some r)) }
         ensures unchanged { OnErr result (self.new ≡ self.old) }
     {
-        let newer = edited(alloc, self.newest(entry)?, gift)?;
-        self.add(entry, newer)
+        let prepared = self.prepare_edit(alloc, entry, gift)?;
+        self.put(prepared);
+        Ok(self.latest(entry).unwrap())
     }
 
     /// An entry gets a new version, which is the one before with this penalty (in 10^-7) and these hints. Its number is told, and
@@ -120,8 +179,20 @@ impl Entries {
         ensures refused { IfErr result (λ r. (r ≡ Refusal.Memory) ⊎ (change_cause self.old entry (request.Tune entry penalty hints) ≡ Some r)) }
         ensures unchanged { OnErr result (self.new ≡ self.old) }
     {
-        let newer = tuned(alloc, self.newest(entry)?, penalty, hints)?;
-        self.add(entry, newer)
+        let prepared = self.prepare_tune(alloc, entry, penalty, hints)?;
+        self.put(prepared);
+        Ok(self.latest(entry).unwrap())
+    }
+
+    /// Puts a change that was prepared for this bank. It takes no memory.
+    pub fn put(&mut self, prepared: Prepared)
+        requires { CanPut self.old prepared }
+        ensures { self.new ≡ with_change self.old prepared }
+    {
+        match prepared {
+            Prepared::Import { made, room } => self.add_entries(made, room),
+            Prepared::Version { entry, newer, room } => self.add_version(entry, newer, room),
+        }
     }
 
     fn entry(&self, number: u32) -> Option<&Entry>
@@ -149,22 +220,43 @@ impl Entries {
         Ok(&versions[versions.len() - 1])
     }
 
-    /// An entry gets this version more.
-    fn add(&mut self, entry: u32, newer: Question) -> Result<u32, Refusal>
-        requires { entry_cause self.old entry ≡ None }
-        ensures grown { OnOk result (self.new ≡ grown self.old entry newer) }
-        ensures told { IfOk result (λ number. latest self.new entry ≡ Some number) }
+    /// Prepares this version as one more of an entry.
+    fn prepare_version(
+        &self,
+        alloc: Global,
+        entry: u32,
+        newer: Question,
+    ) -> Result<Prepared, Refusal>
+        requires { entry_cause self.now entry ≡ None }
+        ensures ready { IfOk result (CanPut self.now) }
+        ensures change { IfOk result (λ p. with_change self.now p ≡ grown self.now entry newer) }
         ensures free { OnOk result (size_cause newer ≡ None) }
         ensures refused { IfErr result (λ r. (r ≡ Refusal.Memory) ⊎ (size_cause newer ≡ Some r)) }
-        ensures unchanged { OnErr result (self.new ≡ self.old) }
     {
         if !canonical_size_is_at_most(&newer, MOST_BYTES) {
             return Err(Refusal::TooMany {
                 limit: MOST_BYTES as u32,
             });
         }
-        let entry = &mut self.entries[entry as usize - 1];
-        entry.add(newer)?;
-        Ok(entry.versions.as_slice().len() as u32)
+        let count = self.latest(entry).unwrap_or(0);
+        let room = make_room(alloc, count as usize, 1)?;
+        Ok(Prepared::Version { entry, newer, room })
+    }
+
+    /// These entries come last.
+    fn add_entries(&mut self, mut made: Vec<Entry>, room: Vec<Entry>)
+        requires { CanImport self.old made room }
+        ensures { self.new ≡ self.old ++ made.items }
+    {
+        take_room(&mut self.entries, made.len(), room);
+        self.entries.append(&mut made).unwrap();
+    }
+
+    /// An entry gets this version more.
+    fn add_version(&mut self, entry: u32, newer: Question, room: Vec<Question>)
+        requires { CanRenew self.old entry room }
+        ensures { self.new ≡ grown self.old entry newer }
+    {
+        self.entries[entry as usize - 1].add(newer, room);
     }
 }

@@ -3,7 +3,9 @@
 ghost use Rattle.std.specs.Prelude.{◌≡◌, ◌+◌, ◌<◌, ◌^◌, length, map, IfOk, OnErr};
 ghost use Rattle.qz_terms.specs.Catalog.{edited, tuned};
 ghost use Rattle.qz_bank.specs.Banks.{first_version, with_version};
+ghost use Rattle.qz_bank.specs.Room.{IsRoom};
 
+use crate::room::take_room;
 use qz_decimal::Fraction;
 use qz_grading::{Bank, Item, Question};
 use qz_text::{Listed, NoMemory, Text, TryCopy};
@@ -17,12 +19,13 @@ pub struct Entry {
 }
 
 impl Entry {
-    /// One version more. Where memory is wanting, the entry is as before.
-    pub(crate) fn add(&mut self, question: Question) -> Result<(), NoMemory>
-        ensures added { IfOk result (λ _. self.new ≡ with_version self.old question) }
-        ensures unchanged { OnErr result (self.new ≡ self.old) }
+    /// One version more. The room has place for all of them, and it takes no memory.
+    pub(crate) fn add(&mut self, question: Question, room: Vec<Question>)
+        requires { IsRoom (length self.old.versions + 1) room }
+        ensures { self.new ≡ with_version self.old question }
     {
-        Ok(self.versions.items.push(question)?)
+        take_room(&mut self.versions.items, 1, room);
+        self.versions.items.push(question).unwrap();
     }
 }
 

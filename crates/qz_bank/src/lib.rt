@@ -4,9 +4,12 @@
 mod entries;
 mod entry;
 pub mod laws;
+mod prepared;
+mod room;
 
 pub use entries::Entries;
 pub use entry::Entry;
+pub use prepared::Prepared;
 
 #[cfg(test)]
 mod tests;

@@ -1,3 +1,6 @@
+ghost use Rattle.std.specs.Prelude.{IfOk};
+ghost use Rattle.qz_bank.specs.Changes.{CanPut};
+
 use super::*;
 use qz_decimal::Fraction;
 use qz_grading::{Bank, Format, Item, Kind, Question, Refusal, Rich, Thing};
@@ -86,5 +89,49 @@ fn what_is_not_there_is_unknown(rt: HostRuntime) -> Result<(), Fail> {
         ) == Ok((0, 0))
     );
     assert!(rt; entries.latest(1) == None);
+    Ok(())
+}
+
+/// Puts a change, if it was prepared.
+fn put(entries: &mut Entries, prepared: Result<Prepared, Refusal>) -> bool
+    requires { IfOk prepared (CanPut entries.old) }
+{
+    match prepared {
+        Ok(prepared) => {
+            entries.put(prepared);
+            true
+        }
+        Err(_) => false,
+    }
+}
+
+/// Until a change is put the bank is as before, and one that isn't put leaves nothing.
+#[test]
+fn changes_when_it_is_put(rt: HostRuntime) -> Result<(), Fail> {
+    let alloc = rt.alloc();
+    let mut entries = Entries::new(alloc);
+    let import = entries.prepare_import(alloc, two_essays(alloc)?);
+    assert!(rt; entries.latest(1) == None);
+    assert!(rt; put(&mut entries, import));
+    assert!(rt; entries.latest(2) == Some(1) && entries.latest(3) == None);
+    drop(entries.prepare_edit(alloc, 2, essay(alloc, "dropped")?));
+    assert!(rt; entries.latest(2) == Some(1));
+    let edit = entries.prepare_edit(alloc, 2, essay(alloc, "kept")?);
+    assert!(rt; put(&mut entries, edit));
+    assert!(rt; text_of(&entries, 2, 1) == "two" && text_of(&entries, 2, 2) == "kept");
+    Ok(())
+}
+
+/// Versions that have moved into other room are read as before.
+#[test]
+fn many_versions_stay_in_order(rt: HostRuntime) -> Result<(), Fail> {
+    let alloc = rt.alloc();
+    let mut entries = Entries::new(alloc);
+    assert!(rt; entries.import(alloc, two_essays(alloc)?) == Ok((1, 2)));
+    for number in 2..20 {
+        assert!(rt; entries.edit(alloc, 1, essay(alloc, "more")?) == Ok(number));
+    }
+    assert!(rt; text_of(&entries, 1, 1) == "one" && text_of(&entries, 1, 19) == "more");
+    assert!(rt; text_of(&entries, 1, 20) == "none" && text_of(&entries, 2, 1) == "two");
     Ok(())
 }

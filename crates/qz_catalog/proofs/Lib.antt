@@ -6,7 +6,6 @@ pub mod Marks
 pub mod Keeping
 pub mod Plans
 pub mod Granting
-pub mod OverrideLemmas
 pub mod Counting
 pub mod Bounds
 pub mod KeyLemmas

@@ -1,5 +1,5 @@
 -- Numbers that replies show, and what a record that is put owes.
-use Rattle.std.proofs.Common.{◌≡◌, ℕ, zero, suc, ◌+◌, ◌<◌, ◌⊎◌, inl, inr, Bool, true, false, List, [], ◌∷◌, ◌++◌, Some, None, length, take, get_or, refl, sym, ap, subst, ◌∙◌, arith, length-append}
+use Rattle.std.proofs.Common.{◌≡◌, ℕ, zero, suc, ◌+◌, ◌-◌, ◌<◌, ◌^◌, ◌⊎◌, inl, inr, Bool, true, false, List, [], ◌∷◌, ◌++◌, Some, None, length, take, get_or, refl, sym, ap, subst, ◌∙◌, arith, length-append}
 use Rattle.std.specs.Prelude.{is_some, slice_get, slice_index, ◌||◌}
 use Rattle.std.proofs.lemmas.List.{length-take-le, take-append-le, take_all}
 use Rattle.std.proofs.lemmas.Option.{get_or_from_slice_get, slice_get_within}
@@ -22,10 +22,10 @@ use Rattle.qz_bank.specs.declared.entry.Entry.{Entry}
 use Rattle.qz_roster.specs.Roster.{IsNext}
 use Rattle.qz_roster.proofs.Reading.{get-kept, some-same}
 use Rattle.qz_roster.proofs.Telling.{there-is}
-use Rattle.qz_catalog.specs.Applying.{IsAskedAt, IsLooked, IsPosed, IsRepeated, IsShort, IsToldOver, stand_in}
+use Rattle.qz_catalog.specs.Applying.{IsAnswered, IsAskedAt, IsLooked, IsPosed, IsRepeated, IsShort, IsToldOver, bank_after, bank_cause, stand_in}
 use Rattle.qz_catalog.specs.Holdings.{AreShown, IsHeld, IsShownBy}
 use Rattle.qz_catalog.specs.Shown.{done_with}
-use Rattle.qz_catalog.proofs.Answering.{repeated-answer}
+use Rattle.qz_catalog.proofs.Answering.{put-answered, repeated-answer}
 use Rattle.qz_catalog.proofs.Bounds.{short}
 use Rattle.qz_catalog.proofs.Granting.{asked-by}
 use Rattle.qz_catalog.proofs.KeyLemmas.{split-at}
@@ -137,11 +137,17 @@ asked-inside c ns n are there = let inside = slice_get_within c n there.item the
 pub put-at : (l g : List Record) (r : Record) (at : ℕ) → g ≡ l ++ r ∷ [] → at ≡ length l → slice_get g at ≡ Some r
 put-at l g r at list place = ap (slice_get g) place ∙ ap (λ (k : List Record). slice_get k (length l)) list ∙ slice_get-push l r
 
-pub put-said : (c l g : List Record) (r : Record) (told : Reply) (at : ℕ) → l ≡ c → g ≡ l ++ r ∷ [] → at ≡ length l → ((s : Record) → slice_get g at ≡ Some s → told ≡ said (take (at + 1) g) s) → told ≡ said (c ++ r ∷ []) r
+put-said : (c l g : List Record) (r : Record) (told : Reply) (at : ℕ) → l ≡ c → g ≡ l ++ r ∷ [] → at ≡ length l → ((s : Record) → slice_get g at ≡ Some s → told ≡ said (take (at + 1) g) s) → told ≡ said (c ++ r ∷ []) r
 put-said c l g r told at same list place says =
     let long : length g ≡ length l + 1 = ap (λ (k : List Record). length k) list ∙ length-append l (r ∷ []) in
     let whole : take (at + 1) g ≡ c ++ r ∷ [] = take_all (at + 1) g (omega arith) ∙ list ∙ ap (λ (k : List Record). k ++ r ∷ []) same in
     says r (put-at l g r at list place) ∙ ap (λ (k : List Record). said k r) whole
+
+-- a reply over a list that has one record more is the answer
+pub put-done : (c l g : List Record) (es gs : List Entry) (now : ℕ) (user : User) (ask : Ask) (r : Record) (told : Reply) (at : ℕ) → IsPosed c es now user ask → bank_cause es ask.request ≡ None → length l + 1 < 2 ^ 32 - 1
+    → r ≡ record_in c now user ask → l ≡ c → g ≡ l ++ r ∷ [] → at ≡ length l → ((s : Record) → slice_get g at ≡ Some s → told ≡ said (take (at + 1) g) s) → gs ≡ bank_after es ask.request → IsAnswered c now user ask told g gs
+put-done c l g es gs now user ask r told at p none few made same list place says bank =
+    put-answered c es now user ask r told g gs p none (subst (λ (k : List Record). length k + 1 < 2 ^ 32 - 1) same few) made (put-said c l g r told at same list place says) (list ∙ ap (λ (k : List Record). k ++ r ∷ []) same) bank
 
 pub none-asked : (e : Event) → ((x : Request) → e ≡ event.Asked x → ⊥) → asked_by e ≡ None
 none-asked (event.Asked x) none = absurd (none x refl)

@@ -5,7 +5,9 @@ use Rattle.qz_grading.specs.declared.refusal.Refusal.{Refusal}
 use Rattle.qz_grading.specs.declared.refusal.Refusal.TheVariants as refusal
 use Rattle.qz_grading.specs.Behaviours.{when}
 use Rattle.qz_bank.specs.declared.entry.Entry.{Entry}
+use Rattle.qz_bank.specs.declared.prepared.Prepared.{Prepared}
 use Rattle.qz_bank.specs.Banks as banks
+use Rattle.qz_bank.specs.Changes as changes
 use Rattle.qz_terms.specs.declared.ask.Ask.{Ask}
 use Rattle.qz_terms.specs.declared.people.User.{User}
 use Rattle.qz_terms.specs.declared.record.Event.TheVariants as event
@@ -82,6 +84,16 @@ bank_after es (request.Edit entry gift) = banks.changed es entry (request.Edit e
 bank_after es (request.Tune entry penalty hints) = banks.changed es entry (request.Tune entry penalty hints)
 bank_after es x = es
 
+-- the bank once a change that was prepared is put, if there is one
+abbrev pub bank_with : List Entry → Option Prepared → List Entry
+bank_with es None = es
+bank_with es (Some p) = changes.with_change es p
+
+-- a change, if there is one, may be put
+abbrev pub MayPut : List Entry → Option Prepared → Type 0
+MayPut es None = Unit {0}
+MayPut es (Some p) = changes.CanPut es p
+
 -- ---- max marks, as the bank has them
 
 -- the greatest for an entry's latest version
@@ -110,13 +122,14 @@ pub record IsAskedAt (c : List Record) (n : ℕ) : Type 0 where
 
 -- ---- what is put
 
--- there is room for a record, which may stand behind those of a book, and the bank is as the record leaves it
-pub record IsReady (b : Book) (r : Record) : Type 0 where
+-- there is room for a record, which may stand behind those of a book, and the change prepared is what the record does to the bank
+pub record IsReady (b : Book) (r : Record) (p : Option Prepared) : Type 0 where
   pub roster : IsRosterOf b.records.items b.roster
   pub shown : AreShown b.records.items b.shown.items
   pub next : IsNext b.records.items r
   pub entries : length (catalog.entries b.records.items) ≤ 20000
-  pub held : IsHeld (b.records.items ++ r ∷ []) b.entries
+  pub held : IsHeld (b.records.items ++ r ∷ []) (bank_with b.entries p)
+  pub change : MayPut b.entries p
   pub room : HasRoom b.roster r
   pub records : vec_len b.records < vec_capacity b.records
   pub numbers : vec_len b.shown < vec_capacity b.shown

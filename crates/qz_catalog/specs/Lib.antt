@@ -2,4 +2,3 @@ pub mod Shown
 pub mod Holdings
 pub mod Readings
 pub mod Applying
-pub mod Overrides

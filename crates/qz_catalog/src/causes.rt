@@ -11,7 +11,6 @@ ghost use Rattle.qz_catalog.specs.Holdings.{IsIndexed};
 ghost use Rattle.qz_catalog.specs.Applying.{bad_for, early_cause, greatest_of, stand_in};
 
 use crate::book::Book;
-use crate::overrides::override_count;
 use crate::people::token_place;
 use crate::quizzes::{is_ready, ready_at, slot_count, slot_entry};
 use crate::sizes::{MOST_BYTES, import_fits};
@@ -158,7 +157,7 @@ pub(crate) fn early_cause(book: &Book, key: &Option<Text>, request: &Request) ->
         Request::Slot { quiz, entry, max } => slot_cause(book, *quiz, *entry, *max),
         Request::Ready { quiz } => already_ready(book, *quiz),
         Request::Remax { quiz, slot, max } => remax_cause(book, *quiz, *slot, *max),
-        Request::Override { .. } => too_many(MOST_OVERRIDES, override_count(&book.records)),
+        Request::Override { .. } => too_many(MOST_OVERRIDES, book.roster.overrides.count()),
         Request::Regrade { quiz } => regrade_cause(book, *quiz),
         _ => None,
     }

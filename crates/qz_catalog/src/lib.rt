@@ -10,7 +10,6 @@ mod fronts;
 mod jobs;
 mod keys;
 mod missing;
-mod overrides;
 mod people;
 mod planning;
 mod putting;

@@ -7,12 +7,12 @@ ghost use Rattle.qz_terms.specs.declared.record.Record.{Record};
 ghost use Rattle.qz_terms.specs.declared.request.Request.{Request};
 ghost use Rattle.qz_terms.specs.Catalog.{asked};
 ghost use Rattle.qz_roster.specs.Roster.{HasRoom, IsNext, IsRosterOf};
-ghost use Rattle.qz_catalog.specs.Applying.{IsPosed, IsReady, bank_after, bank_cause};
+ghost use Rattle.qz_catalog.specs.Applying.{IsPosed, IsReady, MayPut, bank_after, bank_cause, bank_with};
 ghost use Rattle.qz_catalog.specs.Holdings.{IsBook, IsIndexed, IsShownBy};
 
 use crate::book::Book;
 use crate::replies::{number_of, said};
-use qz_bank::Entries;
+use qz_bank::{Entries, Prepared};
 use qz_grading::Refusal;
 use qz_terms::{Ask, Event, Record, Reply, Request, User, copy_of_text, make_room};
 use qz_text::{NoMemory, TryCopy};
@@ -50,30 +50,30 @@ fn record_of(
     })
 }
 
-/// Changes the bank as a request asks. Where that is refused or memory is wanting the bank is as before.
-fn change(alloc: Global, entries: &mut Entries, request: &Request) -> Result<(), Refusal>
-    ensures changed { OnOk result (entries.new ≡ bank_after entries.old request.now) }
-    ensures free { OnOk result (bank_cause entries.old request.now ≡ None) }
-    ensures refused { IfErr result (λ r. (r ≡ Refusal.Memory) ⊎ (bank_cause entries.old request.now ≡ Some r)) }
-    ensures unchanged { OnErr result (entries.new ≡ entries.old) }
+/// Prepares what a request changes of the bank, if it does.
+fn prepare(
+    alloc: Global,
+    entries: &Entries,
+    request: &Request,
+) -> Result<Option<Prepared>, Refusal>
+    ensures ready { IfOk result (MayPut entries.now) }
+    ensures prepared { IfOk result (λ p. bank_with entries.now p ≡ bank_after entries.now request.now) }
+    ensures free { OnOk result (bank_cause entries.now request.now ≡ None) }
+    ensures refused { IfErr result (λ r. (r ≡ Refusal.Memory) ⊎ (bank_cause entries.now request.now ≡ Some r)) }
 {
-    match request {
-        Request::Import { gift } => {
-            entries.import(alloc, gift.try_copy(alloc)?)?;
-        }
+    let prepared = match request {
+        Request::Import { gift } => entries.prepare_import(alloc, gift.try_copy(alloc)?)?,
         Request::Edit { entry, gift } => {
-            entries.edit(alloc, *entry, gift.try_copy(alloc)?)?;
+            entries.prepare_edit(alloc, *entry, gift.try_copy(alloc)?)?
         }
         Request::Tune {
             entry,
             penalty,
             hints,
-        } => {
-            entries.tune(alloc, *entry, *penalty, hints.try_copy(alloc)?)?;
-        }
-        _ => {}
-    }
-    Ok(())
+        } => entries.prepare_tune(alloc, *entry, *penalty, hints.try_copy(alloc)?)?,
+        _ => return Ok(None),
+    };
+    Ok(Some(prepared))
 }
 
 /// Makes room for a record that is to stand behind those of a book.
@@ -110,13 +110,25 @@ fn last_number(book: &Book, at: usize) -> u32
     }
 }
 
-/// Puts a record, for which there is room, behind those of a book. It takes no memory.
-pub(crate) fn append(alloc: Global, book: &mut Book, record: Record)
-    requires { IsReady book.old «record» }
+/// Changes the bank as was prepared. It takes no memory.
+fn change(entries: &mut Entries, prepared: Option<Prepared>)
+    requires { MayPut entries.old prepared }
+    ensures { entries.new ≡ bank_with entries.old prepared }
+{
+    if let Some(prepared) = prepared {
+        entries.put(prepared);
+    }
+}
+
+/// Puts a record, for which there is room, behind those of a book, and the change of the bank that was prepared for it. It takes
+/// no memory.
+pub(crate) fn append(alloc: Global, book: &mut Book, record: Record, prepared: Option<Prepared>)
+    requires { IsReady book.old «record» prepared }
     ensures records { book.new.records.items ≡ book.old.records.items ++ «record» ∷ [] }
-    ensures entries { book.new.entries ≡ book.old.entries }
+    ensures entries { book.new.entries ≡ bank_with book.old.entries prepared }
     ensures book { IsBook book.new }
 {
+    change(&mut book.entries, prepared);
     book.roster.keep(alloc, &book.records, &record);
     let at = book.records.len();
     book.records.push(record).unwrap();
@@ -124,8 +136,8 @@ pub(crate) fn append(alloc: Global, book: &mut Book, record: Record)
     book.shown.push(number).unwrap();
 }
 
-/// Puts the record that a request makes at the end, and changes the bank with it. All growth is made before anything is changed:
-/// where the change of the bank is refused or memory is wanting, the list and the bank are as before.
+/// Puts the record that a request makes at the end, and changes the bank with it. Before anything is changed, what may still refuse
+/// it is decided and all growth is made: where it is refused or memory is wanting, the list and the bank are as before.
 pub(crate) fn put(
     alloc: Global,
     book: &mut Book,
@@ -141,17 +153,11 @@ pub(crate) fn put(
     ensures unchanged { OnErr result (book.new.records.items ≡ book.old.records.items) }
     ensures book { IsBook book.new }
 {
+    let prepared = prepare(alloc, &book.entries, &ask.request)?;
     let record = record_of(alloc, &book.records, now, user, ask)?;
     make_book_room(alloc, book, &record)?;
-    match change(alloc, &mut book.entries, &ask.request) {
-        Ok(()) => {
-            let at = book.records.len();
-            append(alloc, book, record);
-            Ok(said(book, at))
-        }
-        Err(refusal) => {
-            drop(record);
-            Err(refusal)
-        }
-    }
+    // Here a keeper's journal will take the record. What follows takes no memory, and none of it fails.
+    let at = book.records.len();
+    append(alloc, book, record, prepared);
+    Ok(said(book, at))
 }

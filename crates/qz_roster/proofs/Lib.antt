@@ -7,4 +7,5 @@ pub mod NextLemmas
 pub mod CountLemmas
 pub mod Filled
 pub mod MemberLemmas
+pub mod OverrideCounts
 pub mod OverrideLemmas

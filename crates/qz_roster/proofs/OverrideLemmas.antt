@@ -1,8 +1,9 @@
 -- What is set otherwise, with one record more.
-use Rattle.std.proofs.Common.{◌≡◌, ℕ, Bool, true, false, List, [], ◌∷◌, ◌++◌, Option, Some, None, refl, sym, ap, ◌∙◌}
+use Rattle.std.proofs.Common.{◌≡◌, ℕ, ◌+◌, Bool, true, false, not, List, [], ◌∷◌, ◌++◌, Option, Some, None, refl, sym, ap, ◌∙◌}
 use Rattle.std.specs.BTreeMap.{BTreeMap, Updates, get}
+use Rattle.std.specs.Int.{from_bool}
 use Rattle.std.specs.Option.{option_or}
-use Rattle.std.specs.Prelude.{◌&&◌, ◌==◌, if◌then◌else◌, unwrap_or}
+use Rattle.std.specs.Prelude.{◌&&◌, ◌==◌, if◌then◌else◌, is_some, unwrap_or}
 use Rattle.qz_terms.specs.declared.access.Override.{Override}
 use Rattle.qz_terms.specs.declared.record.Record.{Record}
 use Rattle.qz_terms.specs.declared.request.Request.{Request}
@@ -16,6 +17,7 @@ use Rattle.qz_roster.specs.declared.told.Target.{Target}
 use Rattle.qz_roster.specs.Overrides.{AreOverrides, of_whom, set_in, set_otherwise}
 use Rattle.qz_roster.specs.Pairs.{pair_cmp}
 use Rattle.qz_roster.proofs.Filled.{filled}
+use Rattle.qz_roster.proofs.OverrideCounts.{override_count-more, override_count-same}
 use Rattle.qz_roster.proofs.Reading.{some-same}
 
 -- whether what is set for this target is set at this quiz, for this user or group
@@ -41,11 +43,12 @@ override-push c r q w n = last_of-push (λ s. override_by q w n (asked s)) c r
 pub overrides-same : (c : List Record) (r : Record) (o : Overrides) → AreOverrides c o → set_otherwise (asked r) ≡ None → AreOverrides (c ++ r ∷ []) o
 overrides-same c r o are told = record {
   each = λ q w n. are.each q w n ∙ sym (override-push c r q w n ∙ ap (λ (s : Option Override). option_or s (override c q w n)) (untold-by (asked r) q w n told));
+  count = are.count ∙ sym (override_count-same c r told);
 }
 
 -- ---- what it changes
 
--- this is set for a target, and nothing else is changed
+-- this is set for a target, and nothing else that is set is changed
 pub record IsSet (old new : Overrides) (t : Target) (set : Override) : Type 0 where
   pub each : (q : ℕ) (w : Whom) (n : ℕ) → set_in new q w n ≡ (if is_at t q w n then Some set else set_in old q w n)
 
@@ -71,11 +74,12 @@ either : (b : Bool) (set : Override) (o : Option Override) → (if b then Some s
 either true set o = refl
 either false set o = refl
 
-pub overrides-kept : (c : List Record) (r : Record) (old new : Overrides) (t : Target) (set : Override) → AreOverrides c old → set_otherwise (asked r) ≡ Some (t, set) → IsSet old new t set → AreOverrides (c ++ r ∷ []) new
-overrides-kept c r old new t set are told sets = record {
+pub overrides-kept : (c : List Record) (r : Record) (old new : Overrides) (t : Target) (set : Override) (first : Bool) → AreOverrides c old → set_otherwise (asked r) ≡ Some (t, set) → IsSet old new t set → is_some (override c t.quiz t.whom t.number) ≡ not first → new.count ≡ old.count + from_bool first → AreOverrides (c ++ r ∷ []) new
+overrides-kept c r old new t set first are told sets is counted = record {
   each = λ q w n.
       sets.each q w n
       ∙ ap (λ (o : Option Override). if is_at t q w n then Some set else o) (are.each q w n)
       ∙ either (is_at t q w n) set (override c q w n)
       ∙ sym (override-push c r q w n ∙ ap (λ (o : Option Override). option_or o (override c q w n)) (told-by (asked r) q w n t set told));
+  count = counted ∙ override_count-more c r old t set first are told is;
 }

@@ -8,6 +8,7 @@ use Rattle.qz_terms.specs.declared.request.Request.TheVariants as request
 use Rattle.qz_terms.specs.declared.request.Whom.{Whom}
 use Rattle.qz_terms.specs.declared.request.Whom.TheVariants as whom
 use Rattle.qz_terms.specs.Catalog.{override}
+use Rattle.qz_terms.specs.Cause.{override_count}
 use Rattle.qz_roster.specs.declared.overrides.Overrides.{Overrides}
 use Rattle.qz_roster.specs.declared.told.Target.{Target}
 use Rattle.qz_roster.specs.Pairs.{pair_cmp}
@@ -20,9 +21,10 @@ of_whom o whom.Group = o.groups
 abbrev pub set_in : Overrides → ℕ → Whom → ℕ → Option Override
 set_in o q w n = unwrap_or (get pair_cmp (of_whom o w) (q, n)) None
 
--- This is what the records set otherwise.
+-- This is what the records set otherwise, and for so many.
 pub record AreOverrides (c : List Record) (o : Overrides) : Type 0 where
   pub each : (q : ℕ) (w : Whom) (n : ℕ) → set_in o q w n ≡ override c q w n
+  pub count : o.count ≡ override_count c
 
 -- what a request sets otherwise, and for whom
 abbrev pub set_otherwise : Option Request → Option (Target × Override)

@@ -21,3 +21,6 @@ pub use told::{
     Named, import_count, makes_group, policy_by, quiz_by, readies, regrade_by, remax_by, slot_by,
     times_by,
 };
+
+#[cfg(test)]
+mod tests;

@@ -17,7 +17,7 @@ returns-clause-book c =
     let found : slice_get c.push.new.self.items c.len-at.result ≡ Some r = put-at old c.push.new.self.items r c.len-at.result items place in
     record {
       indexed = record {
-        held = subst (λ (l : List Record). IsHeld l c.args.book.now.entries) (sym items) c.requires.held;
+        held = subst (λ (l : List Record). IsHeld l c.change.new.entries) (sym items) (subst (IsHeld (old ++ r ∷ [])) (sym c.change.ensures) c.requires.held);
         roster = subst (λ (l : List Record). IsRosterOf l c.keep.new.self) (ap (λ (l : List Record). l ++ r ∷ []) c.deref.ensures.value ∙ sym items) c.keep.ensures;
       };
       shown = subst (λ (l : List Record). AreShown l c.push-2.new.self.items) (sym items) (subst (AreShown (old ++ r ∷ [])) (sym numbers)
