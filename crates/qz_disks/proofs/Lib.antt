@@ -1,3 +1,4 @@
+pub mod Sounds
 pub mod Moments
 pub mod Pieces
 pub mod Logged

@@ -1,17 +1,18 @@
 -- What stands in the slots of places, after one was written or added.
-use Rattle.std.proofs.Common.{◌≡◌, ◌≢◌, ⊎_elim, ℕ, ◌<◌, Bool, true, false, cond, List, [], ◌∷◌, ◌++◌, length, Option, Some, None, is_some, refl, sym, ◌∙◌, ap, get_or, ◌≤◌, arith}
-use Rattle.std.proofs.lemmas.Bool.{cases_Bool}
+use Rattle.std.proofs.Common.{◌≡◌, ◌≢◌, ◌⊎◌, inl, inr, ⊎_elim, ℕ, ◌<◌, Bool, true, false, cond, List, [], ◌∷◌, ◌++◌, length, Option, Some, None, is_some, refl, sym, ◌∙◌, ap, subst, get_or, ◌≤◌, arith}
+use Rattle.std.proofs.lemmas.Bool.{cases_Bool, true≢false}
 use Rattle.std.proofs.lemmas.Bool.Decides.{Decides-and, nat_tests}
 use Rattle.std.proofs.lemmas.Slice.Eq.{bytes_eq-Decides}
 use Rattle.std.proofs.lemmas.List.Folds.{find_at, find-set, find_past, find-append}
 use Rattle.std.proofs.lemmas.List.Quantifiers.{position-Some}
 use Rattle.std.proofs.lemmas.Option.{slice_get-get_or, slice_get_cases}
 use Rattle.std.proofs.Math.ListN.{set}
-use Rattle.std.specs.Prelude.{find, position, option_map, nat_lt, slice_get}
+use Rattle.std.specs.Prelude.{bytes_eq, find, position, option_and_then, option_map, nat_lt, slice_get, unwrap_or, ◌&&◌}
 use Rattle.std.specs.List.{position_or_len}
 use Rattle.std.specs.Option.{option_or}
+use Rattle.qz_disks.specs.Changes.{History}
 use Rattle.qz_disks.specs.Shelves.{Place, place}
-use Rattle.qz_disks.specs.Slots.{is_at, stands_at, Puts}
+use Rattle.qz_disks.specs.Slots.{is_at, stands_at, disk_at, empty_disk, Cabinet, IsSound, Puts}
 use Rattle.qz_disks.specs.declared.slots.Slot.{Slot}
 
 at_is : {T : Type 0} (at : Place) (slot : Slot T) → is_at at slot ≡ true → place slot.folder slot.name ≡ at
@@ -100,3 +101,27 @@ puts_added slots slot none =
       others = λ other ne. ap (option_map (λ (s : Slot _). s.holds))
           (find-append (is_at other) slots (slot ∷ []) ∙ passed (is_at other) slot (find (is_at other) slots) (elsewhere at other slot (own_place slot) ne));
     }
+
+-- two places are one or two
+apart_or_same : (at other : Place) → (at ≡ other) ⊎ (at ≢ other)
+apart_or_same at other =
+    let same = Decides-and _ _ (bytes_eq-Decides at.folder other.folder) (bytes_eq-Decides at.name other.name) in ⊎_elim
+    (λ yes. inl (ap (λ (f : List ℕ). place f at.name) (same.0 yes).0 ∙ ap (λ (n : List ℕ). place other.folder n) (same.0 yes).1))
+    (λ no. inr (λ is. absurd (true≢false (sym (same.1 (ap (λ (p : Place). p.folder) is, ap (λ (p : Place). p.name) is)) ∙ no))))
+    (cases_Bool (bytes_eq at.folder other.folder && bytes_eq at.name other.name))
+
+-- what is put has no call that is to fail, and neither has a disk that stood on the shelf
+disks_put : (changed : Place) (disk : Option History) (old new : List (Slot (Option History))) → Puts changed disk old new → (unwrap_or disk empty_disk).failing ≡ []
+    → ((at : Place) → (disk_at at old).failing ≡ []) → (at : Place) → (disk_at at new).failing ≡ []
+disks_put changed disk old new puts here before at =
+    let failing = λ (o : Option (Option History)). (unwrap_or (option_and_then (λ (d : Option History). d) o) empty_disk).failing in ⊎_elim
+    (λ same. subst (λ p. (disk_at p new).failing ≡ []) (sym same) (ap failing puts.there ∙ here))
+    (λ apart. ap failing (puts.others at apart) ∙ before at)
+    (apart_or_same at changed)
+
+-- so a shelf stays sound
+pub put_sound : (changed : Place) (disk : Option History) (old new : Cabinet) → IsSound old → Puts changed disk old.slots new.slots → new.failing ≡ old.failing → (unwrap_or disk empty_disk).failing ≡ [] → IsSound new
+put_sound changed disk old new sound puts same here = record {
+  own = same ∙ sound.own;
+  disks = disks_put changed disk old.slots new.slots puts here sound.disks;
+}

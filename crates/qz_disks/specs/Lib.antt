@@ -1,4 +1,5 @@
 pub mod Disks
+pub mod Sound
 pub mod Keepers
 pub mod Changes
 pub mod Log

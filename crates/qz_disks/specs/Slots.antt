@@ -71,3 +71,8 @@ pub record Cabinet : Type 0 where
 pub record Register : Type 0 where
   pub slots : List (Slot Bool)
   pub faults : ℕ
+
+-- A shelf in memory fails no call where none of its own is to fail, and none of a disk that stands there.
+pub record IsSound (shelf : Cabinet) : Type 0 where
+  pub own : shelf.failing ≡ []
+  pub disks : (at : Place) → (disk_at at shelf.slots).failing ≡ []

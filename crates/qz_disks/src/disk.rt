@@ -1,7 +1,8 @@
 //! A disk: a file as a journal sees it.
 
-ghost use Rattle.std.specs.Prelude.{◌≡◌, ℕ, ◌+◌, ◌-◌, ◌^◌, ◌<◌, ◌≤◌, List, length, take, drop, Option, option_map, is_some, IfSome, IfOk, OnOk};
+ghost use Rattle.std.specs.Prelude.{◌≡◌, ℕ, ◌+◌, ◌-◌, ◌^◌, ◌<◌, ◌≤◌, List, length, take, drop, Option, option_map, is_some, IfSome, IfOk, IsErr, OnOk};
 ghost use Rattle.qz_outside.specs.Causes.{HasCause};
+ghost use Rattle.qz_disks.specs.Sound.{StaysSound};
 ghost use Rattle.qz_disks.specs.Disks.{overwritten, growth, Torn, Cut, Same, Elapses, IsDurable, Room, Spends, HasRoom};
 
 use qz_outside::Failed;
@@ -28,6 +29,9 @@ pub trait Disk {
     /// How often it has failed: a count that never falls.
     ghost faults: { Self → ℕ };
 
+    /// It fails no call.
+    ghost sound: { Self → Type 0 };
+
     /// How many bytes it holds.
     fn size(&mut self) -> Result<u64, Failed>
         ensures size { IfOk result (λ size. IfSome (reads self.old) (λ bytes. size ≡ length bytes)) }
@@ -35,7 +39,9 @@ pub trait Disk {
         ensures crash { Elapses Same (moment self.old) (moment self.new)
             (left_at self.old) (left_at self.new) }
         ensures room { Spends 0 0 (room self.old) (room self.new) }
-        ensures cause { HasCause (faults self.old) (faults self.new) result };
+        ensures cause { HasCause (faults self.old) (faults self.new) result }
+        ensures stays_sound { StaysSound (sound self.old) (sound self.new)
+            (faults self.old) (faults self.new) (IsErr result) };
 
     /// Reads as many bytes as `target` has, from a place on.
     fn read_at(&mut self, at: u64, target: &mut [u8]) -> Result<(), Failed>
@@ -46,7 +52,9 @@ pub trait Disk {
         ensures crash { Elapses Same (moment self.old) (moment self.new)
             (left_at self.old) (left_at self.new) }
         ensures room { Spends 0 0 (room self.old) (room self.new) }
-        ensures cause { HasCause (faults self.old) (faults self.new) result };
+        ensures cause { HasCause (faults self.old) (faults self.new) result }
+        ensures stays_sound { StaysSound (sound self.old) (sound self.new)
+            (faults self.old) (faults self.new) (IsErr result) };
 
     /// Writes a piece over what is there, and past the end where it reaches so far. Where it fails, the disk may
     /// read as any outcome of a crash.
@@ -61,7 +69,9 @@ pub trait Disk {
             (left_at self.old) (left_at self.new) }
         ensures room { Spends 1 (growth at (length piece.now) (reads self.old))
             (room self.old) (room self.new) }
-        ensures cause { HasCause (faults self.old) (faults self.new) result };
+        ensures cause { HasCause (faults self.old) (faults self.new) result }
+        ensures stays_sound { StaysSound (sound self.old) (sound self.new)
+            (faults self.old) (faults self.new) (IsErr result) };
 
     /// Cuts off what stands behind so many bytes. Where it fails, the disk may read as any outcome of a crash.
     fn cut(&mut self, size: u64) -> Result<(), Failed>
@@ -72,7 +82,9 @@ pub trait Disk {
         ensures crash { Elapses (Cut size) (moment self.old) (moment self.new)
             (left_at self.old) (left_at self.new) }
         ensures room { Spends 1 0 (room self.old) (room self.new) }
-        ensures cause { HasCause (faults self.old) (faults self.new) result };
+        ensures cause { HasCause (faults self.old) (faults self.new) result }
+        ensures stays_sound { StaysSound (sound self.old) (sound self.new)
+            (faults self.old) (faults self.new) (IsErr result) };
 
     /// After it, a crash leaves what a read gives.
     fn sync(&mut self) -> Result<(), Failed>
@@ -83,7 +95,9 @@ pub trait Disk {
         ensures crash { Elapses Same (moment self.old) (moment self.new)
             (left_at self.old) (left_at self.new) }
         ensures room { Spends 1 0 (room self.old) (room self.new) }
-        ensures cause { HasCause (faults self.old) (faults self.new) result };
+        ensures cause { HasCause (faults self.old) (faults self.new) result }
+        ensures stays_sound { StaysSound (sound self.old) (sound self.new)
+            (faults self.old) (faults self.new) (IsErr result) };
 
     /// Makes room for the next eight writes, cuts and syncs, and for so many bytes past the end in all.
     fn reserve(&mut self, bytes: u64) -> Result<(), NoMemory>
@@ -91,7 +105,8 @@ pub trait Disk {
         ensures reads { reads self.new ≡ reads self.old }
         ensures crash { Elapses Same (moment self.old) (moment self.new)
             (left_at self.old) (left_at self.new) }
-        ensures faults { faults self.new ≡ faults self.old };
+        ensures faults { faults self.new ≡ faults self.old }
+        ensures sound { sound self.old → sound self.new };
 
     /// A disk as it reads is one of the outcomes of a crash.
     ghost reads_now: { (disk : Self) → IfSome (reads disk) (left_at disk (moment disk)) };

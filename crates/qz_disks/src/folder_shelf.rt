@@ -87,6 +87,8 @@ impl<R: Files<File = File>> Shelf for FolderShelf<R> {
 
     ghost faults = { λ s. s.faults };
 
+    ghost sound = { λ _. ⊥ };
+
     ghost reads_now = { λ _ _ _. tt };
 
     fn disk(&mut self, alloc: Global, folder: &[u8], name: &[u8]) -> Result<FileDisk, ShelfErr>

@@ -1,6 +1,6 @@
 //! A keeper of a list of payloads.
 
-ghost use Rattle.std.specs.Prelude.{◌≡◌, ℕ, ◌≤◌, List, length, Option, None};
+ghost use Rattle.std.specs.Prelude.{◌≡◌, ℕ, ◌≤◌, List, length, Option, None, IsErrOf};
 ghost use Rattle.qz_disks.specs.declared.keeper.KeepErr.TheVariants.{Fault, Memory};
 
 use qz_outside::Failed;
@@ -52,6 +52,7 @@ impl<T: Drop> From<AllocFailed<T>> for KeepErr {
 /// at its end or not, and `reopen` tells.
 pub trait Keeper {
     ghost use Rattle.qz_disks.specs.Keepers.{EndsAppending, EndsReopening, HasKeepCause};
+    ghost use Rattle.qz_disks.specs.Sound.{StaysSound};
 
     /// The payloads kept, where the keeper tells them; the one in doubt isn't among them.
     ghost kept: { Self → Option (List (List ℕ)) };
@@ -62,18 +63,25 @@ pub trait Keeper {
     /// How often what it stands on has failed: a count that never falls.
     ghost faults: { Self → ℕ };
 
+    /// What it stands on fails no call.
+    ghost sound: { Self → Type 0 };
+
     /// Keeps one more payload, of at most 67,108,864 bytes. After `Fault` it is in doubt, and after `Memory` it
     /// isn't kept.
     fn append(&mut self, alloc: Global, payload: &[u8]) -> Result<(), KeepErr>
         requires settled { doubt self.old ≡ None }
         requires size { length payload.now ≤ 67108864 }
         ensures list { EndsAppending (kept self.old) (kept self.new) (doubt self.new) payload.now result }
-        ensures cause { HasKeepCause (faults self.old) (faults self.new) result };
+        ensures cause { HasKeepCause (faults self.old) (faults self.new) result }
+        ensures stays_sound { StaysSound (sound self.old) (sound self.new)
+            (faults self.old) (faults self.new) (IsErrOf result Fault) };
 
     /// Gives all payloads, and the one in doubt where it turns out to be kept. From then on none is in doubt. After
     /// an error the list and the doubt are as they were.
     fn reopen(&mut self, alloc: Global) -> Result<Listed<Bytes>, KeepErr>
         ensures list { EndsReopening (kept self.old) (kept self.new)
             (doubt self.old) (doubt self.new) result }
-        ensures cause { HasKeepCause (faults self.old) (faults self.new) result };
+        ensures cause { HasKeepCause (faults self.old) (faults self.new) result }
+        ensures stays_sound { StaysSound (sound self.old) (sound self.new)
+            (faults self.old) (faults self.new) (IsErrOf result Fault) };
 }

@@ -2,6 +2,7 @@
 
 ghost use Rattle.std.specs.Prelude.{◌≡◌, ◌↔◌, ℕ, ◌+◌, ◌-◌, ◌^◌, ◌<◌, ◌≤◌, true, List, [], length, take, drop, vec_len, vec_capacity, Option, Some, Contains, IsErr, IfOk, OnOk, OnErr};
 ghost use Rattle.qz_outside.specs.Causes.{HasCause, counted};
+ghost use Rattle.qz_disks.specs.Sound.{StaysSound};
 ghost use Rattle.qz_disks.specs.Disks.{overwritten, Torn, Cut, Same, Elapses, IsDurable, Spends, HasRoom};
 ghost use Rattle.qz_disks.specs.Changes.{content, MayLeave, LeftAt, holding, left_now};
 ghost use Rattle.qz_disks.specs.Stops.{filled, left_by};
@@ -231,6 +232,8 @@ impl Disk for MemoryDisk {
 
     ghost faults = { λ d. d.faults };
 
+    ghost sound = { λ d. d.failing ≡ [] };
+
     ghost reads_now = { λ d. left_now d.changes };
 
     fn size(&mut self) -> Result<u64, Failed>
@@ -240,6 +243,8 @@ impl Disk for MemoryDisk {
             (LeftAt self.old.changes) (LeftAt self.new.changes) }
         ensures room { Spends 0 0 self.old.room self.new.room }
         ensures cause { HasCause self.old.faults self.new.faults result }
+        ensures stays_sound { StaysSound (self.old.failing ≡ []) (self.new.failing ≡ [])
+            self.old.faults self.new.faults (IsErr result) }
 
         // It fails where the number of this call is listed, and there alone; it has no effect then.
         ensures fails { IsErr result ↔ Contains self.old.failing (counted self.old.calls) }
@@ -259,6 +264,8 @@ impl Disk for MemoryDisk {
             (LeftAt self.old.changes) (LeftAt self.new.changes) }
         ensures room { Spends 0 0 self.old.room self.new.room }
         ensures cause { HasCause self.old.faults self.new.faults result }
+        ensures stays_sound { StaysSound (self.old.failing ≡ []) (self.new.failing ≡ [])
+            self.old.faults self.new.faults (IsErr result) }
 
         // It fails where the number of this call is listed, and there alone; it has no effect then.
         ensures fails { IsErr result ↔ Contains self.old.failing (counted self.old.calls) }
@@ -283,6 +290,8 @@ impl Disk for MemoryDisk {
         ensures room { Spends 1 (at + length piece.now - length (content self.old.changes))
             self.old.room self.new.room }
         ensures cause { HasCause self.old.faults self.new.faults result }
+        ensures stays_sound { StaysSound (self.old.failing ≡ []) (self.new.failing ≡ [])
+            self.old.faults self.new.faults (IsErr result) }
 
         // It fails where the number of this call is listed, and there alone; it has no effect then.
         ensures fails { IsErr result ↔ Contains self.old.failing (counted self.old.calls) }
@@ -313,6 +322,8 @@ impl Disk for MemoryDisk {
             (LeftAt self.old.changes) (LeftAt self.new.changes) }
         ensures room { Spends 1 0 self.old.room self.new.room }
         ensures cause { HasCause self.old.faults self.new.faults result }
+        ensures stays_sound { StaysSound (self.old.failing ≡ []) (self.new.failing ≡ [])
+            self.old.faults self.new.faults (IsErr result) }
 
         // It fails where the number of this call is listed, and there alone; it has no effect then.
         ensures fails { IsErr result ↔ Contains self.old.failing (counted self.old.calls) }
@@ -336,6 +347,8 @@ impl Disk for MemoryDisk {
             (LeftAt self.old.changes) (LeftAt self.new.changes) }
         ensures room { Spends 1 0 self.old.room self.new.room }
         ensures cause { HasCause self.old.faults self.new.faults result }
+        ensures stays_sound { StaysSound (self.old.failing ≡ []) (self.new.failing ≡ [])
+            self.old.faults self.new.faults (IsErr result) }
 
         // It fails where the number of this call is listed, and there alone; it has no effect then.
         ensures fails { IsErr result ↔ Contains self.old.failing (counted self.old.calls) }

@@ -3,6 +3,7 @@
 ghost use Rattle.std.specs.Prelude.{◌≡◌, ◌↔◌, ◌≤◌, [], length, Some, None, IsOk, IsErrOf, Contains};
 ghost use Rattle.qz_outside.specs.Causes.{counted};
 ghost use Rattle.qz_disks.specs.Keepers.{EndsAppending, EndsReopening, HasKeepCause};
+ghost use Rattle.qz_disks.specs.Sound.{StaysSound};
 ghost use Rattle.qz_disks.specs.declared.keeper.KeepErr.TheVariants.{Fault};
 
 use crate::{KeepErr, Keeper};
@@ -54,12 +55,16 @@ impl Keeper for MemoryKeeper {
 
     ghost faults = { λ k. k.faults };
 
+    ghost sound = { λ k. k.failing ≡ [] };
+
     fn append(&mut self, alloc: Global, payload: &[u8]) -> Result<(), KeepErr>
         requires settled { self.old.doubt ≡ None }
         requires size { length payload.now ≤ 67108864 }
         ensures list { EndsAppending (Some self.old.payloads) (Some self.new.payloads) self.new.doubt
             payload.now result }
         ensures cause { HasKeepCause self.old.faults self.new.faults result }
+        ensures stays_sound { StaysSound (self.old.failing ≡ []) (self.new.failing ≡ [])
+            self.old.faults self.new.faults (IsErrOf result Fault) }
 
         // Where it fails, the number of this call is listed.
         ensures fails { IsErrOf result Fault → Contains self.old.failing (counted self.old.calls) }
@@ -82,6 +87,8 @@ impl Keeper for MemoryKeeper {
         ensures list { EndsReopening (Some self.old.payloads) (Some self.new.payloads)
             self.old.doubt self.new.doubt result }
         ensures cause { HasKeepCause self.old.faults self.new.faults result }
+        ensures stays_sound { StaysSound (self.old.failing ≡ []) (self.new.failing ≡ [])
+            self.old.faults self.new.faults (IsErrOf result Fault) }
         ensures fails { IsErrOf result Fault → Contains self.old.failing (counted self.old.calls) }
     {
         let copy = self.payloads.try_copy(alloc)?;

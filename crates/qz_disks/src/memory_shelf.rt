@@ -4,7 +4,8 @@ ghost use Rattle.std.specs.Prelude.{◌≡◌, ℕ, ◌+◌, ◌-◌, ◌^◌, �
 ghost use Rattle.std.specs.Option.{option_copied};
 ghost use Rattle.qz_outside.specs.Causes.{counted};
 ghost use Rattle.qz_disks.specs.Shelves.{place, EndsHandingOut, TakesBack, RisesBy, HasShelfCause};
-ghost use Rattle.qz_disks.specs.Slots.{stands_at, disk_at, Puts, memory_file, memory_files, memory_reads_now};
+ghost use Rattle.qz_disks.specs.Sound.{StaysSound};
+ghost use Rattle.qz_disks.specs.Slots.{stands_at, disk_at, IsSound, Puts, memory_file, memory_files, memory_reads_now};
 ghost use Rattle.qz_disks.specs.declared.shelf.ShelfErr.TheVariants.{Failed, Memory};
 
 use crate::slots::{Slot, add, has, look, replace};
@@ -57,6 +58,7 @@ impl MemoryShelf {
         ensures puts { OnOk result
             (Puts (place folder.now name.now) (Some disk) self.old.slots self.new.slots) }
         ensures rest { self.new ≡ record self.old { slots = self.new.slots } }
+        ensures sound { disk.failing ≡ [] → IsSound self.old → IsSound self.new }
         ensures err { OnErr result (self.new ≡ self.old) }
     {
         if has(&self.slots, folder, name) {
@@ -99,6 +101,8 @@ impl Shelf for MemoryShelf {
 
     ghost faults = { λ s. s.faults };
 
+    ghost sound = { λ s. IsSound s };
+
     ghost reads_now = { λ s. memory_reads_now s.slots };
 
     fn disk(&mut self, alloc: Global, folder: &[u8], name: &[u8]) -> Result<MemoryDisk, ShelfErr>
@@ -107,6 +111,9 @@ impl Shelf for MemoryShelf {
             (memory_files self.new.slots) (λ disk. memory_file disk.changes) result }
         ensures fresh { IfOk result (λ disk. disk.faults ≡ 0) }
         ensures cause { HasShelfCause self.old.faults self.new.faults result }
+        ensures sound { IfOk result (λ disk. IsSound self.old → disk.failing ≡ []) }
+        ensures stays_sound { StaysSound (IsSound self.old) (IsSound self.new)
+            self.old.faults self.new.faults (IsErrOf result Failed) }
 
         // It is the disk that stands there, and that alone is taken.
         ensures whole { IfOk result (λ disk. disk
@@ -142,6 +149,8 @@ impl Shelf for MemoryShelf {
         ensures files { TakesBack (place folder.now name.now) (memory_files self.old.slots)
             (memory_files self.new.slots) (memory_file disk.changes) }
         ensures faults { RisesBy disk.faults self.old.faults self.new.faults }
+        ensures stays_sound { disk.failing ≡ [] → disk.faults ≡ 0
+            → StaysSound (IsSound self.old) (IsSound self.new) self.old.faults self.new.faults ⊥ }
 
         // The disk stands there whole, and the count of calls stays.
         ensures puts { Puts (place folder.now name.now) (Some disk) self.old.slots self.new.slots }

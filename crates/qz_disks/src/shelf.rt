@@ -1,6 +1,6 @@
 //! A shelf of files.
 
-ghost use Rattle.std.specs.Prelude.{◌≡◌, ℕ, true, false, IfSome, IfOk};
+ghost use Rattle.std.specs.Prelude.{◌≡◌, ℕ, true, false, IfSome, IfOk, IsErrOf};
 ghost use Rattle.qz_disks.specs.declared.shelf.ShelfErr.TheVariants.{Failed, Memory};
 
 use crate::Disk;
@@ -54,6 +54,7 @@ impl<T: Drop> From<AllocFailed<T>> for ShelfErr {
 /// what the shelf tells of those that stand there, and the disks of those that are out.
 pub trait Shelf {
     ghost use Rattle.qz_disks.specs.Shelves.{Place, Files, place, disk_file, EndsHandingOut, TakesBack, RisesBy, HasShelfCause};
+    ghost use Rattle.qz_disks.specs.Sound.{StaysSound};
 
     /// What is handed out.
     type Disk: Disk + Send;
@@ -65,6 +66,9 @@ pub trait Shelf {
     /// How often it has failed, and the disks given back: a count that never falls.
     ghost faults: { Self → ℕ };
 
+    /// It fails no call, and no disk that it hands out fails one.
+    ghost sound: { Self → Type 0 };
+
     /// Hands a file out, with a count of faults of 0. After an error each file is as it was.
     fn disk(&mut self, alloc: Global, folder: &[u8], name: &[u8]) -> Result<Self::Disk, ShelfErr>
         requires { (files self.old).is_out (place folder.now name.now) ≡ false }
@@ -72,14 +76,19 @@ pub trait Shelf {
             (λ disk. disk_file (Self.Disk.reads disk) (Self.Disk.moment disk) (Self.Disk.left_at disk))
             result }
         ensures fresh { IfOk result (λ disk. Self.Disk.faults disk ≡ 0) }
-        ensures cause { HasShelfCause (faults self.old) (faults self.new) result };
+        ensures cause { HasShelfCause (faults self.old) (faults self.new) result }
+        ensures sound { IfOk result (λ disk. sound self.old → Self.Disk.sound disk) }
+        ensures stays_sound { StaysSound (sound self.old) (sound self.new)
+            (faults self.old) (faults self.new) (IsErrOf result Failed) };
 
     /// Takes a disk back, which is the file from then on. The shelf's count of faults rises by the disk's.
     fn back(&mut self, folder: &[u8], name: &[u8], disk: Self::Disk)
         requires { (files self.old).is_out (place folder.now name.now) ≡ true }
         ensures files { TakesBack (place folder.now name.now) (files self.old) (files self.new)
             (disk_file (Self.Disk.reads disk) (Self.Disk.moment disk) (Self.Disk.left_at disk)) }
-        ensures faults { RisesBy (Self.Disk.faults disk) (faults self.old) (faults self.new) };
+        ensures faults { RisesBy (Self.Disk.faults disk) (faults self.old) (faults self.new) }
+        ensures stays_sound { Self.Disk.sound disk → Self.Disk.faults disk ≡ 0
+            → StaysSound (sound self.old) (sound self.new) (faults self.old) (faults self.new) ⊥ };
 
     /// A file that isn't out may be left as it reads.
     ghost reads_now: { (shelf : Self) (at : Place) → (files shelf).is_out at ≡ false

@@ -1,5 +1,5 @@
 -- What a journal on a disk keeps: its list, the place of the closed gate behind it, and the payload in doubt.
-use Rattle.std.specs.Prelude.{◌≡◌, ◌⊎◌, ◌≢◌, ℕ, ◌+◌, ◌<◌, List, [], ◌∷◌, ◌++◌, ◌-◌, ◌≤◌, length, take, drop, Option, Some, None, Ok, Err, Result, IsErrOf, ⊤, ◌==◌, if◌then◌else◌}
+use Rattle.std.specs.Prelude.{◌≡◌, ◌⊎◌, ◌≢◌, ℕ, ◌+◌, ◌<◌, List, [], ◌∷◌, ◌++◌, ◌-◌, ◌≤◌, length, take, drop, Option, Some, None, is_some, true, Ok, Err, Result, IsErrOf, ⊤, ◌==◌, if◌then◌else◌}
 use Rattle.std.specs.Int.{from_le_bytes, w32}
 use Rattle.std.specs.Result.{result_unwrap_or}
 use Rattle.qz_disks.specs.Disks.{IsDurable}
@@ -99,6 +99,11 @@ pub record Ledger (D : Type 0) : Type 0 where
   pub kept : Option (List (List ℕ))
   pub doubt : Option (List ℕ)
   pub damages : ℕ
+
+-- A journal fails no call where its disk fails none and tells its bytes: it then knows that they aren't damaged.
+pub record IsSound {D : Type 0} (sound : D → Type 0) (journal : Ledger D) : Type 0 where
+  pub disk : sound journal.disk
+  pub tells : is_some journal.kept ≡ true
 
 -- an image stands for what one of these outcomes stands for, damage included
 pub record StandsAs (outcomes : List ℕ → Type 0) (image : List ℕ) : Type 0 where

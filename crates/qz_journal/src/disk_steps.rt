@@ -1,8 +1,9 @@
 //! Steps on a disk that end with a sync.
 
-ghost use Rattle.std.specs.Prelude.{◌≡◌, ◌+◌, ◌^◌, ◌<◌, ◌≤◌, length, take, option_map, is_some, IfSome, OnOk};
+ghost use Rattle.std.specs.Prelude.{◌≡◌, ◌+◌, ◌^◌, ◌<◌, ◌≤◌, length, take, option_map, is_some, IfSome, IsErr, OnOk};
 ghost use Rattle.qz_outside.specs.Causes.{HasCause};
 ghost use Rattle.qz_disks.specs.Disks.{overwritten, growth, Torn, Cut, Elapses, IsDurable, Spends, HasRoom};
+ghost use Rattle.qz_disks.specs.Sound.{StaysSound};
 
 use qz_disks::Disk;
 use qz_outside::Failed;
@@ -22,6 +23,8 @@ pub(crate) fn write_synced<D: Disk>(disk: &mut D, at: u64, piece: &[u8]) -> Resu
     ensures room { Spends 2 (growth at (length piece.now) (D.reads disk.old))
         (D.room disk.old) (D.room disk.new) }
     ensures cause { HasCause (D.faults disk.old) (D.faults disk.new) result }
+    ensures stays_sound { StaysSound (D.sound disk.old) (D.sound disk.new)
+        (D.faults disk.old) (D.faults disk.new) (IsErr result) }
 {
     disk.write_at(at, piece)?;
     disk.sync()
@@ -38,6 +41,8 @@ pub(crate) fn cut_synced<D: Disk>(disk: &mut D, size: u64) -> Result<(), Failed>
     ensures crash { Elapses (Cut size) (D.moment disk.old) (D.moment disk.new)
         (D.left_at disk.old) (D.left_at disk.new) }
     ensures cause { HasCause (D.faults disk.old) (D.faults disk.new) result }
+    ensures stays_sound { StaysSound (D.sound disk.old) (D.sound disk.new)
+        (D.faults disk.old) (D.faults disk.new) (IsErr result) }
 {
     disk.cut(size)?;
     disk.sync()

@@ -1,12 +1,14 @@
 //! The journal.
 
-ghost use Rattle.std.specs.Prelude.{◌≡◌, ◌+◌, ◌^◌, ◌<◌, ◌≤◌, length, Ok, Some, None, option_map, is_some, IfSome, IfOk, IfErr, OnOk, IsErrOf};
+ghost use Rattle.std.specs.Prelude.{◌≡◌, ◌+◌, ◌^◌, ◌<◌, ◌≤◌, length, Ok, Some, None, option_map, is_some, IfSome, IfOk, IfErr, IsErr, OnOk, IsErrOf};
 ghost use Rattle.qz_outside.specs.Causes.{HasCause, HasRisen};
 ghost use Rattle.qz_disks.specs.Disks.{LeavesOnly, IsDurable, HasRoom};
+ghost use Rattle.qz_disks.specs.Sound.{StaysSound};
 ghost use Rattle.qz_disks.specs.Keepers.{with_one_more, EndsAppending, EndsReopening, HasKeepCause};
+ghost use Rattle.qz_disks.specs.declared.keeper.KeepErr.TheVariants as keep;
 ghost use Rattle.qz_journal.specs.declared.fault.JournalFault.TheVariants as fault;
 ghost use Rattle.qz_journal.specs.Frames.{shut_frame, stands_for};
-ghost use Rattle.qz_journal.specs.Journals.{payloads_of, payloads_before, payload_of, StandsFor, StandFor, StandsAs, StandsLike, IsAtRest, IsKept, IsLoaded, IsPut, IsRead, TellsDamage, HasJournalCause};
+ghost use Rattle.qz_journal.specs.Journals.{payloads_of, payloads_before, payload_of, StandsFor, StandFor, StandsAs, StandsLike, IsAtRest, IsKept, IsLoaded, IsPut, IsRead, IsSound, TellsDamage, HasJournalCause};
 
 use crate::JournalFault;
 use crate::disk_steps::{cut_synced, write_synced};
@@ -82,6 +84,10 @@ impl<D: Disk> Journal<D> {
             IfSome (D.reads disk) (λ bytes. TellsDamage (stands_for bytes) e.1)) }
         ensures failed { IfErr result (λ e. e.1 ≡ fault.Fault
             → HasRisen (D.faults disk) (D.faults e.0)) }
+        ensures stays_sound { IfOk result (λ made. StaysSound (D.sound disk) (D.sound made.0.disk)
+            (D.faults disk) (D.faults made.0.disk) ⊥) }
+        ensures stays_sound_of_err { IfErr result (λ e. StaysSound (D.sound disk) (D.sound e.0)
+            (D.faults disk) (D.faults e.0) (e.1 ≡ fault.Fault)) }
         ensures any_moment_of_err { IfErr result (λ e. IfSome (D.reads disk) (λ _. LeavesOnly
             (StandsAs (D.left_at disk (D.moment disk)))
             (D.moment disk) (D.moment e.0) (D.left_at disk) (D.left_at e.0))) }
@@ -140,6 +146,8 @@ fn put<D: Disk>(disk: &mut D, gate: u64, frame: &[u8]) -> Result<(), Failed>
         (StandsFor (payloads_before gate bytes) (Some (payload_of frame.now)))
         (D.moment disk.old) (D.moment disk.new) (D.left_at disk.old) (D.left_at disk.new)) }
     ensures cause { HasCause (D.faults disk.old) (D.faults disk.new) result }
+    ensures stays_sound { StaysSound (D.sound disk.old) (D.sound disk.new)
+        (D.faults disk.old) (D.faults disk.new) (IsErr result) }
 {
     write_synced(disk, gate + 1, frame)?;
     write_synced(disk, gate, &[OPEN])
@@ -158,6 +166,8 @@ fn mend<D: Disk>(disk: &mut D, size: u64, gate: u64) -> Result<(), Failed>
     ensures crash { IfSome (D.reads disk.old) (λ bytes. LeavesOnly (StandsLike bytes)
         (D.moment disk.old) (D.moment disk.new) (D.left_at disk.old) (D.left_at disk.new)) }
     ensures cause { HasCause (D.faults disk.old) (D.faults disk.new) result }
+    ensures stays_sound { StaysSound (D.sound disk.old) (D.sound disk.new)
+        (D.faults disk.old) (D.faults disk.new) (IsErr result) }
 {
     if size > SHORTEST {
         return cut_synced(disk, gate + 1);
@@ -180,6 +190,8 @@ fn recover<D: Disk>(alloc: Global, disk: &mut D) -> Result<Found, JournalFault>
         (StandsAs (D.left_at disk.old (D.moment disk.old)))
         (D.moment disk.old) (D.moment disk.new) (D.left_at disk.old) (D.left_at disk.new)) }
     ensures cause { HasJournalCause (D.faults disk.old) (D.faults disk.new) result }
+    ensures stays_sound { StaysSound (D.sound disk.old) (D.sound disk.new)
+        (D.faults disk.old) (D.faults disk.new) (IsErrOf result fault.Fault) }
 {
     let found = survey(alloc, disk)?;
     mend(disk, found.size, found.gate)?;
@@ -193,12 +205,17 @@ impl<D: Disk> Keeper for Journal<D> {
 
     ghost faults = { λ j. D.faults j.disk + j.damages };
 
+    ghost sound = { λ j. IsSound D.sound j };
+
     fn append(&mut self, alloc: Global, payload: &[u8]) -> Result<(), KeepErr>
         requires settled { self.old.doubt ≡ None }
         requires size { length payload.now ≤ 67108864 }
         ensures list { EndsAppending self.old.kept self.new.kept self.new.doubt payload.now result }
         ensures cause { HasKeepCause (D.faults self.old.disk + self.old.damages)
             (D.faults self.new.disk + self.new.damages) result }
+        ensures stays_sound { StaysSound (IsSound D.sound self.old) (IsSound D.sound self.new)
+            (D.faults self.old.disk + self.old.damages) (D.faults self.new.disk + self.new.damages)
+            (IsErrOf result keep.Fault) }
 
         // It is the disk that failed.
         ensures sound { self.new.damages ≡ self.old.damages }
@@ -233,6 +250,9 @@ impl<D: Disk> Keeper for Journal<D> {
         ensures list { EndsReopening self.old.kept self.new.kept self.old.doubt self.new.doubt result }
         ensures cause { HasKeepCause (D.faults self.old.disk + self.old.damages)
             (D.faults self.new.disk + self.new.damages) result }
+        ensures stays_sound { StaysSound (IsSound D.sound self.old) (IsSound D.sound self.new)
+            (D.faults self.old.disk + self.old.damages) (D.faults self.new.disk + self.new.damages)
+            (IsErrOf result keep.Fault) }
 
         // Over a disk that tells its bytes it is the disk that failed.
         ensures sound { IfSome self.old.kept (λ _. self.new.damages ≡ self.old.damages) }

@@ -1,7 +1,9 @@
 //! Reading the frames of a file.
 
-ghost use Rattle.std.specs.Prelude.{◌≡◌, ◌+◌, ◌^◌, ◌<◌, ◌≤◌, length, take, drop, IfSome, IfOk, IfErr, OnOk};
+ghost use Rattle.std.specs.Prelude.{◌≡◌, ◌+◌, ◌^◌, ◌<◌, ◌≤◌, length, take, drop, IfSome, IfOk, IfErr, IsErrOf, OnOk};
 ghost use Rattle.qz_disks.specs.Disks.{Same, Elapses, IsDurable, Spends, HasRoom};
+ghost use Rattle.qz_disks.specs.Sound.{StaysSound};
+ghost use Rattle.qz_journal.specs.declared.fault.JournalFault.TheVariants.{Fault};
 ghost use Rattle.qz_journal.specs.Frames.{stands_for};
 ghost use Rattle.qz_journal.specs.Journals.{length_behind, frames_at, NextFrame, IsWhole, TellsDamage, HasJournalCause, IsRead};
 
@@ -44,6 +46,8 @@ pub(crate) fn survey<D: Disk>(alloc: Global, disk: &mut D) -> Result<Found, Jour
         (D.left_at disk.old) (D.left_at disk.new) }
     ensures room { OnOk result (HasRoom 3 9 (D.room disk.new)) }
     ensures cause { HasJournalCause (D.faults disk.old) (D.faults disk.new) result }
+    ensures stays_sound { StaysSound (D.sound disk.old) (D.sound disk.new)
+        (D.faults disk.old) (D.faults disk.new) (IsErrOf result Fault) }
 {
     disk.reserve(SHORTEST)?;
     disk.sync()?;
@@ -72,6 +76,8 @@ fn read_frames<D: Disk>(alloc: Global, disk: &mut D, size: u64) -> Result<Found,
         (D.left_at disk.old) (D.left_at disk.new) }
     ensures room { Spends 0 0 (D.room disk.old) (D.room disk.new) }
     ensures cause { HasJournalCause (D.faults disk.old) (D.faults disk.new) result }
+    ensures stays_sound { StaysSound (D.sound disk.old) (D.sound disk.new)
+        (D.faults disk.old) (D.faults disk.new) (IsErrOf result Fault) }
 {
     let mut start = [0u8; 8];
     disk.read_at(0, &mut start)?;
@@ -110,6 +116,8 @@ fn next_frame<D: Disk>(
         (D.left_at disk.old) (D.left_at disk.new) }
     ensures room { Spends 0 0 (D.room disk.old) (D.room disk.new) }
     ensures cause { HasJournalCause (D.faults disk.old) (D.faults disk.new) result }
+    ensures stays_sound { StaysSound (D.sound disk.old) (D.sound disk.new)
+        (D.faults disk.old) (D.faults disk.new) (IsErrOf result Fault) }
 {
     let behind = size - gate - 1;
     if behind < 5 {
@@ -161,6 +169,8 @@ fn read_bytes<D: Disk>(
         (D.left_at disk.old) (D.left_at disk.new) }
     ensures room { Spends 0 0 (D.room disk.old) (D.room disk.new) }
     ensures cause { HasJournalCause (D.faults disk.old) (D.faults disk.new) result }
+    ensures stays_sound { StaysSound (D.sound disk.old) (D.sound disk.new)
+        (D.faults disk.old) (D.faults disk.new) (IsErrOf result Fault) }
 {
     let mut items = vec![in alloc; 0u8; count as usize]?;
     disk.read_at(place, &mut items)?;

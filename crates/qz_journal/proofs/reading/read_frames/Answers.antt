@@ -1,6 +1,7 @@
 use Rattle.std.proofs.Common.{rules, ◌≡◌, length, ◌∙◌, ap, arith}
 use Rattle.qz_disks.specs.Disks.{Same}
 use Rattle.qz_disks.proofs.Moments.{then_same, same_whole}
+use Rattle.qz_disks.proofs.Sounds.{then_sound, up_to_here}
 use Rattle.qz_journal.proofs.Steps.{none_yet, one_more}
 use Rattle.qz_journal.proofs.reading.read_frames.Goals as goal
 
@@ -12,6 +13,7 @@ loop-payloads-init g c =
       crash = read.crash;
       room = read.room;
       later = read.cause.later;
+      sound = up_to_here read.stays_sound;
       inside = omega arith;
       so_far = rw c.new-payloads.ensures.items (none_yet _ _ c.args.size _ read.reads c.requires.size c.requires.long read.bytes (search rules));
     }
@@ -29,6 +31,7 @@ loop-payloads-preserved g c =
         bytes_left = omega (arith, before.room.bytes_left, next.room.bytes_left);
       };
       later = omega (arith, before.later, next.cause.later);
+      sound = up_to_here (then_sound before.sound next.stays_sound);
       inside = search rules;
       so_far = rw (c.in_ok-push.ensures.items, count) (one_more _ _ c.loop-payloads.gate c.loop-payloads.payloads.items c.in-Some.payload before.reads before.so_far (rw c.in-Some.is at next.frame));
     }

@@ -1,0 +1,2 @@
+pub mod Custody
+pub mod Lists

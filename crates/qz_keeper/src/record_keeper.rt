@@ -1,0 +1,147 @@
+//! A keeper of records.
+
+ghost use Rattle.std.specs.Prelude.{◌≡◌, ◌≤◌, ◌++◌, ◌∷◌, [], ℕ, List, length, Ok, Some, None, option_map, true, false, IfSome, IsErrOf, MatchResult};
+ghost use Rattle.std.specs.Option.{option_copied};
+ghost use Rattle.qz_disks.specs.declared.keeper.KeepErr.TheVariants.{Fault};
+ghost use Rattle.qz_disks.specs.Keepers.{EndsAppending, HasKeepCause, with_one_more};
+ghost use Rattle.qz_disks.specs.Sound.{StaysSound};
+ghost use Rattle.qz_record.specs.Records.{is_spellable};
+ghost use Rattle.qz_terms.specs.Kept.{IsKept};
+ghost use Rattle.qz_terms.specs.Spelling.{spelling};
+ghost use Rattle.qz_keeper.specs.Custody.{Appends, Mends};
+
+use qz_disks::{KeepErr, Keeper};
+use qz_record::spell;
+use qz_terms::Record;
+use qz_text::Bytes;
+use std::alloc::Global;
+use std::marker::Model;
+
+/// A keeper of records: of their spellings, and of the record in doubt.
+///
+/// A record whose append answered `Fault` is in doubt: it is kept or not, and `mend` tells. It is kept here until then, so that
+/// the list can take it as it is.
+#[derive(Drop)]
+pub struct RecordKeeper<K: Keeper> {
+    keeper: K,
+    doubt: Option<Record>,
+}
+
+impl<K: Keeper> Model for RecordKeeper<K> {
+    ghost use Rattle.qz_keeper.specs.Custody.{Custody, IsInCustody};
+
+    ghost Value = { Custody K };
+
+    ghost view = { λ k. record { keeper = k.keeper; doubt = k.doubt } };
+
+    ghost invariant = { λ k. IsInCustody (K.doubt k.keeper) k.doubt };
+}
+
+impl<K: Keeper> RecordKeeper<K> {
+    /// The records of a keeper, none of whose payloads is in doubt.
+    pub fn new(keeper: K) -> RecordKeeper<K>
+        requires { K.doubt keeper ≡ None }
+        ensures { result ≡ record { keeper = keeper; doubt = None } }
+    {
+        RecordKeeper {
+            keeper,
+            doubt: None,
+        }
+    }
+
+    /// The keeper, with the spelling of the record in doubt in doubt.
+    pub fn into_keeper(self) -> K
+        ensures keeper { result ≡ self.keeper }
+        ensures doubt { K.doubt result ≡ option_map spelling self.doubt }
+    {
+        self.keeper
+    }
+
+    /// The record in doubt.
+    pub fn doubt(&self) -> Option<&Record>
+        ensures { option_copied result ≡ self.now.doubt }
+    {
+        self.doubt.as_ref()
+    }
+
+    /// Keeps one more record, whose spelling has at most 67,108,864 bytes, and gives it back. After `Fault` it is in doubt,
+    /// and after `Memory` it isn't kept.
+    pub fn append(&mut self, alloc: Global, made: Record) -> Result<Record, KeepErr>
+        requires settled { self.old.doubt ≡ None }
+        requires kept { IsKept made }
+        requires size { length (spelling made) ≤ 67108864 }
+        ensures list { Appends (K.kept self.old.keeper) (K.kept self.new.keeper) self.new.doubt made result }
+        ensures cause { HasKeepCause (K.faults self.old.keeper) (K.faults self.new.keeper) result }
+        ensures stays_sound { StaysSound (K.sound self.old.keeper) (K.sound self.new.keeper)
+            (K.faults self.old.keeper) (K.faults self.new.keeper) (IsErrOf result Fault) }
+    {
+        match keep(&mut self.keeper, alloc, &made) {
+            Ok(()) => Ok(made),
+            Err(KeepErr::Fault) => {
+                // None was in doubt.
+                drop(self.doubt.replace(made));
+                Err(KeepErr::Fault)
+            }
+            Err(KeepErr::Memory) => {
+                drop(made);
+                Err(KeepErr::Memory)
+            }
+        }
+    }
+
+    /// Finds out what became of the record in doubt: it is given where it was kept, and else dropped. From then on none is in
+    /// doubt. `count` is the number of records kept without it. After an error all is as it was, and the record still in doubt.
+    ///
+    /// Where none is in doubt nothing is done.
+    pub fn mend(&mut self, alloc: Global, count: u64) -> Result<Option<Record>, KeepErr>
+        requires { IfSome (K.kept self.old.keeper) (λ payloads. length payloads ≡ count) }
+        ensures list { Mends (K.kept self.old.keeper) (K.kept self.new.keeper)
+            self.old.doubt self.new.doubt result }
+        ensures settled { self.old.doubt ≡ None → (result ≡ Ok None) × (self.new ≡ self.old) }
+        ensures cause { HasKeepCause (K.faults self.old.keeper) (K.faults self.new.keeper) result }
+        ensures stays_sound { StaysSound (K.sound self.old.keeper) (K.sound self.new.keeper)
+            (K.faults self.old.keeper) (K.faults self.new.keeper) (IsErrOf result Fault) }
+    {
+        let Some(doubt) = &self.doubt else {
+            return Ok(None);
+        };
+        let payload = spell(alloc, doubt)?;
+        let found = self.keeper.reopen(alloc)?;
+        let doubt = self.doubt.take();
+        if ends_with(&found.items, count, payload.as_slice()) {
+            return Ok(doubt);
+        }
+        drop(doubt);
+        Ok(None)
+    }
+}
+
+// Appends the spelling of a record to a keeper's payloads.
+fn keep<K: Keeper>(keeper: &mut K, alloc: Global, made: &Record) -> Result<(), KeepErr>
+    requires settled { K.doubt keeper.old ≡ None }
+    requires kept { IsKept made.now }
+    requires size { length (spelling made.now) ≤ 67108864 }
+    ensures list { EndsAppending (K.kept keeper.old) (K.kept keeper.new) (K.doubt keeper.new)
+        (spelling made.now) result }
+    ensures spellable { MatchResult result (λ _. is_spellable made.now ≡ true)
+        (λ e. e ≡ Fault → is_spellable made.now ≡ true) }
+    ensures cause { HasKeepCause (K.faults keeper.old) (K.faults keeper.new) result }
+    ensures stays_sound { StaysSound (K.sound keeper.old) (K.sound keeper.new)
+        (K.faults keeper.old) (K.faults keeper.new) (IsErrOf result Fault) }
+{
+    let payload = spell(alloc, made)?;
+    keeper.append(alloc, payload.as_slice())
+}
+
+// Whether so many payloads and then this one were found.
+fn ends_with(found: &[Bytes], count: u64, payload: &[u8]) -> bool
+    ensures yes { result ≡ true → (front : List (List ℕ)) × (length front ≡ count)
+        × (found.now ≡ with_one_more payload.now front) }
+    ensures no { result ≡ false → (front : List (List ℕ)) → length front ≡ count
+        → found.now ≡ with_one_more payload.now front → ⊥ }
+{
+    match found.split_last() {
+        Some((last, front)) => front.len() as u64 == count && last.as_slice() == payload,
+        None => false,
+    }
+}
