@@ -8,6 +8,7 @@ use Rattle.qz_terms.specs.declared.request.Request.TheVariants as request
 use Rattle.qz_terms.specs.Cause.{is_keyed}
 use Rattle.qz_terms.specs.Kept.{KeepsAsked, asks_described}
 use Rattle.qz_wire.specs.Asking.{HasToken}
+use Rattle.qz_wire.specs.Brief.{IsBriefAsk}
 use Rattle.qz_wire.specs.Faults.{Fault, at_word}
 use Rattle.qz_wire.specs.Lines.{after}
 use Rattle.qz_wire.specs.Numbered.{◌>>=◌, or_line as or_word}
@@ -72,12 +73,13 @@ item_of h body = item_at (way_of h.target) h.method (token_in (authorization_of 
 
 -- ---- what can be asked
 
--- by a token, a request that has a key where it has to, and all is in range
+-- by a token, a request that has a key where it has to, all is in range, and nothing is longer than it may be
 pub record IsAskable (ask : Ask) : Type 0 where
   pub token : HasToken ask.caller
   pub keyed : is_keyed ask ≡ true
   pub kept : KeepsAsked ask.request
   pub described : asks_described ask.request ≡ true
+  pub brief : IsBriefAsk ask
 
 -- an ask that is given can be asked
 abbrev pub AsksAskable : Item → Type 0

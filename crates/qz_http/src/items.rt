@@ -1,8 +1,9 @@
 //! What the requests of a link ask, one after the other, and its end.
 
-ghost use Rattle.std.specs.Prelude.{◌≡◌, Result, IfOk, option_copied};
+ghost use Rattle.std.specs.Prelude.{◌≡◌, Result, IfOk, IfSome, option_copied};
 ghost use Rattle.httparse.specs.Grammar.{RequestHead};
 ghost use Rattle.qz_terms.specs.declared.ask.Ask.{Ask};
+ghost use Rattle.qz_wire.specs.Brief.{IsBriefToken};
 ghost use Rattle.qz_wire.specs.Faults.{Fault, ReadsOr, at_word};
 ghost use Rattle.qz_wire.specs.Numbered.{or_line as or_word};
 ghost use Rattle.qz_wire.specs.Words.{number_of};
@@ -58,7 +59,8 @@ pub enum Item {
 
 /// The token behind `Bearer `, of the form of a token.
 fn token_in(authorization: Option<&[u8]>) -> Option<&str>
-    ensures { option_copied result ≡ token_in (option_copied authorization.entry) }
+    ensures value { option_copied result ≡ token_in (option_copied authorization.entry) }
+    ensures brief { IfSome (option_copied result) IsBriefToken }
 {
     let authorization = authorization?;
     let token = after(authorization, b"Bearer ")?;
@@ -77,7 +79,8 @@ fn caller_of(alloc: Global, token: Option<&str>) -> Result<Caller, NoMemory>
 fn item_by(token: Option<&str>, reading: Result<Ask, Refusal>) -> Result<Item, NoMemory>
     ensures value { (r : Result Ask Fault) → ReadsOr (λ x. x) reading r
         → IfOk result (λ item. item ≡ item_by (option_copied token.entry) r) }
-    ensures asked { IfOk reading (IsAskedBy (option_copied token.entry)) → IfOk result AsksAskable }
+    ensures asked { IfSome (option_copied token.entry) IsBriefToken
+        → IfOk reading (IsAskedBy (option_copied token.entry)) → IfOk result AsksAskable }
 {
     match reading {
         Err(Refusal::Malformed { place, rule }) => Ok(Item::Refused(Refusal::Malformed {
@@ -165,7 +168,8 @@ fn item_got(
 ) -> Result<Item, NoMemory>
     ensures value { (r : Result Ask Fault) → ReadsOr (λ x. x) reading r
         → IfOk result (λ item. item ≡ item_got method.now (option_copied token.entry) r) }
-    ensures asked { IfOk reading (IsAskedBy (option_copied token.entry)) → IfOk result AsksAskable }
+    ensures asked { IfSome (option_copied token.entry) IsBriefToken
+        → IfOk reading (IsAskedBy (option_copied token.entry)) → IfOk result AsksAskable }
 {
     if method == b"GET".as_slice() {
         item_by(token, reading)
@@ -183,7 +187,7 @@ fn item_at(
 ) -> Result<Item, NoMemory>
     ensures value { (way : Way) → IsPath way path.entry
         → IfOk result (λ item. item ≡ item_at way method.now (option_copied token.entry) body.now) }
-    ensures asked { IfOk result AsksAskable }
+    ensures asked { IfSome (option_copied token.entry) IsBriefToken → IfOk result AsksAskable }
 {
     match path {
         Path::Nowhere => Ok(Item::Bare(404)),

@@ -145,8 +145,8 @@ impl LinkCore {
         self.finished = true;
     }
 
-    /// What the bytes fed give next. An ask is by a token, its request is one that is read, and it has a key where it has to. After
-    /// want of memory the link is as it was, and the same may be asked again.
+    /// What the bytes fed give next. An ask is by a token, its request is one that is read, it has a key where it has to, and no
+    /// token, key or name is longer than it may be. After want of memory the link is as it was, and the same may be asked again.
     pub fn next(&mut self, alloc: Global) -> Result<Item, NoMemory>
         ensures given { IfOk result (λ item. Gives self.old item self.new) }
         ensures asked { IfOk result AsksAskable }

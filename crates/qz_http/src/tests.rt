@@ -1,5 +1,6 @@
 use super::*;
 use qz_decimal::Mark;
+use qz_grading::Refusal;
 use qz_terms::{Done, Reply, Shown};
 use qz_text::{Bytes, NoMemory};
 use std::alloc::Global;
@@ -43,6 +44,23 @@ fn heads_are_judged(rt: HostRuntime) -> Result<(), Fail> {
         "POST /api/ask HTTP/1.1\r\nContent-Length: 1048577\r\n\r\n",
     )?;
     assert!(rt; told == Some(413));
+    Ok(())
+}
+
+/// What a request for a page by a token of so many bytes gives.
+fn item_by_token(alloc: Global, bytes: usize) -> Result<Item, NoMemory> {
+    let token = "t".repeat(alloc, bytes)?;
+    let head = format!(in alloc; "GET /attempt/2.1 HTTP/1.1\r\nAuthorization: Bearer {token}\r\n\r\n")?;
+    ended(alloc, head.as_str())?.next(alloc)
+}
+
+#[test]
+fn a_long_token_is_none(rt: HostRuntime) -> Result<(), Fail> {
+    let alloc = rt.alloc();
+    let item = item_by_token(alloc, 64)?;
+    assert!(rt; matches!(item, Item::Ask(_)));
+    let item = item_by_token(alloc, 65)?;
+    assert!(rt; matches!(item, Item::Refused(Refusal::UnknownToken)));
     Ok(())
 }
 

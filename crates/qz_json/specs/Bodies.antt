@@ -9,6 +9,7 @@ use Rattle.qz_terms.specs.Cause.{is_keyed}
 use Rattle.qz_terms.specs.Kept.{KeepsAsked, asks_described}
 use Rattle.qz_wire.specs.declared.verbs.Verb.{Verb}
 use Rattle.qz_wire.specs.Asking.{key_for, verb_of}
+use Rattle.qz_wire.specs.Brief.{IsBriefAsk, IsBriefCaller}
 use Rattle.qz_wire.specs.Faults.{Fault, at_word}
 use Rattle.qz_wire.specs.Numbered.{◌>>=◌, or_line as or_word}
 use Rattle.qz_wire.specs.Requests.{request_of}
@@ -47,8 +48,10 @@ ask_of_body who bytes = do
   body ← at_word (or_word 0 (data_of bytes))
   ask_of_data who body
 
--- what a body asks: a request that has a key where it has to, and all is in range
+-- What a body asks: a request that has a key where it has to, and all is in range. By whom it is asked the body doesn't say: by a token
+-- that is no longer than it may be, nothing of what is asked is longer.
 pub record CanBeAsked (ask : Ask) : Type 0 where
   pub keyed : is_keyed ask ≡ true
   pub kept : KeepsAsked ask.request
   pub described : asks_described ask.request ≡ true
+  pub brief : IsBriefCaller ask.caller → IsBriefAsk ask

@@ -1,8 +1,9 @@
 //! What the body of a request asks.
 
-ghost use Rattle.std.specs.Prelude.{◌≡◌, IfOk, codes};
+ghost use Rattle.std.specs.Prelude.{◌≡◌, IfOk, IfSome, codes};
 ghost use Rattle.serde_json.specs.Find.{get};
 ghost use Rattle.serde_json.specs.View.{view};
+ghost use Rattle.qz_wire.specs.Brief.{IsBriefToken};
 ghost use Rattle.qz_wire.specs.Faults.{ReadsOr, at_word};
 ghost use Rattle.qz_wire.specs.Numbered.{or_line as or_word};
 ghost use Rattle.qz_json.specs.Bodies.{data_of, key_in, verb_in, ask_of_data, ask_of_body, CanBeAsked};
@@ -35,7 +36,8 @@ fn data_in(alloc: Global, bytes: &[u8]) -> Result<Value, Refusal>
 }
 
 fn key_in(alloc: Global, body: &Value) -> Result<Option<Text>, Refusal>
-    ensures { ReadsOr (λ x. x) result (at_word (or_word 3 (key_in (get (codes "key") (view body.now))))) }
+    ensures value { ReadsOr (λ x. x) result (at_word (or_word 3 (key_in (get (codes "key") (view body.now))))) }
+    ensures brief { IfOk result (λ key. IfSome key IsBriefToken) }
 {
     let Some(member) = body.get("key") else {
         return Ok(None);

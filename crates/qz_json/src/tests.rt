@@ -49,6 +49,40 @@ fn bodies_are_read(rt: HostRuntime) -> Result<(), Fail> {
     Ok(())
 }
 
+/// A body with a key of so many bytes, for a user whose name is a text so many times and whose token has so many bytes.
+fn body_of_user(
+    alloc: Global,
+    key: usize,
+    name: (&str, usize),
+    own: usize,
+) -> Result<String, NoMemory> {
+    let key = "k".repeat(alloc, key)?;
+    let name = name.0.repeat(alloc, name.1)?;
+    let own = "o".repeat(alloc, own)?;
+    Ok(
+        format!(in alloc; "{{\"do\":\"user\",\"key\":\"{key}\",\"name\":\"{name}\",\"role\":\"student\",\"token\":\"{own}\"}}")?,
+    )
+}
+
+// A length is that of the text, in bytes.
+#[test]
+fn long_texts_are_faults(rt: HostRuntime) -> Result<(), Fail> {
+    let alloc = rt.alloc();
+    for (key, name, own, want) in [
+        (64, ("n", 255), 64, None),
+        (65, ("n", 255), 64, Some((3, 0))),
+        (64, ("n", 256), 64, Some((5, 0))),
+        (64, ("é", 127), 64, None),
+        (64, ("é", 128), 64, Some((5, 0))),
+        (64, ("n", 255), 65, Some((7, 0))),
+    ] {
+        let body = body_of_user(alloc, key, name, own)?;
+        let told = fault(alloc, body.as_str())?;
+        assert!(rt; told == want, "{body}");
+    }
+    Ok(())
+}
+
 #[test]
 fn replies_are_written(rt: HostRuntime) -> Result<(), Fail> {
     let alloc = rt.alloc();

@@ -9,3 +9,4 @@ pub mod HintLemmas
 pub mod BankLemmas
 pub mod DescribedLemmas
 pub mod RequestLemmas
+pub mod BriefLemmas

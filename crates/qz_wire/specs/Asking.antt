@@ -1,5 +1,6 @@
 -- What a line of a script asks.
 use Rattle.std.specs.Prelude.{◌≡◌, ℕ, not, Bool, true, false, if◌then◌else◌, is_none, is_some, List, Option, Some, None, Result, Ok, bytes_eq, codes}
+use Rattle.qz_record.specs.Lengths.{NamesBriefly}
 use Rattle.qz_terms.specs.declared.ask.Ask.{Ask}
 use Rattle.qz_terms.specs.declared.people.Caller.{Caller}
 use Rattle.qz_terms.specs.declared.people.Caller.TheVariants as caller
@@ -8,6 +9,7 @@ use Rattle.qz_terms.specs.Cause.{is_keyed, is_keyless}
 use Rattle.qz_terms.specs.Kept.{KeepsAsked, asks_described, is_moment}
 use Rattle.qz_wire.specs.declared.verbs.Verb.{Verb}
 use Rattle.qz_wire.specs.declared.verbs.Verb.TheVariants as verb
+use Rattle.qz_wire.specs.Brief.{IsBriefAsk}
 use Rattle.qz_wire.specs.Faults.{Fault, at_word}
 use Rattle.qz_wire.specs.Numbered.{◌>>=◌, line_at as word_at, or_line as or_word}
 use Rattle.qz_wire.specs.Requests.{request_of}
@@ -90,12 +92,13 @@ abbrev pub HasToken : Caller → Type 0
 HasToken (caller.Token token) = Unit {0}
 HasToken caller.Worker = ⊥
 
--- what a line asks: by a token, a request that has a key where it has to, and all is in range
+-- what a line asks: by a token, a request that has a key where it has to, all is in range, and nothing is longer than it may be
 pub record CanBeAsked (ask : Ask) (moment : ℕ) : Type 0 where
   pub token : HasToken ask.caller
   pub keyed : is_keyed ask ≡ true
   pub kept : KeepsAsked ask.request
   pub described : asks_described ask.request ≡ true
+  pub brief : IsBriefAsk ask
   pub moment_kept : is_moment moment ≡ true
 
 -- a request of this command
@@ -103,3 +106,4 @@ pub record IsOfVerb (v : Verb) (x : Request) : Type 0 where
   pub keyless : is_keyless x ≡ not (wants_key v)
   pub kept : KeepsAsked x
   pub described : asks_described x ≡ true
+  pub brief : NamesBriefly x

@@ -6,6 +6,7 @@ pub mod Answers
 pub mod ExamplesWords
 pub mod BankWords
 pub mod Requests
+pub mod Brief
 pub mod Asking
 pub mod Escapes
 pub mod Replies

@@ -2,13 +2,14 @@
 //! the number that is given.
 
 ghost use Rattle.std.specs.List.{list_all};
-ghost use Rattle.std.specs.Prelude.{◌≡◌, ◌≤◌, true, All, map, IfOk};
+ghost use Rattle.std.specs.Prelude.{◌≡◌, ◌≤◌, true, length, All, map, IfOk};
 ghost use Rattle.qz_decimal.specs.Reading.{IsWrittenFraction};
 ghost use Rattle.qz_grading.specs.declared.question.Item.{Item};
 ghost use Rattle.qz_grading.specs.Questions.{IsQuestion};
 ghost use Rattle.qz_terms.specs.Kept.{is_answer, are_hints, is_described, is_moment, is_duration, is_allowed, if_there, is_quiz_grade};
 ghost use Rattle.qz_wire.specs.Answers.{answer_of};
 ghost use Rattle.qz_wire.specs.BankWords.{name_of, role_of, behaviour_of, handling_of, review_of, whom_of, method_of, mark_of, penalty_of, quiz_grade_of, hints_of};
+ghost use Rattle.qz_wire.specs.Brief.{IsBriefToken};
 ghost use Rattle.qz_wire.specs.Faults.{ReadsOr};
 ghost use Rattle.qz_wire.specs.Requests.{bank_at, question_at};
 ghost use Rattle.qz_wire.specs.Numbered.{end_at, line_at as word_at};
@@ -188,7 +189,8 @@ pub fn method_at(rest: &mut &[u8], place: u32) -> Result<Method, WordFault>
 }
 
 pub fn token_at(alloc: Global, rest: &mut &[u8], place: u32) -> Result<Text, WordFault>
-    ensures { Reads (λ x. (x, words_after rest.new.now)) result (word_at token_of place (words_after rest.old.now)) }
+    ensures value { Reads (λ x. (x, words_after rest.new.now)) result (word_at token_of place (words_after rest.old.now)) }
+    ensures brief { IfOk result IsBriefToken }
 {
     match token_in(next_word(rest, place)?) {
         Some(token) => Ok(Text::of(alloc, token)?),
@@ -197,7 +199,8 @@ pub fn token_at(alloc: Global, rest: &mut &[u8], place: u32) -> Result<Text, Wor
 }
 
 pub fn name_at(alloc: Global, rest: &mut &[u8], place: u32) -> Result<Text, WordFault>
-    ensures { Reads (λ x. (x, words_after rest.new.now)) result (word_at name_of place (words_after rest.old.now)) }
+    ensures value { Reads (λ x. (x, words_after rest.new.now)) result (word_at name_of place (words_after rest.old.now)) }
+    ensures brief { IfOk result (λ name. length name ≤ 255) }
 {
     match name_in(alloc, next_word(rest, place)?)? {
         Some(name) => Ok(name),

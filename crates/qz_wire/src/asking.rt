@@ -1,7 +1,8 @@
 //! What a line of a script asks.
 
-ghost use Rattle.std.specs.Prelude.{◌≤◌, IfOk};
+ghost use Rattle.std.specs.Prelude.{◌≤◌, IfOk, IfSome};
 ghost use Rattle.qz_wire.specs.Asking.{verb_of, ask_of, CanBeAsked, IsOfVerb};
+ghost use Rattle.qz_wire.specs.Brief.{IsBriefToken};
 ghost use Rattle.qz_wire.specs.Faults.{ReadsOr};
 ghost use Rattle.qz_wire.specs.Numbered.{line_at as word_at};
 ghost use Rattle.qz_wire.specs.Requests.{request_of};
@@ -75,7 +76,8 @@ fn first_moment<'a>(line: &'a [u8]) -> Result<(u64, &'a [u8]), WordFault>
 }
 
 fn key_at(alloc: Global, rest: &mut &[u8]) -> Result<Option<Text>, WordFault>
-    ensures { Reads (λ x. (x, words_after rest.new.now)) result (word_at key_of 3 (words_after rest.old.now)) }
+    ensures value { Reads (λ x. (x, words_after rest.new.now)) result (word_at key_of 3 (words_after rest.old.now)) }
+    ensures brief { IfOk result (λ key. IfSome key IsBriefToken) }
 {
     match key_in(next_word(rest, 3)?) {
         Some(Some(key)) => Ok(Some(Text::of(alloc, key)?)),

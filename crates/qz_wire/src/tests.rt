@@ -42,6 +42,42 @@ fn faults_are_told(rt: HostRuntime) -> Result<(), Fail> {
     Ok(())
 }
 
+/// A line by a token of so many bytes, with a key of so many, for a user whose name is a word so many times and whose token has so
+/// many bytes.
+fn line_of_user(
+    alloc: Global,
+    bytes: (usize, usize),
+    name: (&str, usize),
+    own: usize,
+) -> Result<String, NoMemory> {
+    let token = "t".repeat(alloc, bytes.0)?;
+    let key = "k".repeat(alloc, bytes.1)?;
+    let name = name.0.repeat(alloc, name.1)?;
+    let own = "o".repeat(alloc, own)?;
+    Ok(format!(in alloc; "1 {token} {key} user {name} student {own}")?)
+}
+
+// A length is that of the text which a word spells, in bytes.
+#[test]
+fn long_words_are_faults(rt: HostRuntime) -> Result<(), Fail> {
+    let alloc = rt.alloc();
+    for (bytes, name, own, want) in [
+        ((64, 64), ("n", 255), 64, None),
+        ((65, 64), ("n", 255), 64, Some((2, 0))),
+        ((64, 65), ("n", 255), 64, Some((3, 0))),
+        ((64, 64), ("n", 256), 64, Some((5, 0))),
+        ((64, 64), ("é", 127), 64, None),
+        ((64, 64), ("é", 128), 64, Some((5, 0))),
+        ((64, 64), ("\\s", 255), 64, None),
+        ((64, 64), ("n", 255), 65, Some((7, 0))),
+    ] {
+        let line = line_of_user(alloc, bytes, name, own)?;
+        let told = fault(alloc, line.as_str())?;
+        assert!(rt; told == want, "{line}");
+    }
+    Ok(())
+}
+
 const OWN: AttemptId = AttemptId { user: 2, nth: 1 };
 
 const CHOICE: Shape = Shape {

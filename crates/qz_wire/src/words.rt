@@ -2,6 +2,7 @@
 
 ghost use Rattle.std.specs.List.{list_all};
 ghost use Rattle.std.specs.Prelude.{◌≡◌, ◌≤◌, ◌∷◌, [], Some, true, MatchOption, IfSome, option_copied, option_map};
+ghost use Rattle.qz_wire.specs.Brief.{IsBriefToken};
 ghost use Rattle.qz_wire.specs.Numbered.{line_at as word_at};
 ghost use Rattle.qz_terms.specs.Kept.{is_moment, is_duration, is_allowed, if_there};
 ghost use Rattle.qz_wire.specs.Words.{parts_at, words_of, words_after, moment_of, number_of, slot_of, shard_of, certainty_of, duration_of, allowed_of, attempt_of, is_dash, is_token_byte, is_token, token_of, or_dash, key_of, Reads, IsCutAt};
@@ -178,7 +179,8 @@ fn is_token(word: &[u8]) -> bool
 
 /// The token or key that a word is.
 pub fn token_in(word: &[u8]) -> Option<&str>
-    ensures { option_copied result ≡ token_of word.now }
+    ensures value { option_copied result ≡ token_of word.now }
+    ensures brief { IfSome (option_copied result) IsBriefToken }
 {
     if is_token(word) {
         str::from_utf8(word).ok()
@@ -189,7 +191,8 @@ pub fn token_in(word: &[u8]) -> Option<&str>
 
 /// The key that a word is, or none for a dash.
 pub fn key_in(word: &[u8]) -> Option<Option<&str>>
-    ensures { option_map (λ key. option_copied key) result ≡ key_of word.now }
+    ensures value { option_map (λ key. option_copied key) result ≡ key_of word.now }
+    ensures brief { IfSome result (λ key. IfSome (option_copied key) IsBriefToken) }
 {
     if is_dash(word) {
         return Some(None);
