@@ -79,7 +79,7 @@ set-split {A = A} (z ∷ xs) zero x y rest is = let same : xs ≡ rest = cc in a
 set-split {A = A} (z ∷ xs) (suc i) x y rest is = ap (λ (l : List A). z ∷ l) (set-split xs i x y rest is)
 
 module _ {A : Type 0} (before : A → A → Bool) where
-  placed-first : (x : A) (xs : List A) → All (λ y. before x y ≡ true) xs → placed before x xs ≡ x ∷ xs
+  pub placed-first : (x : A) (xs : List A) → All (λ y. before x y ≡ true) xs → placed before x xs ≡ x ∷ xs
   placed-first x [] all = refl
   placed-first x (y ∷ ys) all = let first : before x y ≡ true = All-head (λ z. before x z ≡ true) y ys all in rw first refl
 

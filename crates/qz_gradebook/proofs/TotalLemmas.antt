@@ -1,8 +1,8 @@
 -- A total that is put among attempts in order, and the totals of a user.
-use Rattle.std.proofs.Common.{◌≡◌, ℕ, ◌+◌, ◌^◌, ◌<◌, ◌≤◌, Bool, true, false, not, List, [], ◌∷◌, ◌++◌, Option, length, take, drop, set, map, append-nil, refl, sym, ap, subst, ◌∙◌, arith, All}
+use Rattle.std.proofs.Common.{◌≡◌, ℕ, ◌+◌, ◌^◌, ◌<◌, ◌≤◌, Bool, true, false, not, List, [], ◌∷◌, ◌++◌, Option, Some, None, length, take, drop, set, map, append-nil, refl, sym, ap, subst, ◌∙◌, arith, All}
 use Rattle.std.specs.List.{AllPairs, insert}
 use Rattle.std.specs.List.Sorted.{IsPartitionPoint, IsPartitionedBy}
-use Rattle.std.specs.Prelude.{ℤ, filter, option_map, slice_get, unwrap_or}
+use Rattle.std.specs.Prelude.{ℤ, filter, option_and_then, option_map, slice_get, unwrap_or}
 use Rattle.std.proofs.lemmas.Bool.{ltb-true, not-true}
 use Rattle.std.proofs.lemmas.List.{length-map, take-append-drop}
 use Rattle.std.proofs.lemmas.List.Elements.{All-append, All-cons, All-filter, All-head, All-nil, All-tail, All-weaker, filter-append, filter_passes}
@@ -12,7 +12,7 @@ use Rattle.qz_grading.specs.declared.refusal.AttemptId.{AttemptId}
 use Rattle.qz_terms.specs.Lists.{first_of, in_order, placed}
 use Rattle.qz_gradebook.specs.declared.finished.Finished.{Finished}
 use Rattle.qz_gradebook.specs.Orders.{IsFinished, IsGradebook, IsPlace, comes_before_user}
-use Rattle.qz_gradebook.specs.Totals.{comes_before, is_attempt, is_by, is_there, numbered_before, total, totals_of, with_total}
+use Rattle.qz_gradebook.specs.Totals.{comes_before, is_attempt, is_by, is_there, numbered_before, total, total_at, totals_of, with_total}
 use Rattle.qz_gradebook.proofs.OrderLemmas.{all-between, earlier, earlier-other, filter-all, filter-none, greater-apart, in_order-same, lesser-apart, lesser-equal, lesser-never, lesser-other, lesser-trans, not_earlier, numbered, pairs-between, pairs-drop, pairs-first, pairs-rest, parted-behind, parted-filter, parted-front, parted_by, placed-between, set-split, slice_get-first}
 
 abbrev pub Ordered : Finished → Finished → Type 0
@@ -104,6 +104,32 @@ module _ (q : ℕ) (a : AttemptId) (t : Option ℤ) where
     nowhere place apart =
         let others : All (λ f. is_other f ≡ true) (take i fs ++ drop i fs) = All-append (λ f. is_other f ≡ true) (take i fs) (drop i fs) (others-before (take i fs) place.front) (others-behind (drop i fs) (after-place place apart)) in
         list_any_none (is_attempt q a) fs (All-weaker (λ f. is_other f ≡ true) (λ f. is_attempt q a f ≡ false) not-there fs (subst (All (λ f. is_other f ≡ true)) (take-append-drop i fs) others))
+
+-- ---- the total of an attempt
+
+module _ (q : ℕ) (a : AttemptId) (fs : List Finished) (i : ℕ) (kept : IsGradebook fs) (place : IsPlace fs (record { quiz = q; attempt = a; total = None }) i) where
+  none-before : All (λ f. is_attempt q a f ≡ false) (take i fs)
+  none-before = All-weaker (λ f. Ordered f (record { quiz = q; attempt = a; total = None })) (λ f. is_attempt q a f ≡ false) (λ f h. lesser-apart f.quiz f.attempt.user f.attempt.nth q a.user a.nth h) (take i fs) place.front
+
+  from-place : total_at q a fs ≡ total_at q a (drop i fs)
+  from-place =
+      let rest : filter (is_attempt q a) fs ≡ filter (is_attempt q a) (drop i fs) = ap (filter (is_attempt q a)) (sym (take-append-drop i fs)) ∙ filter-append (is_attempt q a) (take i fs) (drop i fs) ∙ rw (filter-none (is_attempt q a) (take i fs) none-before) refl in
+      ap (λ (gs : List Finished). option_and_then total (first_of gs)) rest
+
+  found-by : (ds : List Finished) (x : Finished) → first_of ds ≡ Some x → is_attempt q a x ≡ true → total_at q a ds ≡ x.total
+  found-by [] x is same = absurd cc
+  found-by (y ∷ ds) x is same = let one : y ≡ x = cc in rw (one, same) refl
+
+  -- where it stands
+  pub total-there : (x : Finished) → slice_get fs i ≡ Some x → is_attempt q a x ≡ true → total_at q a fs ≡ x.total
+  total-there x is same = from-place ∙ found-by (drop i fs) x (sym (slice_get-first fs i) ∙ is) same
+
+  -- where it doesn't
+  pub total-nowhere : unwrap_or (option_map (is_attempt q a) (slice_get fs i)) false ≡ false → total_at q a fs ≡ None
+  total-nowhere apart =
+      let after = after-place q a None fs i kept place apart in
+      let none : filter (is_attempt q a) (drop i fs) ≡ [] = filter-none (is_attempt q a) (drop i fs) (All-weaker (Ordered (record { quiz = q; attempt = a; total = None })) (λ f. is_attempt q a f ≡ false) (λ f h. greater-apart f.quiz f.attempt.user f.attempt.nth q a.user a.nth h) (drop i fs) after) in
+      from-place ∙ ap (λ (gs : List Finished). option_and_then total (first_of gs)) none
 
 -- ---- the totals of a user
 

@@ -3,7 +3,7 @@ use Rattle.std.specs.Prelude.{◌≡◌, ℕ, List, [], ◌∷◌, Option, Some,
 use Rattle.qz_terms.specs.declared.grades.Method.TheVariants as method
 use Rattle.qz_terms.specs.Rows.{row_of}
 use Rattle.qz_gradebook.specs.declared.finished.Finished.{Finished}
-use Rattle.qz_gradebook.specs.Totals.{totals_of, with_total}
+use Rattle.qz_gradebook.specs.Totals.{total_at, totals_of, with_total}
 
 -- the total of the attempt of user 2 with this number, at quiz 1
 abbrev with : ℕ → Option ℤ → List Finished → List Finished
@@ -22,6 +22,13 @@ put_again = refl
 
 pub put_again_alone : with 1 None (with 1 (Some (pos 10)) []) ≡ with 1 None []
 put_again_alone = refl
+
+-- the total of one attempt, as it was put last
+pub of_one_attempt : total_at 1 (record { user = 2; nth = 2 }) (with 2 (Some (pos 5)) three) ≡ Some (pos 5)
+of_one_attempt = refl
+
+pub of_no_attempt : total_at 1 (record { user = 2; nth = 4 }) three ≡ None
+of_no_attempt = refl
 
 -- those of another user or quiz are others
 pub of_another_user : totals_of (with_total 1 (record { user = 3; nth = 1 }) (Some (pos 7)) three) 1 2 ≡ totals_of three 1 2

@@ -1,10 +1,10 @@
 -- The totals of finished attempts: what is put, and what a row's grade is over.
 use Rattle.std.specs.List.{list_any}
-use Rattle.std.specs.Prelude.{ℕ, ◌*◌, Bool, not, ◌&&◌, ◌||◌, ◌==◌, nat_lt, List, ◌∷◌, filter, map, Option, ℤ, pos, neg_ℤ}
+use Rattle.std.specs.Prelude.{ℕ, ◌*◌, Bool, not, ◌&&◌, ◌||◌, ◌==◌, nat_lt, List, ◌∷◌, filter, map, Option, option_and_then, ℤ, pos, neg_ℤ}
 use Rattle.qz_decimal.specs.Numbers.{IsWithin, one}
 use Rattle.qz_grading.specs.declared.refusal.AttemptId.{AttemptId}
 use Rattle.qz_terms.specs.History.{attempt_before, same_attempt}
-use Rattle.qz_terms.specs.Lists.{in_order}
+use Rattle.qz_terms.specs.Lists.{first_of, in_order}
 use Rattle.qz_gradebook.specs.declared.finished.Finished.{Finished}
 
 -- what the rows are seen as: finished attempts, and the room for so many more
@@ -37,6 +37,10 @@ abbrev pub with_total : ℕ → AttemptId → Option ℤ → List Finished → L
 with_total q a t fs = in_order comes_before (record { quiz = q; attempt = a; total = t } ∷ filter (λ f. not (is_attempt q a f)) fs)
 
 -- ---- what is read
+
+-- the total of an attempt of a quiz, if it is there and has one
+abbrev pub total_at : ℕ → AttemptId → List Finished → Option ℤ
+total_at q a fs = option_and_then total (first_of (filter (is_attempt q a) fs))
 
 abbrev pub is_by : ℕ → ℕ → Finished → Bool
 is_by q u f = (f.quiz == q) && (f.attempt.user == u)

@@ -4,7 +4,7 @@ ghost use Rattle.std.specs.Prelude.{◌≡◌, ◌+◌, ◌<◌, ◌≤◌, ◌^
 ghost use Rattle.qz_decimal.specs.Numbers.{IsMaxSum, IsQuizGrade};
 ghost use Rattle.qz_terms.specs.Rows.{row_of};
 ghost use Rattle.qz_gradebook.specs.Orders.{IsPlace};
-ghost use Rattle.qz_gradebook.specs.Totals.{IsTotal, is_attempt, is_there, total, totals_of, with_total};
+ghost use Rattle.qz_gradebook.specs.Totals.{IsTotal, is_attempt, is_there, total, total_at, totals_of, with_total};
 
 use crate::finished::Finished;
 use crate::methods::row_of;
@@ -94,6 +94,25 @@ impl Rows {
         ensures { result ≡ row_of policy.now (totals_of self.now.finished quiz user) }
     {
         row_of(policy, self.attempts(quiz, user))
+    }
+
+    /// The total that was put last of an attempt of a quiz (in 10^-7), and none where it has none or none was put. Its time
+    /// grows with the logarithm of the number of attempts, and it takes no memory.
+    pub fn total(&self, quiz: u32, attempt: AttemptId) -> Option<Mark>
+        ensures value { result ≡ total_at quiz attempt self.now.finished }
+        ensures range { IfSome result IsTotal }
+    {
+        let place = self.place_of(&Finished {
+            quiz,
+            attempt,
+            total: None,
+        });
+        let old = self.finished.get(place)?;
+        if old.is_attempt(quiz, attempt) {
+            old.total
+        } else {
+            None
+        }
     }
 
     /// The attempts of a quiz by a user, in order of number.

@@ -60,3 +60,18 @@ fn follows_a_change(rt: HostRuntime) -> Result<(), Fail> {
     assert!(rt; has_grade(&rows, Method::Highest, Some(Grade(333_333))));
     Ok(())
 }
+
+#[test]
+fn tells_the_total_of_an_attempt(rt: HostRuntime) -> Result<(), Fail> {
+    let mut rows = Rows::new(rt.alloc());
+    let attempt = AttemptId { user: USER, nth: 2 };
+    assert!(rt; rows.total(QUIZ, attempt).is_none());
+    put(&mut rows, 2, Some(Mark(5)))?;
+    put(&mut rows, 1, None)?;
+    assert!(rt; rows.total(QUIZ, attempt) == Some(Mark(5)));
+    assert!(rt; rows.total(QUIZ + 1, attempt).is_none());
+    assert!(rt; rows.total(QUIZ, AttemptId { user: USER, nth: 1 }).is_none());
+    put(&mut rows, 2, Some(Mark(7)))?;
+    assert!(rt; rows.total(QUIZ, attempt) == Some(Mark(7)));
+    Ok(())
+}

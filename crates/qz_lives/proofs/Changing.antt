@@ -60,20 +60,18 @@ playing h a k s r begun p =
 
 module _ (l : List Record) (r : Record) (a : AttemptId) (k : ℕ) where
   -- where start, bound and steps stay, a slot stays
-  slot-kept : (run : Run) → starts a r ≡ None → binds a k r ≡ None → step_in a k r ≡ None → IsSlot l a k run → IsSlot (l ++ r ∷ []) a k run
-  slot-kept run no_start no_bound no_step p =
+  slot-stays : (run : Run) → starts a r ≡ None → binds a k r ≡ None → step_in a k r ≡ None → (p : IsSlot l a k run) → slot (l ++ r ∷ []) a k ≡ Some (slot_of run p.question)
+  slot-stays run no_start no_bound no_step p =
       let m = made-of l a k (slot_of run p.question) p.slot_is in
       let now = slot-there (l ++ r ∷ []) a k m.started m.bound_now m.asked (record {
         begun = start-same l r a no_start ∙ m.parts.begun;
         bound_is = bound-more l r a k None no_bound ∙ m.parts.bound_is;
         asks = version-more l r m.bound_now.entry m.bound_now.version m.asked m.parts.asks;
       }) in
-      record {
-        question = p.question;
-        slot_is = now ∙ ap (λ (t : List Step). Some (slot_with m.started m.bound_now t m.asked)) (steps-same l r a k no_step) ∙ ap (λ (x : Slot). Some x) (sym m.whole);
-        asked = p.asked;
-        limits = p.limits;
-      }
+      now ∙ ap (λ (t : List Step). Some (slot_with m.started m.bound_now t m.asked)) (steps-same l r a k no_step) ∙ ap (λ (x : Slot). Some x) (sym m.whole)
+
+  slot-kept : (run : Run) → starts a r ≡ None → binds a k r ≡ None → step_in a k r ≡ None → IsSlot l a k run → IsSlot (l ++ r ∷ []) a k run
+  slot-kept run no_start no_bound no_step p = record { question = p.question; slot_is = slot-stays run no_start no_bound no_step p; asked = p.asked; limits = p.limits }
 
   slot_at-kept : (o : Option Run) → starts a r ≡ None → binds a k r ≡ None → step_in a k r ≡ None → option_map bound_of o ≡ bound l a k → IsSlotAt l a k o → IsSlotAt (l ++ r ∷ []) a k o
   slot_at-kept None no_start no_bound no_step bounds there = slot-unbound (l ++ r ∷ []) a k (bound-more l r a k None no_bound ∙ sym bounds)
@@ -88,6 +86,15 @@ pub record Spares (r : Record) (a : AttemptId) : Type 0 where
   pub no_step : (k : ℕ) → step_in a k r ≡ None
 
 module _ (l : List Record) (r : Record) (a : AttemptId) (s : Spares r a) where
+  slot_at-same : (k : ℕ) (o : Option Run) → option_map bound_of o ≡ bound l a k → IsSlotAt l a k o → slot (l ++ r ∷ []) a k ≡ slot l a k
+  slot_at-same k None bounds there = slot-unbound (l ++ r ∷ []) a k (bound-more l r a k None (s.no_bound k) ∙ sym bounds) ∙ sym there
+  slot_at-same k (Some run) bounds there = slot-stays l r a k run s.no_start (s.no_bound k) (s.no_step k) there ∙ sym there.slot_is
+
+  -- its slots are the same
+  pub slot-spared : (o : Option Live) → IsToldAs l a o → (k : ℕ) → slot (l ++ r ∷ []) a k ≡ slot l a k
+  slot-spared None u k = slot-unbound (l ++ r ∷ []) a k (bound-more l r a k None (s.no_bound k) ∙ u.unbound k) ∙ sym (slot-unbound l a k (u.unbound k))
+  slot-spared (Some x) t k = slot_at-same k (at_place x.slots k) (t.bounds k) (t.slots k)
+
   untold-spared : IsUntold l a → IsUntold (l ++ r ∷ []) a
   untold-spared u = record {
     unstarted = start-same l r a s.no_start ∙ u.unstarted;

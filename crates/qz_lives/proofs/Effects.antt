@@ -111,7 +111,7 @@ step-acted : (v : Moved) (b : AttemptId) (j : ℕ) (s : Step) (a : AttemptId) (k
 step-acted moved_as.Kept b j s a k x is = acted-same b j s a k x is
 step-acted moved_as.Same b j s a k x is = absurd cc
 
-acted-as : (l : List Record) (b : AttemptId) (j : ℕ) (s : Step) (a : AttemptId) (k : ℕ) (x : Step) → Same3 b j s a k x → IsActed l b j s → IsActed l a k x
+pub acted-as : (l : List Record) (b : AttemptId) (j : ℕ) (s : Step) (a : AttemptId) (k : ℕ) (x : Step) → Same3 b j s a k x → IsActed l b j s → IsActed l a k x
 acted-as l b j s a k x same acted = subst (λ (y : Step). IsActed l a k y) same.2 (subst (λ (n : ℕ). IsActed l a n s) same.1 (subst (λ (c : AttemptId). IsActed l c j s) same.0 acted))
 
 -- of a Save, a Submit or an Again
@@ -203,7 +203,7 @@ or-right false c none = none
 pub begun : (l : List Record) (user : User) (a : AttemptId) → missing_attempt l user a ≡ None → is_none (start l a) ≡ false
 begun l user a there = or-right (is_anothers user a.user) (is_none (start l a)) (when-none (is_anothers user a.user || is_none (start l a)) (refusal.Unknown thing.Attempt) there)
 
-ending-as : (l : List Record) (b a : AttemptId) → b ≡ a → IsEnding l b → IsEnding l a
+pub ending-as : (l : List Record) (b a : AttemptId) → b ≡ a → IsEnding l b → IsEnding l a
 ending-as l b a same ending = subst (IsEnding l) same ending
 
 ended-same : (b a : AttemptId) (v w : How) → event.Ended b v ≡ event.Ended a w → b ≡ a

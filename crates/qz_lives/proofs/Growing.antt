@@ -20,7 +20,7 @@ use Rattle.qz_isolation.proofs.Versions.{learned-after}
 use Rattle.qz_lives.specs.declared.live.Ending.{Ending}
 use Rattle.qz_lives.specs.declared.live.Live.{Live}
 use Rattle.qz_lives.specs.declared.lives.Lives.{Lives}
-use Rattle.qz_lives.specs.Attempts.{AreLives, IsSlot, IsSlotAt, IsTold, IsToldAs, live_in}
+use Rattle.qz_lives.specs.Attempts.{AreLives, AreRows, IsSlot, IsSlotAt, IsTold, IsToldAs, RowMap, finished_in, goes_on_in, live_in}
 use Rattle.qz_lives.specs.Changes.{AreAlike, IsAlike, Knows}
 use Rattle.qz_lives.specs.Ones.{IsRoomier}
 use Rattle.qz_lives.specs.Runs.{CanOpen, Known}
@@ -72,9 +72,30 @@ told_as-alike h a (Some l) p same t = subst (IsToldAs h a) (sym same.1) (told-ro
 
 pub lives-alike : (m n : Lives) → AreAlike m n → (h : List Record) → AreLives m h → AreLives n h
 lives-alike m n same h lives = record {
-  each = λ a. told_as-alike h a (live_in m a) (live_in n a) (same.lives a) (lives.each a);
-  going = λ a. same.going a ∙ lives.going a;
+  attempts = record {
+    each = λ a. told_as-alike h a (live_in m a) (live_in n a) (same.lives a) (lives.attempts.each a);
+    going = λ a. same.going a ∙ lives.attempts.going a;
+  };
+  rows = subst (λ (rows : RowMap). AreRows rows h) (sym same.rows) lives.rows;
 }
+
+-- where a row has more room
+pub lives-rowed : (m n : Lives) → n ≡ record m { rows = n.rows } → ((q u : ℕ) → finished_in n.rows q u ≡ finished_in m.rows q u) → (h : List Record) → AreLives m h → AreLives n h
+lives-rowed m n rest same h lives = record {
+  attempts = record {
+    each = λ a. subst (IsToldAs h a) (sym (ap (λ (k : Lives). live_in k a) rest)) (lives.attempts.each a);
+    going = λ a. ap (λ (k : Lives). goes_on_in k a) rest ∙ lives.attempts.going a;
+  };
+  rows = record { each = λ q u. same q u ∙ lives.rows.each q u };
+}
+
+-- an attempt that was there is there still
+there-still : (o p : Option Live) → IsAlike o p → is_some o ≡ true → is_some p ≡ true
+there-still None p same there = absurd cc
+there-still (Some l) p same there = ap is_some same.1
+
+pub still-there : (m n : Lives) (a : AttemptId) → AreAlike m n → is_some (live_in m a) ≡ true → is_some (live_in n a) ≡ true
+still-there m n a same there = there-still (live_in m a) (live_in n a) (same.lives a) there
 
 -- ---- a start
 

@@ -47,28 +47,31 @@ nothing (Some x) is = absurd cc
 pub grown : {X : Type 0} (m n : BTreeMap (ℕ × ℕ) X) (a : AttemptId) (d : X) → Updates by_number m n (key_of a) (Some d) → is_some (get by_number m (key_of a)) ≡ false → (b : AttemptId) → unwrap_or (get by_number n (key_of b)) d ≡ unwrap_or (get by_number m (key_of b)) d
 grown m n a d u none b = grown-by m n a b d (same_attempt a b) refl u (nothing (get by_number m (key_of a)) none)
 
-pub taken-out : (m : Lives) (n : BTreeMap (ℕ × ℕ) (Option Live)) (a : AttemptId) → Updates by_number m.attempts n (key_of a) (Some None) → IsTakenOut m (record { attempts = n; going = m.going }) a
+pub taken-out : (m : Lives) (n : BTreeMap (ℕ × ℕ) (Option Live)) (a : AttemptId) → Updates by_number m.attempts n (key_of a) (Some None) → IsTakenOut m (record { attempts = n; going = m.going; rows = m.rows }) a
 taken-out m n a u = record {
   entry = ap is_some u.1;
   others = λ b apart. ap (λ (o : Option (Option Live)). unwrap_or o None) (get-other m.attempts n a b (Some None) u apart);
   going = refl;
+  rows = refl;
 }
 
-pub kept-in : (m : Lives) (n : BTreeMap (ℕ × ℕ) (Option Live)) (a : AttemptId) (l : Live) → Updates by_number m.attempts n (key_of a) (Some (Some l)) → Keeps m (record { attempts = n; going = m.going }) a l
+pub kept-in : (m : Lives) (n : BTreeMap (ℕ × ℕ) (Option Live)) (a : AttemptId) (l : Live) → Updates by_number m.attempts n (key_of a) (Some (Some l)) → Keeps m (record { attempts = n; going = m.going; rows = m.rows }) a l
 kept-in m n a l u = record {
   here = ap (λ (o : Option (Option Live)). unwrap_or o None) u.1;
   others = λ b apart. ap (λ (o : Option (Option Live)). unwrap_or o None) (get-other m.attempts n a b (Some (Some l)) u apart);
   going = refl;
+  rows = refl;
 }
 
-pub left : (m : Lives) (n : BTreeMap (ℕ × ℕ) Bool) (a : AttemptId) → Updates by_number m.going n (key_of a) None → Leaves m (record { attempts = m.attempts; going = n }) a
+pub left : (m : Lives) (n : BTreeMap (ℕ × ℕ) Bool) (a : AttemptId) → Updates by_number m.going n (key_of a) None → Leaves m (record { attempts = m.attempts; going = n; rows = m.rows }) a
 left m n a u = record {
   here = ap (λ (o : Option Bool). unwrap_or o false) u.1;
   others = λ b apart. ap (λ (o : Option Bool). unwrap_or o false) (get-other m.going n a b None u apart);
   attempts = refl;
+  rows = refl;
 }
 
-pub begun-in : (m k : Lives) (n : BTreeMap (ℕ × ℕ) Bool) (a : AttemptId) (l : Live) → Keeps m k a l → Updates by_number k.going n (key_of a) (Some true) → Becomes m (record { attempts = k.attempts; going = n }) a l true
+pub begun-in : (m k : Lives) (n : BTreeMap (ℕ × ℕ) Bool) (a : AttemptId) (l : Live) → Keeps m k a l → Updates by_number k.going n (key_of a) (Some true) → Becomes m (record { attempts = k.attempts; going = n; rows = k.rows }) a l true
 begun-in m k n a l h u = record {
   here = h.here;
   others = h.others;

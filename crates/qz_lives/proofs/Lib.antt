@@ -13,3 +13,6 @@ pub mod Reading
 pub mod Growing
 pub mod Orders
 pub mod Lively
+pub mod Members
+pub mod RowLemmas
+pub mod Totals

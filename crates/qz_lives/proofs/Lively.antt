@@ -240,7 +240,7 @@ module _ (m : Lives) (h : List Record) (a : AttemptId) (lives : AreLives m h) wh
 
   -- an attempt that was started and hasn't ended is found in the map
   there-by : (b : AttemptId) (x z : Bool) → is_some (start h b) ≡ x → is_ended h b ≡ z → x ≡ true → not z ≡ true → at_key m.going.entries b ≡ Some true
-  there-by b true false is ended_so member goes_on = going-true (at_key m.going.entries b) (is_some (start h b) && not (is_ended h b)) (lives.going b) (rw (is, ended_so) refl)
+  there-by b true false is ended_so member goes_on = going-true (at_key m.going.entries b) (is_some (start h b) && not (is_ended h b)) (lives.attempts.going b) (rw (is, ended_so) refl)
   there-by b false z is ended_so member goes_on = absurd cc
   there-by b true true is ended_so member goes_on = absurd cc
 
@@ -255,7 +255,7 @@ module _ (m : Lives) (h : List Record) (a : AttemptId) (lives : AreLives m h) wh
   first-there None f = record { none = λ b member. next-by b (is_next b) refl (λ passes. f.none b (there b member passes)) }
   first-there (Some e) f =
       let b = attempt_at e.0 in
-      let goes_on : (is_some (start h b) && not (is_ended h b)) ≡ true = sym (lives.going b) ∙ ap (λ (o : Option Bool). unwrap_or o false) f.found in
+      let goes_on : (is_some (start h b) && not (is_ended h b)) ≡ true = sym (lives.attempts.going b) ∙ ap (λ (o : Option Bool). unwrap_or o false) f.found in
       record {
         member = started-there b h ∙ and-left (is_some (start h b)) (not (is_ended h b)) goes_on;
         passes = rw (f.after, and-right (is_some (start h b)) (not (is_ended h b)) goes_on) refl;

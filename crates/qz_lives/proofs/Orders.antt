@@ -32,7 +32,7 @@ told x y is = told-by x y (nat_lt x.user y.user) (x.user == y.user) refl refl is
 by-user : (x y : AttemptId) → x.user < y.user → attempt_before x y ≡ true
 by-user x y less = rw (lt-ltb x.user y.user less) refl
 
-or-right : (b c : Bool) → c ≡ true → b || c ≡ true
+pub or-right : (b c : Bool) → c ≡ true → b || c ≡ true
 or-right true c is = refl
 or-right false c is = is
 
@@ -111,7 +111,7 @@ unfolding Before Rising
 rising-placed x [] rising = (tt, tt)
 rising-placed x (y ∷ ys) rising = rising-placed-by x y ys (attempt_before x y) (attempt_before y x) refl refl rising (rising-placed x ys rising.1)
 
-in_order-rises : (xs : List AttemptId) → Rising (in_order attempt_before xs)
+pub in_order-rises : (xs : List AttemptId) → Rising (in_order attempt_before xs)
 unfolding Rising
 in_order-rises [] = tt
 in_order-rises (x ∷ xs) = rising-placed x (in_order attempt_before xs) (in_order-rises xs)

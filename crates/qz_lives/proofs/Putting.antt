@@ -1,10 +1,12 @@
 -- What a record of a lawful list does to the attempts, and that it may be done.
-use Rattle.std.proofs.Common.{◌≡◌, ℕ, ◌+◌, ◌-◌, ◌≤◌, inl, inr, Bool, true, false, not, List, [], ◌∷◌, ◌++◌, Option, Some, None, option_map, length, refl, sym, ap, subst, ◌∙◌, arith, All}
-use Rattle.std.specs.Prelude.{◌==◌, IfSome, ℤ, if◌then◌else◌, is_none, is_some, nat_le, option_and_then, slice_get}
+use Rattle.std.proofs.Common.{◌≡◌, ℕ, ◌+◌, ◌-◌, ◌<◌, ◌≤◌, inl, inr, Bool, true, false, not, List, [], ◌∷◌, ◌++◌, Option, Some, None, option_map, length, refl, sym, ap, subst, ◌∙◌, arith, All}
+use Rattle.std.specs.BTreeMap.{get}
+use Rattle.std.specs.Prelude.{◌==◌, IfSome, IsSomeAnd, ℤ, if◌then◌else◌, is_none, is_some, nat_le, option_and_then, slice_get}
 use Rattle.std.proofs.Math.Seq.{take-append_seam}
 use Rattle.std.proofs.lemmas.List.Elements.{All-take}
 use Rattle.std.proofs.lemmas.Bool.{eqb-true, leb-true}
 use Rattle.std.proofs.lemmas.Option.{slice_get_cases}
+use Rattle.qz_gradebook.specs.Totals.{Gradebook, is_there}
 use Rattle.qz_grading.specs.declared.question.Question.{Question}
 use Rattle.qz_grading.specs.declared.refusal.AttemptId.{AttemptId}
 use Rattle.qz_grading.specs.declared.refusal.Refusal.{Refusal}
@@ -34,8 +36,8 @@ use Rattle.qz_lives.specs.declared.live.Begun.{Begun}
 use Rattle.qz_lives.specs.declared.live.Ending.{Ending}
 use Rattle.qz_lives.specs.declared.live.Live.{Live}
 use Rattle.qz_lives.specs.declared.lives.Lives.{Lives}
-use Rattle.qz_lives.specs.Attempts.{AreLives, IsSlot, IsSlotAt, IsTold, IsToldAs, IsUntold, live_in, run_in, slot_of}
-use Rattle.qz_lives.specs.Changes.{CanAct, CanEnd, CanRebind, IsCounted, IsLawful, Knows}
+use Rattle.qz_lives.specs.Attempts.{AreAttempts, IsSlot, IsSlotAt, IsTold, IsToldAs, IsUntold, by_number, live_in, run_in, slot_of}
+use Rattle.qz_lives.specs.Changes.{CanAct, CanEnd, CanRebind, CanPutTotal, HasRowRoom, IsCounted, IsLawful, Knows}
 use Rattle.qz_lives.specs.Runs.{CanBind, CanFinish, CanTake, HaveRoom, IsRoomy, Known}
 use Rattle.qz_lives.proofs.Changing.{playing}
 use Rattle.qz_lives.proofs.Effects.{IsActed, IsEnding, acted-put, begun, ended-put, first-two, quiz-there, slot-max}
@@ -77,11 +79,11 @@ event-kept r d is k = subst KeepsEvent is k.event
 
 -- ---- the attempt that is named
 
-told-there : (m : Lives) (l : List Record) (a : AttemptId) (o : Option Live) → live_in m a ≡ o → AreLives m l → is_none (start l a) ≡ false → (x : Live) × (live_in m a ≡ Some x) × IsTold l a x
+told-there : (m : Lives) (l : List Record) (a : AttemptId) (o : Option Live) → live_in m a ≡ o → AreAttempts m l → is_none (start l a) ≡ false → (x : Live) × (live_in m a ≡ Some x) × IsTold l a x
 told-there m l a None is h there = absurd (let u : IsUntold l a = subst (IsToldAs l a) is (h.each a) in let none = u.unstarted in let both : is_none (start l a) ≡ true = ap is_none none in cc)
 told-there m l a (Some x) is h there = (x, is, subst (IsToldAs l a) is (h.each a))
 
-pub told-of : (m : Lives) (l : List Record) (a : AttemptId) → AreLives m l → is_none (start l a) ≡ false → (x : Live) × (live_in m a ≡ Some x) × IsTold l a x
+pub told-of : (m : Lives) (l : List Record) (a : AttemptId) → AreAttempts m l → is_none (start l a) ≡ false → (x : Live) × (live_in m a ≡ Some x) × IsTold l a x
 told-of m l a h there = told-there m l a (live_in m a) refl h there
 
 run-by : (x : Live) (k : ℕ) (z : Bool) → (k == 0) ≡ z → nat_le 1 k ≡ true → nat_le k (length x.slots) ≡ true → (run : Run) × ((if z then None else slice_get x.slots (k - 1)) ≡ Some run)
@@ -117,7 +119,7 @@ pub record IsAct (known : Known) (m : Lives) (l : List Record) (a : AttemptId) (
   pub can : IsRoomy run → CanTake known run x
   pub unfinished : is_finish x ≡ false
 
-act-by : (known : Known) (m : Lives) (l : List Record) (r : Record) (a : AttemptId) (k : ℕ) (x : Step) → Knows known (l ++ r ∷ []) → AreLives m l → IsLast l r → IsActed l a k x → IsAct known m l a k x
+act-by : (known : Known) (m : Lives) (l : List Record) (r : Record) (a : AttemptId) (k : ℕ) (x : Step) → Knows known (l ++ r ∷ []) → AreAttempts m l → IsLast l r → IsActed l a k x → IsAct known m l a k x
 act-by known m l r a k x knows h w d =
     let parts = first-two (missing_attempt l d.user a) (when (not (is_place (slot_count l a) k)) (refusal.Unknown thing.Slot)) d.there in
     let t = told-of m l a h (begun l d.user a parts.0) in
@@ -150,14 +152,14 @@ act-by known m l r a k x knows h w d =
       unfinished = d.unfinished;
     }
 
-pub act-of : (known : Known) (m : Lives) (l : List Record) (r : Record) (a : AttemptId) (k : ℕ) (x : Step) → Knows known (l ++ r ∷ []) → AreLives m l → IsLast l r → r.event ≡ event.Acted a k x → IsAct known m l a k x
+pub act-of : (known : Known) (m : Lives) (l : List Record) (r : Record) (a : AttemptId) (k : ℕ) (x : Step) → Knows known (l ++ r ∷ []) → AreAttempts m l → IsLast l r → r.event ≡ event.Acted a k x → IsAct known m l a k x
 act-of known m l r a k x knows h w is = act-by known m l r a k x knows h w (acted-put l r a k x is (event-allowed l r (event.Acted a k x) is w))
 
-pub can-act : (known : Known) (m : Lives) (l : List Record) (a : AttemptId) (k : ℕ) (x : Step) → IsAct known m l a k x → IfSome (run_in m a k) IsRoomy → CanAct known m a k x
-can-act known m l a k x d room =
+pub can-act : (known : Known) (m : Lives) (l : List Record) (a : AttemptId) (k : ℕ) (x : Step) → (d : IsAct known m l a k x) → CanPutTotal m.rows a d.live → IfSome (run_in m a k) IsRoomy → CanAct known m a k x
+can-act known m l a k x d total room =
     let found : run_in m a k ≡ Some d.run = ap (option_and_then (λ (y : Live). at_place y.slots k)) d.there ∙ d.run_is in
     let roomy : IsRoomy d.run = subst (λ (o : Option Run). IfSome o IsRoomy) found room in
-    record { live = d.live; there = d.there; can = record { run = d.run; there = d.run_is; can = d.can roomy } }
+    record { live = d.live; there = d.there; can = record { run = d.run; there = d.run_is; can = d.can roomy }; total = total }
 
 -- ---- an end
 
@@ -178,7 +180,7 @@ pub record IsEnd (known : Known) (m : Lives) (l : List Record) (a : AttemptId) :
   pub limits : (k : ℕ) (run : Run) → at_place live.slots k ≡ Some run → IsWithinLimits (run.steps ++ step.Finish ∷ [])
   pub can : HaveRoom live.slots → CanFinish known live.slots
 
-end-by : (known : Known) (m : Lives) (l : List Record) (r : Record) (a : AttemptId) → Knows known (l ++ r ∷ []) → AreLives m l → IsEnding l a → IsEnd known m l a
+end-by : (known : Known) (m : Lives) (l : List Record) (r : Record) (a : AttemptId) → Knows known (l ++ r ∷ []) → AreAttempts m l → IsEnding l a → IsEnd known m l a
 end-by known m l r a knows h d =
     let t = told-of m l a h (begun l d.user a d.there) in
     let unended : ended l a ≡ None = none-by (ended l a) d.unended in
@@ -207,16 +209,20 @@ end-by known m l r a knows h d =
       };
     }
 
-pub end-of : (known : Known) (m : Lives) (l : List Record) (r : Record) (a : AttemptId) (w : How) → Knows known (l ++ r ∷ []) → AreLives m l → IsLast l r → r.event ≡ event.Ended a w → IsEnd known m l a
+pub end-of : (known : Known) (m : Lives) (l : List Record) (r : Record) (a : AttemptId) (w : How) → Knows known (l ++ r ∷ []) → AreAttempts m l → IsLast l r → r.event ≡ event.Ended a w → IsEnd known m l a
 end-of known m l r a w knows h last is = end-by known m l r a knows h (ended-put l r a w is (event-allowed l r (event.Ended a w) is last))
 
 pub counted : (l : List Record) (a : AttemptId) (x : Live) → IsTold l a x → IsCounted x
 counted l a x t = (ap (λ (b : Begun). b.slots) t.begun_is ∙ sym t.count, t.few)
 
-pub can-end : (known : Known) (m : Lives) (l : List Record) (a : AttemptId) → IsEnd known m l a → IfSome (live_in m a) (λ (x : Live). HaveRoom x.slots) → CanEnd known m a
-can-end known m l a d room =
-    let roomy : HaveRoom d.live.slots = subst (λ (o : Option Live). IfSome o (λ (x : Live). HaveRoom x.slots)) d.there room in
-    record { live = d.live; there = d.there; counted = counted l a d.live d.told; can = d.can roomy }
+row-roomy : (o : Option Gradebook) (q : ℕ) (a : AttemptId) → IsSomeAnd o (λ (g : Gradebook). 0 < g.room) → IsSomeAnd o (λ (g : Gradebook). is_there q a g.finished ≡ false → 0 < g.room)
+row-roomy None q a room = absurd room
+row-roomy (Some g) q a room = λ fresh. room
+
+pub can-end : (known : Known) (m : Lives) (l : List Record) (a : AttemptId) → (d : IsEnd known m l a) → 0 < a.nth → IfSome (live_in m a) (λ (x : Live). HaveRoom x.slots × HasRowRoom m.rows x.begun.quiz a.user) → CanEnd known m a
+can-end known m l a d number room =
+    let both : HaveRoom d.live.slots × HasRowRoom m.rows d.live.begun.quiz a.user = subst (λ (o : Option Live). IfSome o (λ (x : Live). HaveRoom x.slots × HasRowRoom m.rows x.begun.quiz a.user)) d.there room in
+    record { live = d.live; there = d.there; counted = counted l a d.live d.told; can = d.can both.0; number = number; row = row-roomy (get by_number m.rows (d.live.begun.quiz, a.user)) d.live.begun.quiz a both.1 }
 
 -- ---- a version that is bound
 
@@ -233,7 +239,7 @@ pub record IsRebind (known : Known) (m : Lives) (l : List Record) (r : Record) (
   pub can : CanBind known run b
   pub alike : (p q : Question) → version l run.bound.entry run.bound.version ≡ Some p → version (l ++ r ∷ []) b.entry b.version ≡ Some q → same_shape (shape p) (shape q) ≡ true
 
-rebind-by : (known : Known) (m : Lives) (l : List Record) (r : Record) (job : ℕ) (a : AttemptId) (k : ℕ) (b : Bound) (ls : List Learned) → Knows known (l ++ r ∷ []) → AreLives m l → IsLast l r → r.event ≡ event.Rebound job a k b ls → RebindIsAllowed l r job a k b ls → IsRebind known m l r a k b
+rebind-by : (known : Known) (m : Lives) (l : List Record) (r : Record) (job : ℕ) (a : AttemptId) (k : ℕ) (b : Bound) (ls : List Learned) → Knows known (l ++ r ∷ []) → AreAttempts m l → IsLast l r → r.event ≡ event.Rebound job a k b ls → RebindIsAllowed l r job a k b ls → IsRebind known m l r a k b
 rebind-by known m l r job a k b ls knows h w is d =
     let t = told-of m l a h (quiz-there (start l a) d.quiz d.of_quiz) in
     let run = bound-by l a k t.0 (at_place t.0.slots k) d.old refl (t.2.bounds k) d.old_is in
@@ -265,11 +271,11 @@ rebind-by known m l r job a k b ls knows h w is d =
           ap (λ (q : Question). same_shape (shape q) (shape g)) (sym first) ∙ ap (λ (q : Question). same_shape (shape d.old) (shape q)) (sym second) ∙ d.same;
     }
 
-pub rebind-of : (known : Known) (m : Lives) (l : List Record) (r : Record) (job : ℕ) (a : AttemptId) (k : ℕ) (b : Bound) (ls : List Learned) → Knows known (l ++ r ∷ []) → AreLives m l → IsLast l r → r.event ≡ event.Rebound job a k b ls → IsRebind known m l r a k b
+pub rebind-of : (known : Known) (m : Lives) (l : List Record) (r : Record) (job : ℕ) (a : AttemptId) (k : ℕ) (b : Bound) (ls : List Learned) → Knows known (l ++ r ∷ []) → AreAttempts m l → IsLast l r → r.event ≡ event.Rebound job a k b ls → IsRebind known m l r a k b
 rebind-of known m l r job a k b ls knows h w is = rebind-by known m l r job a k b ls knows h w is (event-allowed l r (event.Rebound job a k b ls) is w)
 
-pub can-rebind : (known : Known) (m : Lives) (l : List Record) (r : Record) (a : AttemptId) (k : ℕ) (b : Bound) → IsRebind known m l r a k b → CanRebind known m a k b
-can-rebind known m l r a k b d = record { live = d.live; there = d.there; can = record { run = d.run; there = d.run_is; can = d.can } }
+pub can-rebind : (known : Known) (m : Lives) (l : List Record) (r : Record) (a : AttemptId) (k : ℕ) (b : Bound) → (d : IsRebind known m l r a k b) → CanPutTotal m.rows a d.live → CanRebind known m a k b
+can-rebind known m l r a k b d total = record { live = d.live; there = d.there; can = record { run = d.run; there = d.run_is; can = d.can }; total = total }
 
 -- at most once for each step that is read again, and once more
 pub rebind-count : (known : Known) (m : Lives) (l : List Record) (r : Record) (a : AttemptId) (k : ℕ) (b : Bound) (before after : ℕ) → IsRebind known m l r a k b → ((run : Run) → run_in m a k ≡ Some run → after ≤ before + length run.steps + 1) → after ≤ before + (length (steps l a k) + 1)

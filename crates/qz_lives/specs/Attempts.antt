@@ -1,8 +1,10 @@
 -- The attempts of a shard's list: what is kept of each is what the records tell.
-use Rattle.std.specs.Prelude.{◌≡◌, ℕ, ◌≤◌, ◌&&◌, Bool, false, not, List, [], length, Option, Some, None, is_some, option_and_then, option_map, unwrap_or}
-use Rattle.std.specs.BTreeMap.{get}
+use Rattle.std.specs.Prelude.{◌≡◌, ℕ, ◌≤◌, ◌&&◌, Bool, false, not, List, [], filter, length, map, Option, Some, None, is_some, option_and_then, option_map, unwrap_or}
+use Rattle.std.specs.BTreeMap.{BTreeMap, get}
 use Rattle.std.specs.Ordering.{nat_cmp, ordering_then}
 use Rattle.std.specs.declared.cmp.Ordering.{Ordering}
+use Rattle.qz_gradebook.specs.declared.finished.Finished.{Finished}
+use Rattle.qz_gradebook.specs.Totals.{Gradebook}
 use Rattle.qz_grading.specs.declared.question.Question.{Question}
 use Rattle.qz_grading.specs.declared.refusal.AttemptId.{AttemptId}
 use Rattle.qz_grading.specs.Grading.{at_place}
@@ -36,6 +38,14 @@ run_in m a k = option_and_then (λ (l : Live). at_place l.slots k) (live_in m a)
 -- whether it is kept as one that goes on
 abbrev pub goes_on_in : Lives → AttemptId → Bool
 goes_on_in m a = unwrap_or (get by_number m.going (key_of a)) false
+
+-- the rows, by quiz and user
+abbrev pub RowMap : Type 0
+RowMap = BTreeMap (ℕ × ℕ) Gradebook
+
+-- what is kept of the finished attempts of a quiz by a user
+abbrev pub finished_in : RowMap → ℕ → ℕ → List Finished
+finished_in rows q u = unwrap_or (option_map (λ (g : Gradebook). g.finished) (get by_number rows (q, u))) []
 
 -- ---- what the records tell
 
@@ -82,7 +92,24 @@ abbrev pub IsToldAs : List Record → AttemptId → Option Live → Type 0
 IsToldAs h a None = IsUntold h a
 IsToldAs h a (Some l) = IsTold h a l
 
--- These are the attempts of a list. An attempt goes on that was started and hasn't ended.
-pub record AreLives (m : Lives) (h : List Record) : Type 0 where
+-- these are the attempts of a list; an attempt goes on that was started and hasn't ended
+pub record AreAttempts (m : Lives) (h : List Record) : Type 0 where
   pub each : (a : AttemptId) → IsToldAs h a (live_in m a)
   pub going : (a : AttemptId) → goes_on_in m a ≡ (is_some (history.start h a) && not (history.is_ended h a))
+
+-- an attempt of a quiz, with its total
+abbrev pub finished_at : List Record → ℕ → AttemptId → Finished
+finished_at h q a = record { quiz = q; attempt = a; total = history.total h a }
+
+-- the finished attempts of a quiz by a user, in order of number, each with its total
+abbrev pub finished_of : List Record → ℕ → ℕ → List Finished
+finished_of h q u = map (finished_at h q) (filter (history.is_finished h) (history.attempts h q u))
+
+-- and these rows are of them
+pub record AreRows (rows : RowMap) (h : List Record) : Type 0 where
+  pub each : (q u : ℕ) → finished_in rows q u ≡ finished_of h q u
+
+-- the attempts of a list are kept, and the rows of those that are finished
+pub record AreLives (m : Lives) (h : List Record) : Type 0 where
+  pub attempts : AreAttempts m h
+  pub rows : AreRows m.rows h

@@ -1,13 +1,18 @@
--- One attempt: its total, as its runs tell it, and what growth leaves of it.
-use Rattle.std.specs.Prelude.{◌≡◌, List, ℤ, map, zip, Option, None, option_and_then}
+-- One attempt: whether it is finished, its total, as its runs tell it, and what growth leaves of it.
+use Rattle.std.specs.Prelude.{◌≡◌, Bool, List, ℤ, map, zip, Option, None, option_and_then, option_map}
 use Rattle.qz_grading.specs.declared.question.Question.{Question}
 use Rattle.qz_terms.specs.declared.record.How.{How}
 use Rattle.qz_terms.specs.declared.record.How.TheVariants as how
+use Rattle.qz_terms.specs.History.{ended_finished}
 use Rattle.qz_terms.specs.Rows.{total_of}
 use Rattle.qz_usage.specs.Usages.{scored}
 use Rattle.qz_lives.specs.declared.live.Ending.{Ending}
 use Rattle.qz_lives.specs.declared.live.Live.{Live}
 use Rattle.qz_lives.specs.Runs.{AreRoomier}
+
+-- whether it ended by a finish
+abbrev pub has_finished : Live → Bool
+has_finished l = ended_finished (option_map (λ (e : Ending). e.how) l.ending)
 
 abbrev pub total_if : Option ℤ → How → Option ℤ
 total_if total how.Finished = total

@@ -4,6 +4,7 @@
 mod live;
 mod lives;
 mod prepared;
+mod rows;
 mod versions;
 
 pub use live::{Begun, Ending, Live};

@@ -8,7 +8,7 @@ ghost use Rattle.qz_grading.specs.Steps.{is_save};
 ghost use Rattle.qz_usage.specs.Runs.{Run};
 ghost use Rattle.qz_usage.specs.Usages.{AreBound, IsTotal};
 ghost use Rattle.qz_lives.specs.Runs.{AreFresh, CanBind, CanBindAt, CanFinish, CanOpen, CanTake, CanTakeAt, HasBound, HasBoundAt, HasTaken, HasTakenAt, HaveFinished, HaveRoom, IsRoomy};
-ghost use Rattle.qz_lives.specs.Ones.{IsRoomier, total_by};
+ghost use Rattle.qz_lives.specs.Ones.{IsRoomier, has_finished, total_by};
 
 use crate::Versions;
 use qz_decimal::Mark;
@@ -129,6 +129,16 @@ impl Live {
         ensures { result ≡ self.now.ending }
     {
         self.ending
+    }
+
+    /// Whether it ended by a finish.
+    pub(crate) fn is_finished(&self) -> bool
+        ensures { result ≡ has_finished self.now }
+    {
+        match self.ending {
+            Some(ending) => matches!(ending.how, How::Finished),
+            None => false,
+        }
     }
 
     /// The slot with this number, from 1.

@@ -1,6 +1,6 @@
 //! The attempts of a shard.
 
-ghost use Rattle.std.specs.Prelude.{◌≡◌, ◌+◌, ◌<◌, ◌≤◌, [], ◌∷◌, ◌++◌, List, length, filter, option_map, IfOk, IfSome, OnErr, OnOk, true, is_some, Some};
+ghost use Rattle.std.specs.Prelude.{◌≡◌, ◌+◌, ◌<◌, ◌≤◌, [], ◌∷◌, ◌++◌, ℕ, List, length, filter, option_map, IfOk, IfSome, OnErr, OnOk, true, is_some, Some};
 ghost use Rattle.std.specs.Option.{option_copied};
 ghost use Rattle.std.specs.BTreeMap.{get};
 ghost use Rattle.qz_grading.specs.Steps.{is_answering, is_save};
@@ -8,18 +8,20 @@ ghost use Rattle.qz_grading.specs.declared.refusal.AttemptId.{AttemptId};
 ghost use Rattle.qz_terms.specs.declared.record.Record.{Record};
 ghost use Rattle.qz_terms.specs.History as history;
 ghost use Rattle.qz_usage.specs.Usages.{IsTotal};
-ghost use Rattle.qz_decimal.specs.Numbers.{IsMaxMark, IsSlotMark};
+ghost use Rattle.qz_decimal.specs.Numbers.{IsMaxMark, IsMaxSum, IsQuizGrade, IsSlotMark};
 ghost use Rattle.qz_terms.specs.Lists.{how_many};
 ghost use Rattle.qz_usage.specs.Runs.{Run, bound_of};
 ghost use Rattle.qz_lives.specs.declared.live.Live.{Live};
-ghost use Rattle.qz_lives.specs.Attempts.{AreLives, IsSlotAt, begun_of, by_number, goes_on_in, key_of, live_in, run_in};
-ghost use Rattle.qz_lives.specs.Changes.{AreAlike, Becomes, CanAct, CanEnd, CanRebind, HasAbandoned, HasActed, HasEntry, HasFinished, HasRebound, IsCounted, IsLawful, IsReady, IsSame, IsTakenOut, Keeps, Knows, Leaves, gradings_by};
+ghost use Rattle.qz_lives.specs.Attempts.{AreLives, IsSlotAt, begun_of, by_number, finished_in, goes_on_in, key_of, live_in, run_in};
+ghost use Rattle.qz_lives.specs.Changes.{AreAlike, Becomes, CanAct, CanEnd, CanRebind, CanPutTotal, HasAbandoned, HasActed, HasEntry, HasFinished, HasRebound, HasRowRoom, HasPutTotal, IsCounted, IsLawful, IsReady, IsSame, IsTakenOut, Keeps, Knows, Leaves, gradings_by};
 ghost use Rattle.qz_lives.specs.Runs.{HaveRoom, IsRoomy};
 
+use crate::rows::{put_total, reserve};
 use crate::{Begun, Ending, Live, Prepared, Versions};
-use qz_decimal::Mark;
+use qz_decimal::{Grade, Mark};
+use qz_gradebook::Rows;
 use qz_grading::{AttemptId, Question, State, Step, Steps};
-use qz_terms::{Bound, Event, How, Record};
+use qz_terms::{Bound, Event, How, Policy, Record};
 use qz_text::{NoMemory, TryCopy};
 use qz_usage::SlotRun;
 use std::alloc::Global;
@@ -27,7 +29,8 @@ use std::collections::BTreeMap;
 use std::ops::Bound as End;
 use std::sync::ledger::Ledger;
 
-/// The attempts of a shard, each with what its slots have come to, and in order those that go on.
+/// The attempts of a shard, each with what its slots have come to, in order those that go on, and the totals of those that are
+/// finished.
 ///
 /// What is read takes no memory, and its time grows with the logarithm of the number of attempts. Each clause of a reading
 /// holds for every list whose attempts these are.
@@ -37,6 +40,8 @@ pub struct Lives {
     attempts: BTreeMap<(u32, u32), Option<Live>>,
     /// Whether an attempt goes on. One that has ended has no entry.
     going: BTreeMap<(u32, u32), bool>,
+    /// The totals of finished attempts, by quiz and user. Rows without an attempt are room for the first that finishes.
+    rows: BTreeMap<(u32, u32), Rows>,
 }
 
 fn key_of(attempt: AttemptId) -> (u32, u32)
@@ -60,6 +65,7 @@ impl Lives {
         Lives {
             attempts: BTreeMap::new(alloc),
             going: BTreeMap::new(alloc),
+            rows: BTreeMap::new(alloc),
         }
     }
 
@@ -165,13 +171,25 @@ impl Lives {
         }
     }
 
-    /// The total of an attempt (in 10^-7), and none where it isn't finished or a teacher's mark is missing that would count. Its
-    /// time grows with the number of the attempt's slots.
+    /// The total of an attempt (in 10^-7), and none where it isn't finished or a teacher's mark is missing that would count. It is
+    /// kept, and no slot is read.
     pub fn total(&self, attempt: AttemptId) -> Option<Mark>
         ensures value { (h : List Record) → AreLives self.now h → result ≡ history.total h attempt }
         ensures range { IfSome result IsTotal }
     {
-        self.attempt(attempt)?.total()
+        let quiz = self.quiz(attempt)?;
+        self.rows.get(&(quiz, attempt.user))?.total(quiz, attempt)
+    }
+
+    /// The grade (in 10^-5) of a user at a quiz, over the totals of the user's finished attempts of it in order of number, and none
+    /// where no total is taken. The grade is from 0 to 10,000, and the sum of the max marks from 0 to 2,000,000. The totals are
+    /// kept, and no slot is read.
+    pub fn row(&self, quiz: u32, policy: &Policy, user: u32) -> Option<Grade>
+        requires grade { IsQuizGrade policy.now.grade }
+        requires sum { IsMaxSum policy.now.sum }
+        ensures { (h : List Record) → AreLives self.now h → result ≡ history.row h quiz policy.now user }
+    {
+        self.rows.get(&(quiz, user))?.row(quiz, policy, user)
     }
 
     /// The first attempt after this one, in order of user and number, that hasn't ended.
@@ -191,8 +209,8 @@ impl Lives {
     }
 
     /// Makes all that takes memory before a record is put: an entry for an attempt that starts, and the attempt with its slots;
-    /// room for the steps that the record takes, and a copy of the step. What is read stays as it is, also where memory is
-    /// wanting.
+    /// room for the steps that the record takes, and a copy of the step; room for the total of an attempt that is finished. What is
+    /// read stays as it is, also where memory is wanting.
     ///
     /// `records` are those before, and `versions` knows the questions that the list with this record has learned.
     pub fn grow<V: Versions>(
@@ -242,7 +260,7 @@ impl Lives {
                 attempt,
                 how: How::Finished,
             } => {
-                self.reserve_all(*attempt)?;
+                self.grow_end(alloc, *attempt)?;
                 Ok(Prepared::Nothing)
             }
             _ => Ok(Prepared::Nothing),
@@ -262,6 +280,7 @@ impl Lives {
         ensures entry { OnOk result (is_some (get by_number self.new.attempts (key_of attempt)) ≡ true) }
         ensures kept { (a : AttemptId) → live_in self.new a ≡ live_in self.old a }
         ensures rest { self.new.going ≡ self.old.going }
+        ensures rows { self.new.rows ≡ self.old.rows }
     {
         let key = key_of(attempt);
         if !self.attempts.contains_key(&key) {
@@ -274,12 +293,42 @@ impl Lives {
         ensures entry { OnOk result (is_some (get by_number self.new.going (key_of attempt)) ≡ true) }
         ensures kept { (a : AttemptId) → goes_on_in self.new a ≡ goes_on_in self.old a }
         ensures rest { self.new.attempts ≡ self.old.attempts }
+        ensures rows { self.new.rows ≡ self.old.rows }
     {
         let key = key_of(attempt);
         if !self.going.contains_key(&key) {
             self.going.insert(key, false)?;
         }
         Ok(())
+    }
+
+    /// Makes room for one more step in each slot of an attempt that is there, and for its total.
+    fn grow_end(&mut self, alloc: Global, attempt: AttemptId) -> Result<(), NoMemory>
+        requires there { is_some (live_in self.old attempt) ≡ true }
+        requires count { IfSome (live_in self.old attempt) IsCounted }
+        ensures room { OnOk result (IfSome (live_in self.new attempt)
+            (λ (l : Live). HaveRoom l.slots × HasRowRoom self.new.rows l.begun.quiz attempt.user)) }
+        ensures kept { (h : List Record) → AreLives self.old h → AreLives self.new h }
+    {
+        self.reserve_all(attempt)?;
+        self.grow_row(alloc, attempt)
+    }
+
+    /// Makes room for one more total in the row of an attempt that is there.
+    fn grow_row(&mut self, alloc: Global, attempt: AttemptId) -> Result<(), NoMemory>
+        requires { is_some (live_in self.old attempt) ≡ true }
+        ensures room { OnOk result (IfSome (live_in self.new attempt)
+            (λ (l : Live). HasRowRoom self.new.rows l.begun.quiz attempt.user)) }
+        ensures kept { (q u : ℕ) → finished_in self.new.rows q u ≡ finished_in self.old.rows q u }
+        ensures rest { self.new ≡ record self.old { rows = self.new.rows } }
+    {
+        match self.attempt(attempt) {
+            Some(live) => {
+                let quiz = live.begun().quiz;
+                reserve(&mut self.rows, alloc, (quiz, attempt.user))
+            }
+            None => unreachable!(),
+        }
     }
 
     /// Takes an attempt that is there out of its entry, which stays.
@@ -312,6 +361,17 @@ impl Lives {
         ensures { Leaves self.old self.new attempt }
     {
         let _ = self.going.remove(&key_of(attempt));
+    }
+
+    /// Puts the total of an attempt into its row, if it is finished. It takes no memory.
+    fn put_total(&mut self, attempt: AttemptId, live: &Live)
+        requires { CanPutTotal self.old.rows attempt live.now }
+        ensures row { HasPutTotal self.old.rows self.new.rows attempt live.now }
+        ensures rest { self.new ≡ record self.old { rows = self.new.rows } }
+    {
+        if live.is_finished() {
+            put_total(&mut self.rows, live.begun().quiz, attempt, live.total());
+        }
     }
 
     /// Makes room for one more step in a slot of an attempt that is there.
@@ -395,7 +455,8 @@ impl Lives {
     /// Puts an attempt that starts.
     pub(crate) fn start(&mut self, attempt: AttemptId, live: Live)
         requires { HasEntry self.old attempt }
-        ensures { Becomes self.old self.new attempt live true }
+        ensures becomes { Becomes self.old self.new attempt live true }
+        ensures rows { self.new.rows ≡ self.old.rows }
     {
         self.keep(attempt, live);
         // The entry is there, so this takes no memory.
@@ -405,7 +466,7 @@ impl Lives {
         }
     }
 
-    /// Follows a step that was taken on a slot.
+    /// Follows a step that was taken on a slot. A teacher's mark may change the total of an attempt that is finished.
     fn act<V: Versions, L: Ledger>(
         &mut self,
         attempt: AttemptId,
@@ -421,10 +482,11 @@ impl Lives {
     {
         let mut live = self.take(attempt);
         live.act(slot, step, versions, steps);
+        self.put_total(attempt, &live);
         self.keep(attempt, live);
     }
 
-    /// Binds another version to a slot.
+    /// Binds another version to a slot, which may change the total of an attempt that is finished.
     fn rebind<V: Versions, L: Ledger>(
         &mut self,
         attempt: AttemptId,
@@ -440,6 +502,7 @@ impl Lives {
     {
         let mut live = self.take(attempt);
         live.rebind(slot, bound, versions, steps);
+        self.put_total(attempt, &live);
         self.keep(attempt, live);
     }
 
@@ -458,6 +521,7 @@ impl Lives {
     {
         let mut live = self.take(attempt);
         live.finish(ending, versions, steps);
+        self.put_total(attempt, &live);
         self.keep(attempt, live);
         self.leave(attempt);
     }

@@ -1,10 +1,10 @@
 ghost use Rattle.std.specs.Prelude.{Some};
 
 use super::*;
-use qz_decimal::Fraction;
+use qz_decimal::{Fraction, Grade, Mark, ONE};
 use qz_grading::{AttemptId, Behaviour, Question, State};
 use qz_samples::truth;
-use qz_terms::How;
+use qz_terms::{How, Method, Policy};
 use std::test::Fail;
 
 /// Every version asks this.
@@ -35,6 +35,12 @@ fn no_attempt_is_there(rt: HostRuntime) -> Result<(), Fail> {
     assert!(rt; lives.begun(attempt).is_none() && lives.slot(attempt, 1).is_none());
     assert!(rt; lives.standing(attempt, 1) == (State::Todo, None));
     assert!(rt; lives.slot_count(attempt) == 0 && lives.total(attempt).is_none());
+    let policy = Policy {
+        method: Method::Highest,
+        grade: Grade(1_000_000),
+        sum: Mark(ONE),
+    };
+    assert!(rt; lives.row(7, &policy, 1).is_none());
     assert!(rt; lives.live_after(AttemptId { user: 0, nth: 0 }).is_none());
     Ok(())
 }
