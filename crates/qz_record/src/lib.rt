@@ -6,6 +6,7 @@ mod fault;
 mod keeping;
 pub mod laws;
 mod lengths;
+mod list_fault;
 mod numbers;
 mod part;
 mod questions;
@@ -17,6 +18,7 @@ mod texts;
 mod writing;
 
 pub use fault::RecordFault;
+pub use list_fault::ListFault;
 pub use record::{parse, spell};
 
 #[cfg(test)]

@@ -29,7 +29,7 @@ once-swap x true false = refl
 once-swap x false true = refl
 once-swap x false false = refl
 
-once-push : {A : Type 0} (same : A → A → Bool) (xs : List A) (x : A) → once same (xs ++ x ∷ []) ≡ once same xs ++ (if list_any (λ y. same y x) xs then [] else x ∷ [])
+pub once-push : {A : Type 0} (same : A → A → Bool) (xs : List A) (x : A) → once same (xs ++ x ∷ []) ≡ once same xs ++ (if list_any (λ y. same y x) xs then [] else x ∷ [])
 once-push same [] x = refl
 once-push same (y ∷ ys) x = ap (λ (t : List _). y ∷ t)
     (ap (filter (λ z. not (same y z))) (once-push same ys x)
@@ -83,11 +83,11 @@ map-filter-step : {A B : Type 0} (f : A → B) (p : B → Bool) (x : A) (xs : Li
 map-filter-step f p x xs true is rest = rw is (ap (λ (t : List _). f x ∷ t) rest)
 map-filter-step f p x xs false is rest = rw is rest
 
-map-filter : {A B : Type 0} (f : A → B) (p : B → Bool) (xs : List A) → map f (filter (λ x. p (f x)) xs) ≡ filter p (map f xs)
+pub map-filter : {A B : Type 0} (f : A → B) (p : B → Bool) (xs : List A) → map f (filter (λ x. p (f x)) xs) ≡ filter p (map f xs)
 map-filter f p [] = refl
 map-filter f p (x ∷ xs) = map-filter-step f p x xs (p (f x)) refl (map-filter f p xs)
 
-map-once : {A B : Type 0} (f : A → B) (same : B → B → Bool) (xs : List A) → map f (once (λ x y. same (f x) (f y)) xs) ≡ once same (map f xs)
+pub map-once : {A B : Type 0} (f : A → B) (same : B → B → Bool) (xs : List A) → map f (once (λ x y. same (f x) (f y)) xs) ≡ once same (map f xs)
 map-once f same [] = refl
 map-once f same (x ∷ xs) = ap (λ (t : List _). f x ∷ t) (map-filter f (λ z. not (same (f x) z)) (once (λ x y. same (f x) (f y)) xs) ∙ ap (filter (λ z. not (same (f x) z))) (map-once f same xs))
 

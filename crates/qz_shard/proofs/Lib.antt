@@ -21,3 +21,9 @@ pub mod TargetLemmas
 pub mod WorkLemmas
 pub mod PutLemmas
 pub mod Counting
+pub mod PutTold
+pub mod PutMade
+pub mod BeginLemmas
+pub mod StandLemmas
+pub mod LearnTests
+pub mod TakeLemmas

@@ -38,7 +38,7 @@ slot-steps-by h None p taken x is = absurd cc
 slot-steps-by h (Some s) None taken x is = absurd cc
 slot-steps-by h (Some s) (Some b) taken x is = slot-steps-asked s b taken (version h b.entry b.version) x is
 
-slot-steps : (h : List Record) (a : AttemptId) (k : ℕ) (s : Slot) → slot h a k ≡ Some s → s.steps ≡ history.steps h a k
+pub slot-steps : (h : List Record) (a : AttemptId) (k : ℕ) (s : Slot) → slot h a k ≡ Some s → s.steps ≡ history.steps h a k
 slot-steps h a k s is = slot-steps-by h (start h a) (bound h a k) (history.steps h a k) s is
 
 asks-with : (h : List Record) (s : Start) (b : Bound) (taken : List Step) (o : Option Question) (x : Slot) → version h b.entry b.version ≡ o → option_map (slot_with s b taken) o ≡ Some x → version h x.bound.entry x.bound.version ≡ Some x.question

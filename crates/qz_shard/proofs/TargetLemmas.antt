@@ -13,7 +13,7 @@ use Rattle.qz_terms.specs.Answer.{first_target}
 use Rattle.qz_terms.specs.Legal.{EventIsAllowed, IsLegal}
 use Rattle.qz_terms.specs.Lists.{first_of, in_order, places_to}
 use Rattle.qz_terms.specs.Lists as lists
-use Rattle.qz_terms.specs.History.{Start, attempt_at, attempt_before, bound, is_skipped, is_target, question, quiz, same_attempt, slot_count, start, started, starts, targets_in, version}
+use Rattle.qz_terms.specs.History.{Start, attempt_at, attempt_before, bound, is_skipped, is_target, question, quiz, same_attempt, slot_count, start, started, starts, targets, targets_in, version}
 use Rattle.qz_terms.proofs.Walks.{all_of-push}
 use Rattle.qz_shard.specs.Works.{first_left, has_left}
 use Rattle.qz_shard.proofs.Effects.{Does, acts, begins, does, finishes, leaves, rebinds}
@@ -73,8 +73,8 @@ first-flat h job position [] = refl
 first-flat h job position (a ∷ xs) = first-flat-step h job position a xs (filter (is_target h job position a) (places_to (slot_count h a))) refl (first-flat h job position xs)
 
 -- the attempts of the job's quiz, in order
-abbrev pub attempts_of : List Record → Job → List AttemptId
-attempts_of h job = in_order attempt_before (filter_map (attempt_at job.plan.quiz) h)
+abbrev pub attempts_of : List Record → ℕ → List AttemptId
+attempts_of h q = in_order attempt_before (filter_map (attempt_at q) h)
 
 find-by : {A : Type 0} (p : A → Bool) (x : A) (xs : List A) (b : Bool) → p x ≡ b → find p xs ≡ first_of (filter p xs) → find p (x ∷ xs) ≡ first_of (filter p (x ∷ xs))
 find-by p x xs true is rest = rw is refl
@@ -85,11 +85,11 @@ find-first p [] = refl
 find-first p (x ∷ xs) = find-by p x xs (p x) refl (find-first p xs)
 
 -- what is found among the attempts of the job's quiz
-pub found-in : (h : List Record) (job : Job) (xs : List AttemptId) (o : Option AttemptId) → o ≡ find (has_left h job.number job.position) xs → xs ≡ attempts_of h job → o ≡ first_of (filter (has_left h job.number job.position) (attempts_of h job))
-found-in h job xs o is all = is ∙ find-first (has_left h job.number job.position) xs ∙ ap (λ (ys : List AttemptId). first_of (filter (has_left h job.number job.position) ys)) all
+pub found-in : (h : List Record) (job q position : ℕ) (xs : List AttemptId) (o : Option AttemptId) → o ≡ find (has_left h job position) xs → xs ≡ attempts_of h q → o ≡ first_of (filter (has_left h job position) (attempts_of h q))
+found-in h job q position xs o is all = is ∙ find-first (has_left h job position) xs ∙ ap (λ (ys : List AttemptId). first_of (filter (has_left h job position) ys)) all
 
-pub target-by : (h : List Record) (job : Job) (o : Option AttemptId) → o ≡ first_of (filter (has_left h job.number job.position) (attempts_of h job)) → first_target h job ≡ option_and_then (first_of_attempt h job.number job.position) o
-target-by h job o is = first-flat h job.number job.position (attempts_of h job) ∙ ap (option_and_then (first_of_attempt h job.number job.position)) (sym is)
+pub target-by : (h : List Record) (job q position : ℕ) (o : Option AttemptId) → o ≡ first_of (filter (has_left h job position) (attempts_of h q)) → first_of (targets h job q position) ≡ option_and_then (first_of_attempt h job position) o
+target-by h job q position o is = first-flat h job position (attempts_of h q) ∙ ap (option_and_then (first_of_attempt h job position)) (sym is)
 
 -- ---- attempts of a quiz
 
@@ -101,7 +101,7 @@ record IsStartOf (r : Record) (q : ℕ) (a : AttemptId) : Type 0 where
   starts_it : starts a r ≡ Some told
   quiz_is : told.quiz ≡ q
 
-self-same : (a : AttemptId) → same_attempt a a ≡ true
+pub self-same : (a : AttemptId) → same_attempt a a ≡ true
 self-same a = rw (eq-eqb a.user a.user refl, eq-eqb a.nth a.nth refl) refl
 
 start-of-some : (r : Record) (q : ℕ) (a : AttemptId) (s : Start) (b : Bool) → started r ≡ Some s → (s.quiz == q) ≡ b → option_map (λ (t : Start). t.attempt) (if b then Some s else None) ≡ Some a → IsStartOf r q a
@@ -197,10 +197,10 @@ parts-by h job position a k (Some b) is =
 
 pub left : (index count : ℕ) (h : List Record) (job : Job) (a : AttemptId) (k : ℕ) → IsLegal index count h → first_target h job ≡ Some (a, k) → IsLeft h job a k
 left index count h job a k legal is =
-    let attempt = first_of (filter (has_left h job.number job.position) (attempts_of h job)) in
-    let parts = parts-by h job.number job.position a k attempt (sym (target-by h job attempt refl) ∙ is) in
-    let all : All (OfQuiz h job.plan.quiz) (attempts_of h job) = All-in_order (OfQuiz h job.plan.quiz) attempt_before (filter_map (attempt_at job.plan.quiz) h) (of-quiz index count h job.plan.quiz legal) in
-    let of_it : quiz h a ≡ Some job.plan.quiz = of-all (OfQuiz h job.plan.quiz) (has_left h job.number job.position) (attempts_of h job) a all parts.0 in
+    let attempt = first_of (filter (has_left h job.number job.position) (attempts_of h job.plan.quiz)) in
+    let parts = parts-by h job.number job.position a k attempt (sym (target-by h job.number job.plan.quiz job.position attempt refl) ∙ is) in
+    let all : All (OfQuiz h job.plan.quiz) (attempts_of h job.plan.quiz) = All-in_order (OfQuiz h job.plan.quiz) attempt_before (filter_map (attempt_at job.plan.quiz) h) (of-quiz index count h job.plan.quiz legal) in
+    let of_it : quiz h a ≡ Some job.plan.quiz = of-all (OfQuiz h job.plan.quiz) (has_left h job.number job.position) (attempts_of h job.plan.quiz) a all parts.0 in
     let test : is_target h job.number job.position a k ≡ true = passes (is_target h job.number job.position a) (places_to (slot_count h a)) k parts.1 in
     let early = unwrap_or (option_map (λ (b : Bound). nat_lt b.at job.position) (bound h a k)) false in
     let s = some-start (start h a) job.plan.quiz of_it in

@@ -39,6 +39,11 @@ use Rattle.qz_shard.proofs.Making.{learned-kept, time-kept}
 use Rattle.qz_shard.proofs.Placing.{version-more}
 use Rattle.qz_shard.proofs.TargetLemmas.{IsLeft, left}
 
+-- of a job that has no slot left
+pub none-left : {A : Type 0} (xs : List A) → first_of xs ≡ None → xs ≡ []
+none-left [] none = refl
+none-left (x ∷ xs) none = absurd cc
+
 -- ---- whether a job is done
 
 done-by : (b : Bool) (n place : ℕ) → Some place ≡ (if b then Some n else None) → (b ≡ true) × (place ≡ n)
@@ -183,11 +188,6 @@ module _ (index count : ℕ) (h : List Record) (now caller : ℕ) (job : Job) (h
     target-put r (Some e) is put =
         let same : record_of_job (time h a.user now) caller a.user e ≡ r = cc in
         subst (IsNext index count h) same (target-next e (event-of h job a k e is))
-
-  -- of a job that has no slot left
-  none-left : {A : Type 0} (xs : List A) → first_of xs ≡ None → xs ≡ []
-  none-left [] none = refl
-  none-left (x ∷ xs) none = absurd cc
 
   done-next : first_target h job ≡ None → IsNext index count h (record_of_job (time h 0 now) caller 0 (event.JobDone job.number job.plan.quiz job.position))
   done-next none = record {

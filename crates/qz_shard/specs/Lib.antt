@@ -9,3 +9,4 @@ pub mod Answering
 pub mod Grades
 pub mod Works
 pub mod Pages
+pub mod Allowed

@@ -1,15 +1,15 @@
 //! The attempts of a user at a quiz.
 
 ghost use Rattle.std.specs.Prelude.{◌≡◌, filter};
-ghost use Rattle.qz_terms.specs.Answer.{is_overdue};
 ghost use Rattle.qz_terms.specs.Cause.{goes_on};
 ghost use Rattle.qz_terms.specs.Lists.{first_of};
+ghost use Rattle.qz_shard.specs.Allowed.{is_overdue};
 ghost use Rattle.qz_shard.specs.Decisions.{IsSound};
 
 use crate::book::Book;
 use qz_access::expired;
 use qz_grading::AttemptId;
-use qz_terms::{Plan, Settings};
+use qz_terms::Settings;
 
 /// Whether an attempt goes on: it hasn't ended and isn't expired.
 fn goes_on(book: &Book, settings: &Settings, moment: u64, attempt: AttemptId) -> bool
@@ -26,12 +26,17 @@ fn goes_on(book: &Book, settings: &Settings, moment: u64, attempt: AttemptId) ->
 }
 
 /// Whether an attempt that goes on is expired.
-pub(crate) fn is_overdue(book: &Book, moment: u64, plan: &Plan, attempt: AttemptId) -> bool
+pub(crate) fn is_overdue(
+    book: &Book,
+    moment: u64,
+    settings: &Settings,
+    attempt: AttemptId,
+) -> bool
     requires sound { IsSound book.now }
-    ensures { result ≡ is_overdue book.now moment plan.now attempt }
+    ensures { result ≡ is_overdue book.now settings.now moment attempt }
 {
     match book.begun(attempt) {
-        Some(begun) => { !book.is_ended(attempt) && expired(&plan.settings, begun.moment, moment) }
+        Some(begun) => !book.is_ended(attempt) && expired(settings, begun.moment, moment),
         None => false,
     }
 }

@@ -15,6 +15,7 @@ ghost use Rattle.qz_shard.specs.Decisions.{IsSound};
 ghost use Rattle.qz_shard.specs.Nexts.{CanGrow, IsPut};
 ghost use Rattle.qz_shard.specs.Plays.{IsSlot};
 
+use crate::known::Known;
 use crate::listing::Listing;
 use qz_decimal::Mark;
 use qz_grading::{AttemptId, Question, State, Steps};
@@ -129,6 +130,19 @@ impl Book {
         self.listing
             .index
             .version(&self.listing.records, entry, number)
+    }
+
+    /// The question of a version where this record comes behind the list, if one of them learned it.
+    pub(crate) fn version_with<'a>(
+        &'a self,
+        made: &'a Record,
+        entry: u32,
+        number: u32,
+    ) -> Option<&'a Question>
+        ensures value { option_copied result ≡ version (self.now ++ made.now ∷ []) entry number }
+        ensures kept { All IsKept (self.now ++ made.now ∷ []) → IfSome result (λ q. IsQuestion q.now) }
+    {
+        Known::of(&self.listing.index, &self.listing.records, made).question(entry, number)
     }
 
     /// The greatest position of a job of the quiz that is done, or 0.

@@ -5,6 +5,7 @@ ghost use Rattle.qz_terms.specs.Access.{finish_cause, settled_by};
 ghost use Rattle.qz_terms.specs.Cause.{time_cause};
 ghost use Rattle.qz_terms.specs.History.{ended_at};
 ghost use Rattle.qz_terms.specs.declared.request.Request.TheVariants as request;
+ghost use Rattle.qz_shard.specs.Allowed.{starting_cause};
 ghost use Rattle.qz_shard.specs.Decisions.{IsSound, IsFate};
 
 use crate::attempts::{is_overdue, unfinished};
@@ -22,6 +23,32 @@ pub(crate) type Fate = Result<Option<Event>, Refusal>;
 /// So many attempts a user makes at a quiz.
 const MOST_ATTEMPTS: u32 = 1_000;
 
+/// The first cause for which a user may not start a quiz.
+pub(crate) fn start_cause(
+    book: &Book,
+    settings: &Settings,
+    ready: bool,
+    moment: u64,
+    user: u32,
+    quiz: u32,
+) -> Option<Refusal>
+    requires sound { IsSound book.now }
+    ensures { result ≡ starting_cause book.now settings.now ready moment user quiz }
+{
+    let made = book.attempts(quiz, user);
+    let goes_on = unfinished(book, settings, moment, made);
+    let count = made.len() as u64;
+    if let Err(refusal) = may_start(settings, ready, moment, count, goes_on) {
+        return Some(refusal);
+    }
+    if made.len() >= MOST_ATTEMPTS as usize {
+        return Some(Refusal::TooMany {
+            limit: MOST_ATTEMPTS,
+        });
+    }
+    None
+}
+
 /// What a start comes to.
 pub(crate) fn fate_of_start(
     alloc: Global,
@@ -35,22 +62,20 @@ pub(crate) fn fate_of_start(
     requires whole { length plan.now.questions ≡ length plan.now.slots }
     ensures { IfOk result (IsFate book.now moment user.now plan.now (request.Start quiz)) }
 {
-    let made = book.attempts(quiz, user.number);
-    let goes_on = unfinished(book, &plan.settings, moment, made);
-    let count = made.len() as u64;
-    if let Err(refusal) = may_start(&plan.settings, plan.ready, moment, count, goes_on) {
+    let settings = &plan.settings;
+    if let Some(refusal) = start_cause(book, settings, plan.ready, moment, user.number, quiz) {
         return Ok(Err(refusal));
-    }
-    if made.len() >= MOST_ATTEMPTS as usize {
-        return Ok(Err(Refusal::TooMany {
-            limit: MOST_ATTEMPTS,
-        }));
     }
     Ok(Ok(Some(started(alloc, book, user, plan)?)))
 }
 
 /// The first cause that lies with time for which a finish is refused.
-fn finish_time(book: &Book, settings: &Settings, moment: u64, attempt: AttemptId) -> Option<Refusal>
+pub(crate) fn finish_time(
+    book: &Book,
+    settings: &Settings,
+    moment: u64,
+    attempt: AttemptId,
+) -> Option<Refusal>
     requires sound { IsSound book.now }
     ensures { result ≡ time_cause (λ began. finish_cause settings.now began moment (ended_at book.now attempt)) book.now attempt }
 {
@@ -80,7 +105,7 @@ pub(crate) fn fate_of_finish(
 }
 
 /// How a settling ends an attempt that is expired.
-fn settled_by(handling: Handling) -> How
+pub(crate) fn settled_by(handling: Handling) -> How
     ensures { result ≡ settled_by handling }
 {
     match handling {
@@ -100,7 +125,7 @@ pub(crate) fn fate_of_settle(
     requires sound { IsSound book.now }
     ensures { IsFate book.now moment user.now plan.now (request.Settle attempt) result }
 {
-    if !is_overdue(book, moment, plan, attempt) {
+    if !is_overdue(book, moment, &plan.settings, attempt) {
         return Ok(None);
     }
     Ok(Some(Event::Ended {

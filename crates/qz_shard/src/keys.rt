@@ -22,7 +22,7 @@ pub(crate) enum Found {
 }
 
 /// Whether two attempts are one.
-fn is_same(one: AttemptId, other: AttemptId) -> bool
+pub(crate) fn is_same(one: AttemptId, other: AttemptId) -> bool
     ensures { result ≡ same_attempt one other }
 {
     one.user == other.user && one.nth == other.nth

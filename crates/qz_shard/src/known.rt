@@ -41,6 +41,16 @@ impl<'a> Known<'a> {
             made,
         }
     }
+
+    /// The question of a version, if it is learned.
+    pub(crate) fn question(&self, entry: u32, number: u32) -> Option<&'a Question>
+        ensures { option_copied result ≡ version self.now entry number }
+    {
+        match self.index.version(self.records, entry, number) {
+            Some(question) => Some(question),
+            None => learns(entry, number, self.made),
+        }
+    }
 }
 
 /// The question that is learned, if it is this version of this entry.
@@ -79,9 +89,6 @@ impl Versions for Known<'_> {
     ghost version_of = { version };
 
     fn version(&self, entry: u32, number: u32) -> Option<&Question> {
-        match self.index.version(self.records, entry, number) {
-            Some(question) => Some(question),
-            None => learns(entry, number, self.made),
-        }
+        self.question(entry, number)
     }
 }

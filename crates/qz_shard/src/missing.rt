@@ -4,6 +4,7 @@ ghost use Rattle.std.specs.Prelude.{◌≡◌};
 ghost use Rattle.qz_terms.specs.Cause.{missing_attempt, missing_slot, missing_here};
 
 use crate::book::Book;
+use crate::slots::has_slot;
 use qz_grading::{AttemptId, Refusal, Thing};
 use qz_terms::{Request, User, is_anothers};
 
@@ -26,7 +27,7 @@ fn missing_slot(book: &Book, user: &User, attempt: AttemptId, slot: u16) -> Opti
     if let Some(refusal) = missing_attempt(book, user, attempt) {
         return Some(refusal);
     }
-    if slot < 1 || usize::from(slot) > book.slot_count(attempt) {
+    if !has_slot(book, attempt, slot) {
         return Some(Refusal::Unknown { what: Thing::Slot });
     }
     None

@@ -46,7 +46,12 @@ fn refusal_shown(visible: bool, refusal: Refusal) -> Refusal
 }
 
 /// The first cause that lies with time for which an answer is refused.
-fn answer_time(book: &Book, settings: &Settings, moment: u64, attempt: AttemptId) -> Option<Refusal>
+pub(crate) fn answer_time(
+    book: &Book,
+    settings: &Settings,
+    moment: u64,
+    attempt: AttemptId,
+) -> Option<Refusal>
     requires sound { IsSound book.now }
     ensures { result ≡ time_cause (λ began. answer_cause settings.now began moment (ended_at book.now attempt)) book.now attempt }
 {
@@ -56,7 +61,7 @@ fn answer_time(book: &Book, settings: &Settings, moment: u64, attempt: AttemptId
 }
 
 /// What a step on a slot comes to: it is taken or the same as before, or it is refused for its first cause. Nothing is graded.
-fn step_on(played: Played<'_>, step: &Step) -> Result<Moved, Refusal>
+pub(crate) fn step_on(played: Played<'_>, step: &Step) -> Result<Moved, Refusal>
     requires question { IsBound played.run.now played.question.now }
     ensures { IsMove (slot_of played.entry.run.now played.entry.question.now) step.now result }
 {

@@ -2,14 +2,12 @@
 
 ghost use Rattle.std.specs.Prelude.{◌≡◌, None, Some, filter, find, if◌then◌else◌, IfOk};
 ghost use Rattle.std.specs.Option.{option_copied, option_or};
-ghost use Rattle.qz_terms.specs.Answer.{first_target};
-ghost use Rattle.qz_terms.specs.History.{is_target};
+ghost use Rattle.qz_terms.specs.History.{is_target, targets};
 ghost use Rattle.qz_terms.specs.Lists.{first_of};
 ghost use Rattle.qz_shard.specs.Works.{first_left, has_left};
 
 use crate::book::Book;
 use qz_grading::AttemptId;
-use qz_terms::Job;
 use qz_text::NoMemory;
 use std::alloc::Global;
 
@@ -60,26 +58,33 @@ fn has_left(book: &Book, job: u32, position: u64, attempt: AttemptId) -> bool
 }
 
 /// The first of these attempts that has a slot left.
-fn first_attempt<'a>(book: &Book, job: &Job, attempts: &'a [AttemptId]) -> Option<&'a AttemptId>
-    ensures { option_copied result ≡ find (has_left book.now job.now.number job.now.position) attempts.now }
+fn first_attempt<'a>(
+    book: &Book,
+    job: u32,
+    position: u64,
+    attempts: &'a [AttemptId],
+) -> Option<&'a AttemptId>
+    ensures { option_copied result ≡ find (has_left book.now job position) attempts.now }
 {
-    attempts.iter().find(|attempt| has_left(book, job.number, job.position, **attempt))
+    attempts.iter().find(|attempt| has_left(book, job, position, **attempt))
 }
 
-/// The first slot that is left to a job, in order of user, attempt and slot; of attempts live or ended. The attempts of the job's
-/// quiz are gone through from the first.
+/// The first slot that is left to a job of a quiz, in order of user, attempt and slot; of attempts live or ended. The attempts of
+/// the quiz are gone through from the first.
 pub(crate) fn first_target(
     alloc: Global,
     book: &Book,
-    job: &Job,
+    job: u32,
+    quiz: u32,
+    position: u64,
 ) -> Result<Option<(AttemptId, u16)>, NoMemory>
-    ensures { IfOk result (λ target. target ≡ first_target book.now job.now) }
+    ensures { IfOk result (λ target. target ≡ first_of (targets book.now job quiz position)) }
 {
-    let attempts = book.attempts_of(alloc, job.plan.quiz)?;
-    let Some(attempt) = first_attempt(book, job, &attempts) else {
+    let attempts = book.attempts_of(alloc, quiz)?;
+    let Some(attempt) = first_attempt(book, job, position, &attempts) else {
         return Ok(None);
     };
-    match first_left(book, job.number, job.position, *attempt) {
+    match first_left(book, job, position, *attempt) {
         Some(slot) => Ok(Some((*attempt, slot))),
         None => Ok(None),
     }

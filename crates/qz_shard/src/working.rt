@@ -45,7 +45,7 @@ fn question_at(questions: &[Question], slot: u16) -> Option<&Question>
 }
 
 /// The question that is bound to a slot of an attempt now.
-fn question_of(book: &Book, attempt: AttemptId, slot: u16) -> Option<&Question>
+pub(crate) fn question_of(book: &Book, attempt: AttemptId, slot: u16) -> Option<&Question>
     ensures value { option_copied result ≡ question book.now attempt slot }
     ensures kept { All IsKept book.now → IfSome result (λ q. IsQuestion q.now) }
 {
@@ -74,7 +74,7 @@ fn learned_of(
 }
 
 /// Whether two shapes are one, so that the same answers fit.
-fn same_shape(one: Shape, other: Shape) -> bool
+pub(crate) fn same_shape(one: Shape, other: Shape) -> bool
     ensures { result ≡ same_shape one other }
 {
     one == other
@@ -201,7 +201,7 @@ pub(crate) fn work_on(
     if let Some(place) = book.done_place(job.number) {
         return Ok(Work::AlreadyDone(place));
     }
-    let target = first_target(alloc, book, job)?;
+    let target = first_target(alloc, book, job.number, job.plan.quiz, job.position)?;
     match put_target(alloc, book, now, caller, job, target)? {
         Some(record) => Ok(Work::Put(record)),
         None => Ok(Work::NoSlot),

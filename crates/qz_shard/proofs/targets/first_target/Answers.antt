@@ -10,23 +10,29 @@ use Rattle.qz_shard.proofs.targets.first_target.Goals as goal
 pub returns-in_default : goal.returns-in_default
 returns-in_default c =
     let h = c.args.book.now in
-    let job = c.args.job.now in
-    let told : None ≡ first_of (filter (has_left h job.number job.position) (attempts_of h job)) =
-    found-in h job c.deref.result.now None (sym (ap option_copied c.in_default.is) ∙ c.first_attempt.ensures) (c.deref.ensures.value ∙ c.in_ok-attempts.ensures) in
-    sym (target-by h job None told)
+    let job = c.args.job in
+    let q = c.args.quiz in
+    let position = c.args.position in
+    let told : None ≡ first_of (filter (has_left h job position) (attempts_of h q)) =
+    found-in h job q position c.deref.result.now None (sym (ap option_copied c.in_default.is) ∙ c.first_attempt.ensures) (c.deref.ensures.value ∙ c.in_ok-attempts.ensures) in
+    sym (target-by h job q position None told)
 
 pub returns-in-Some-first_left : goal.returns-in-Some-first_left
 returns-in-Some-first_left c =
     let h = c.args.book.now in
-    let job = c.args.job.now in
-    let told : Some c.in-Some.attempt.now ≡ first_of (filter (has_left h job.number job.position) (attempts_of h job)) =
-    found-in h job c.deref.result.now (Some c.in-Some.attempt.now) (sym (ap option_copied c.in-Some.is) ∙ c.first_attempt.ensures) (c.deref.ensures.value ∙ c.in_ok-attempts.ensures) in
-    sym (target-by h job (Some c.in-Some.attempt.now) told ∙ ap (option_map (λ (k : ℕ). (c.in-Some.attempt.now, k))) (sym c.first_left.ensures ∙ c.in-Some-first_left.is))
+    let job = c.args.job in
+    let q = c.args.quiz in
+    let position = c.args.position in
+    let told : Some c.in-Some.attempt.now ≡ first_of (filter (has_left h job position) (attempts_of h q)) =
+    found-in h job q position c.deref.result.now (Some c.in-Some.attempt.now) (sym (ap option_copied c.in-Some.is) ∙ c.first_attempt.ensures) (c.deref.ensures.value ∙ c.in_ok-attempts.ensures) in
+    sym (target-by h job q position (Some c.in-Some.attempt.now) told ∙ ap (option_map (λ (k : ℕ). (c.in-Some.attempt.now, k))) (sym c.first_left.ensures ∙ c.in-Some-first_left.is))
 
 pub returns : goal.returns
 returns c =
     let h = c.args.book.now in
-    let job = c.args.job.now in
-    let told : Some c.in-Some.attempt.now ≡ first_of (filter (has_left h job.number job.position) (attempts_of h job)) =
-    found-in h job c.deref.result.now (Some c.in-Some.attempt.now) (sym (ap option_copied c.in-Some.is) ∙ c.first_attempt.ensures) (c.deref.ensures.value ∙ c.in_ok-attempts.ensures) in
-    sym (target-by h job (Some c.in-Some.attempt.now) told ∙ ap (option_map (λ (k : ℕ). (c.in-Some.attempt.now, k))) (sym c.first_left.ensures ∙ c.in-None.is))
+    let job = c.args.job in
+    let q = c.args.quiz in
+    let position = c.args.position in
+    let told : Some c.in-Some.attempt.now ≡ first_of (filter (has_left h job position) (attempts_of h q)) =
+    found-in h job q position c.deref.result.now (Some c.in-Some.attempt.now) (sym (ap option_copied c.in-Some.is) ∙ c.first_attempt.ensures) (c.deref.ensures.value ∙ c.in_ok-attempts.ensures) in
+    sym (target-by h job q position (Some c.in-Some.attempt.now) told ∙ ap (option_map (λ (k : ℕ). (c.in-Some.attempt.now, k))) (sym c.first_left.ensures ∙ c.in-None.is))

@@ -5,7 +5,7 @@ use Rattle.qz_terms.specs.declared.record.Record.{Record}
 use Rattle.qz_terms.specs.History.{learns, version}
 use Rattle.qz_terms.proofs.Walks.{first_of-push}
 use Rattle.qz_shard.proofs.Placing.{version-more}
-use Rattle.qz_shard.proofs.known.KnownVersions.version.Goals as goal
+use Rattle.qz_shard.proofs.known.Known.question.Goals as goal
 
 pub returns-in-Some : goal.returns-in-Some
 returns-in-Some c =
