@@ -7,3 +7,4 @@ pub mod KeyLemmas
 pub mod Sorting
 pub mod StartLemmas
 pub mod TakerLemmas
+pub mod OrderLemmas

@@ -1,8 +1,8 @@
 -- The attempts of each quiz, by user.
-use Rattle.std.specs.BTreeMap.{get, values}
+use Rattle.std.specs.BTreeMap.{get}
 use Rattle.std.specs.Map.{keys_of}
 use Rattle.std.specs.Ordering.{nat_cmp}
-use Rattle.std.specs.Prelude.{◌≡◌, ℕ, ◌<◌, Bool, true, false, ◌∷◌, ◌++◌, List, [], Some, IsSomeAnd, MatchOption, ⊤, filter, flat_map, option_map, unwrap_or, vec_capacity, vec_len}
+use Rattle.std.specs.Prelude.{◌≡◌, ℕ, ◌<◌, Bool, true, false, ◌∷◌, ◌++◌, List, [], Some, IsSomeAnd, MatchOption, ⊤, filter, option_map, unwrap_or, vec_capacity, vec_len}
 use Rattle.qz_grading.specs.declared.refusal.AttemptId.{AttemptId}
 use Rattle.qz_terms.specs.declared.record.Record.{Record}
 use Rattle.qz_terms.specs.History.{Start, attempts, next_attempt, started}
@@ -21,9 +21,6 @@ has_any (a ∷ attempts) = true
 -- the users with an attempt
 abbrev pub takers_in : Takers → List ℕ
 takers_in takers = keys_of (filter (λ e. has_any e.1.items) takers.attempts.entries)
-
-abbrev pub all_taken : Takers → List AttemptId
-all_taken takers = flat_map (λ v. v.items) (values takers.attempts)
 
 -- the user has a list, with room for one more
 abbrev pub HasPlace : Takers → ℕ → Type 0

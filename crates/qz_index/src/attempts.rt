@@ -1,9 +1,8 @@
 //! The attempts of each quiz.
 
-ghost use Rattle.std.specs.Prelude.{◌≡◌, ◌++◌, ◌∷◌, ◌&&◌, ◌==◌, ℕ, List, [], IfOk, OnOk, filter_map, if◌then◌else◌};
+ghost use Rattle.std.specs.Prelude.{◌≡◌, ◌++◌, ◌∷◌, ◌&&◌, ◌==◌, ℕ, List, [], IfOk, OnOk, if◌then◌else◌};
 ghost use Rattle.qz_terms.specs.declared.record.Record.{Record};
-ghost use Rattle.qz_terms.specs.History.{attempt_at, attempt_before, attempts, takers};
-ghost use Rattle.qz_terms.specs.Lists.{in_order};
+ghost use Rattle.qz_terms.specs.History.{attempts, takers};
 ghost use Rattle.qz_index.specs.Attempts.{AreAttempts, HasPlaceFor, HasPlaceAt, IsNext, attempts_at};
 
 use crate::room::make;
@@ -43,15 +42,6 @@ impl Attempts {
     {
         match self.quizzes.get(&quiz) {
             Some(takers) => takers.users(alloc),
-            None => Ok(Vec::new(alloc)),
-        }
-    }
-
-    pub(crate) fn all(&self, alloc: Global, quiz: u32) -> Result<Vec<AttemptId>, NoMemory>
-        ensures { (h : List Record) → AreAttempts self.now h → IfOk result (λ found. found.items ≡ in_order attempt_before (filter_map (attempt_at quiz) h)) }
-    {
-        match self.quizzes.get(&quiz) {
-            Some(takers) => takers.all(alloc),
             None => Ok(Vec::new(alloc)),
         }
     }

@@ -1,18 +1,19 @@
 //! A shard's list by plain keys: users, versions, quizzes and jobs.
 
-ghost use Rattle.std.specs.Prelude.{◌≡◌, ◌+◌, ◌-◌, ◌<◌, ◌^◌, ◌++◌, ◌∷◌, All, List, [], IfOk, IfSome, OnOk, filter_map, length, option_copied};
+ghost use Rattle.std.specs.Prelude.{◌≡◌, ◌+◌, ◌-◌, ◌<◌, ◌^◌, ◌++◌, ◌∷◌, All, List, [], IfOk, IfSome, OnOk, length, option_copied};
 ghost use Rattle.qz_grading.specs.Questions.{IsQuestion};
 ghost use Rattle.qz_terms.specs.declared.record.Record.{Record};
-ghost use Rattle.qz_terms.specs.History.{attempt_at, attempt_before, attempts, floor, is_skipped, next_attempt, place, takers, time, version};
+ghost use Rattle.qz_terms.specs.History.{attempts, floor, is_skipped, next_attempt, place, takers, time, version};
 ghost use Rattle.qz_terms.specs.Kept.{IsKept};
-ghost use Rattle.qz_terms.specs.Lists.{in_order};
 ghost use Rattle.qz_index.specs.Attempts.{IsNext};
 ghost use Rattle.qz_index.specs.Indexed.{HasRoomFor, IsIndexed};
 ghost use Rattle.qz_index.specs.Jobs.{done_in};
+ghost use Rattle.qz_index.specs.Orders.{attempt_after};
 
 use crate::attempts::Attempts;
 use crate::done::DoneJobs;
 use crate::floors::Floors;
+use crate::orders::Orders;
 use crate::owners::Owners;
 use crate::skips::Skips;
 use crate::versions::Versions;
@@ -28,6 +29,7 @@ pub struct Index {
     pub(crate) owners: Owners,
     pub(crate) versions: Versions,
     pub(crate) attempts: Attempts,
+    pub(crate) orders: Orders,
     pub(crate) done: DoneJobs,
     pub(crate) floors: Floors,
     pub(crate) skips: Skips,
@@ -42,6 +44,7 @@ impl Index {
             owners: Owners::new(alloc),
             versions: Versions::new(alloc),
             attempts: Attempts::new(alloc),
+            orders: Orders::new(alloc),
             done: DoneJobs::new(alloc),
             floors: Floors::new(alloc),
             skips: Skips::new(alloc),
@@ -56,6 +59,7 @@ impl Index {
         self.owners.grow(record.owner)?;
         self.versions.grow(record)?;
         self.attempts.grow(alloc, record)?;
+        self.orders.grow(alloc, record)?;
         self.done.grow(record)?;
         self.floors.grow(record)?;
         self.skips.grow(record)
@@ -72,6 +76,7 @@ impl Index {
         self.owners.put(records, record);
         self.versions.put(records, record);
         self.attempts.put(records, record);
+        self.orders.put(records, record);
         self.done.put(records, record);
         self.floors.put(records, record);
         self.skips.put(records, record);
@@ -125,11 +130,11 @@ impl Index {
         self.attempts.takers(alloc, quiz)
     }
 
-    /// All attempts of a quiz, in order of user and number.
-    pub fn attempts_of(&self, alloc: Global, quiz: u32) -> Result<Vec<AttemptId>, NoMemory>
-        ensures { (h : List Record) → IsIndexed self.now h → IfOk result (λ found. found.items ≡ in_order attempt_before (filter_map (attempt_at quiz) h)) }
+    /// The first attempt of a quiz after this one, in order of user and number. `after` is only a bound and needn't be there.
+    pub fn attempt_after(&self, quiz: u32, after: AttemptId) -> Option<AttemptId>
+        ensures { (h : List Record) → IsIndexed self.now h → result ≡ attempt_after h quiz after }
     {
-        self.attempts.all(alloc, quiz)
+        self.orders.attempt_after(quiz, after)
     }
 
     /// The place in the list, from 1, of the record that says of a job that it is done, if one does.

@@ -10,6 +10,8 @@ mod events;
 mod floors;
 mod index;
 mod keys;
+mod order;
+mod orders;
 mod owners;
 mod room;
 mod skips;

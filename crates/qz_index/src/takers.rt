@@ -3,7 +3,7 @@
 ghost use Rattle.std.specs.BTreeMap.{IsOrdered, get};
 ghost use Rattle.std.specs.Ordering.{nat_cmp};
 ghost use Rattle.std.specs.Prelude.{◌≡◌, ◌++◌, ◌∷◌, ℕ, [], IfOk, IsSome, OnOk, if◌then◌else◌, ◌==◌};
-ghost use Rattle.qz_index.specs.Attempts.{HasPlace, all_taken, taken, takers_in};
+ghost use Rattle.qz_index.specs.Attempts.{HasPlace, taken, takers_in};
 
 use crate::room::make;
 use qz_grading::AttemptId;
@@ -45,18 +45,6 @@ impl Takers {
             if !attempts.is_empty() {
                 found.push(*user)?;
             }
-        }
-        Ok(found)
-    }
-
-    /// All attempts, in order of user and number.
-    pub(crate) fn all(&self, alloc: Global) -> Result<Vec<AttemptId>, NoMemory>
-        ensures found { IfOk result (λ found. found.items ≡ all_taken self.now) }
-        ensures ordered { IsOrdered nat_cmp self.now.attempts }
-    {
-        let mut found = Vec::new(alloc);
-        for attempts in self.attempts.values() {
-            found.extend_from_slice(attempts)?;
         }
         Ok(found)
     }
