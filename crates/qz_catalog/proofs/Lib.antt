@@ -16,3 +16,4 @@ pub mod Kept
 pub mod Staying
 pub mod Answering
 pub mod ShownLemmas
+pub mod PinLemmas

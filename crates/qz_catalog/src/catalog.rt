@@ -32,7 +32,7 @@ use std::marker::Model;
 /// The records of a school's users, bank and quizzes, seen as their list.
 ///
 /// Beside the list it keeps the bank that the records make, and what else they tell, by number, by token and by key. A call costs
-/// what it touches, and not the whole list, but for `names`, `job`, and what is set otherwise for users and groups.
+/// what it touches, and not the whole list, but for `names` and what is set otherwise for users and groups.
 #[derive(Drop)]
 pub struct Catalog {
     book: Book,
@@ -80,9 +80,10 @@ fn founded(alloc: Global, shards: u8, token: &Text) -> Result<Book, NoMemory>
         entries: Entries::new(alloc),
         roster: Roster::new(alloc),
         shown: Vec::new(alloc),
+        pinned: Vec::new(alloc),
     };
     make_book_room(alloc, &mut book, &record)?;
-    append(alloc, &mut book, record);
+    append(alloc, &mut book, record, None);
     Ok(book)
 }
 

@@ -12,6 +12,7 @@ mod keys;
 mod missing;
 mod overrides;
 mod people;
+mod pins;
 mod planning;
 mod putting;
 mod quizzes;
