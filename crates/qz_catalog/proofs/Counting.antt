@@ -10,12 +10,12 @@ use Rattle.qz_terms.specs.declared.request.Request.TheVariants as request
 use Rattle.qz_terms.specs.Catalog.{asked, jobs, regrade_by}
 use Rattle.qz_catalog.proofs.Versions.{place-kept}
 
-abbrev job_by : ℕ × Record → Option (ℕ × ℕ)
+abbrev pub job_by : ℕ × Record → Option (ℕ × ℕ)
 job_by r = regrade_by r.0 (asked r.1)
 
 -- ---- a job's position is one of the list
 
-regrade-place : (k : ℕ) (o : Option Request) (j : ℕ × ℕ) → regrade_by k o ≡ Some j → j.0 ≡ k
+pub regrade-place : (k : ℕ) (o : Option Request) (j : ℕ × ℕ) → regrade_by k o ≡ Some j → j.0 ≡ k
 regrade-place k (Some (request.Regrade quiz)) j told =
     let made : ℕ × ℕ = (k, quiz) in
     let same : made ≡ j = cc in

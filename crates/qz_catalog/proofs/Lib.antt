@@ -15,3 +15,4 @@ pub mod Kept
 pub mod Staying
 pub mod Answering
 pub mod ShownLemmas
+pub mod PinLemmas

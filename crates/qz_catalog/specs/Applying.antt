@@ -23,7 +23,7 @@ use Rattle.qz_terms.specs.Kept.{KeepsAsked, asks_described, is_moment}
 use Rattle.qz_terms.specs.Legal.{IsLegalCatalog}
 use Rattle.qz_roster.specs.Roster.{HasRoom, IsNext, IsRosterOf}
 use Rattle.qz_catalog.specs.declared.book.Book.{Book}
-use Rattle.qz_catalog.specs.Holdings.{AreShown, IsHeld}
+use Rattle.qz_catalog.specs.Holdings.{ArePinned, AreShown, IsHeld}
 use Rattle.qz_catalog.specs.declared.decision.Decision.{Decision}
 use Rattle.qz_catalog.specs.declared.decision.Decision.TheVariants as decision
 use Rattle.qz_catalog.specs.declared.keys.Found.{Found}
@@ -126,6 +126,7 @@ pub record IsAskedAt (c : List Record) (n : ℕ) : Type 0 where
 pub record IsReady (b : Book) (r : Record) (p : Option Prepared) : Type 0 where
   pub roster : IsRosterOf b.records.items b.roster
   pub shown : AreShown b.records.items b.shown.items
+  pub pinned : ArePinned b.records.items b.pinned.items
   pub next : IsNext b.records.items r
   pub entries : length (catalog.entries b.records.items) ≤ 20000
   pub held : IsHeld (b.records.items ++ r ∷ []) (bank_with b.entries p)
@@ -133,6 +134,7 @@ pub record IsReady (b : Book) (r : Record) (p : Option Prepared) : Type 0 where
   pub room : HasRoom b.roster r
   pub records : vec_len b.records < vec_capacity b.records
   pub numbers : vec_len b.shown < vec_capacity b.shown
+  pub pins : vec_len b.pinned < vec_capacity b.pinned
 
 -- the records and their bank, and a request that nothing stands against but a new version's own causes
 pub record IsPosed (c : List Record) (es : List Entry) (now : ℕ) (user : User) (ask : Ask) : Type 0 where

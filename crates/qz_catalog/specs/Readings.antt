@@ -4,6 +4,7 @@ use Rattle.qz_grading.specs.Steps.{last_of}
 use Rattle.qz_terms.specs.declared.access.Override.{Override}
 use Rattle.qz_terms.specs.declared.grades.Method.{Method}
 use Rattle.qz_terms.specs.declared.people.User.{User}
+use Rattle.qz_terms.specs.declared.plan.Plan.{Plan}
 use Rattle.qz_terms.specs.declared.plan.Planned.{Planned}
 use Rattle.qz_terms.specs.declared.record.Record.{Record}
 use Rattle.qz_terms.specs.declared.request.Whom.TheVariants as whom
@@ -35,3 +36,7 @@ slot_over c q s = catalog.planned c q s.0 s.1.0 s.1.1
 -- a slot with its entry's latest version
 abbrev pub planned_by : List Record → Slot → Planned
 planned_by c s = record { entry = s.entry; version = catalog.latest c s.entry; max = unwrap_or s.anew s.first }
+
+-- a plan with the questions of its slots, as all the records give them
+abbrev pub with_questions : List Record → Plan → Plan
+with_questions c p = record p { questions = catalog.questions c p.slots }

@@ -32,8 +32,8 @@ use std::marker::Model;
 /// The records of a school's users, bank and quizzes, seen as their list.
 ///
 /// Beside the list it keeps the bank that the records make, and what else they tell, by number, by token and by key. A call costs
-/// what it touches, and not the whole list, but for `names` and `job`. A record is put in two moves: what may refuse it is decided and
-/// all that takes memory is made first, and what follows takes none, so that nothing is ever undone.
+/// what it touches, and not the whole list, but for `names`. A record is put in two moves: what may refuse it is decided and all
+/// that takes memory is made first, and what follows takes none, so that nothing is ever undone.
 #[derive(Drop)]
 pub struct Catalog {
     book: Book,
@@ -81,9 +81,10 @@ fn founded(alloc: Global, shards: u8, token: &Text) -> Result<Book, NoMemory>
         entries: Entries::new(alloc),
         roster: Roster::new(alloc),
         shown: Vec::new(alloc),
+        pinned: Vec::new(alloc),
     };
     make_book_room(alloc, &mut book, &record)?;
-    append(alloc, &mut book, record, None);
+    append(alloc, &mut book, record, None, None);
     Ok(book)
 }
 

@@ -11,6 +11,7 @@ mod jobs;
 mod keys;
 mod missing;
 mod people;
+mod pins;
 mod planning;
 mod putting;
 mod quizzes;

@@ -1,18 +1,20 @@
 //! The plan of a quiz for a user.
 
-ghost use Rattle.std.specs.Prelude.{option_copied, if◌then◌else◌, ◌≡◌, ◌⊎◌, ◌≤◌, List, [], ◌∷◌, length, map, Some, None, option_map, true, IfOk, IfErr, OnOk};
+ghost use Rattle.std.specs.Prelude.{option_copied, if◌then◌else◌, ◌≡◌, ◌⊎◌, ◌≤◌, List, [], ◌∷◌, length, map, Some, None, option_map, true, false, IfOk, IfErr, OnOk};
 ghost use Rattle.std.specs.List.{list_all};
 ghost use Rattle.qz_grading.specs.Behaviours.{first_some};
 ghost use Rattle.qz_grading.specs.declared.refusal.Refusal.TheVariants as refusal;
 ghost use Rattle.qz_terms.specs.declared.plan.Planned.{Planned};
 ghost use Rattle.qz_terms.specs.declared.record.Record.{Record};
 ghost use Rattle.qz_bank.specs.Laws.{IsBankOf};
-ghost use Rattle.qz_terms.specs.Catalog.{latest, plan, policy, policy_with, questions, slots, version};
+ghost use Rattle.qz_terms.specs.Catalog.{latest, plan, plan_under, policy, policy_with, questions, quizzes, slots, version};
 ghost use Rattle.qz_terms.specs.Cause.{missing_quiz, missing_user};
 ghost use Rattle.qz_terms.specs.Kept.{is_planned};
 ghost use Rattle.qz_terms.specs.Rows.{sum_of};
+ghost use Rattle.qz_grading.specs.Grading.{at_place};
+ghost use Rattle.qz_roster.specs.Told.{named_in};
 ghost use Rattle.qz_catalog.specs.Holdings.{IsIndexed, lean};
-ghost use Rattle.qz_catalog.specs.Readings.{planned_by};
+ghost use Rattle.qz_catalog.specs.Readings.{planned_by, with_questions};
 
 use crate::book::Book;
 use crate::missing::{missing_quiz, missing_user};
@@ -22,8 +24,8 @@ use qz_bank::Entries;
 use qz_bank::laws::follows_the_records;
 use qz_decimal::{Grade, Mark};
 use qz_grading::{Question, Refusal, Thing};
-use qz_roster::Slot;
-use qz_terms::{Method, Plan, Planned, Policy, Record};
+use qz_roster::{Named, Slot};
+use qz_terms::{Method, Plan, Planned, Policy, Record, Settings};
 use qz_text::{Listed, NoMemory, TryCopy};
 use std::alloc::Global;
 
@@ -129,21 +131,41 @@ pub(crate) fn questions(
     Ok(Listed { items })
 }
 
-/// The questions of a plan, which has none where it isn't whole.
-fn questions_if(
+/// The plan of a quiz of this name and behaviour, under these settings and without its questions.
+pub(crate) fn lean_plan(
     alloc: Global,
     book: &Book,
-    slots: &[Planned],
-    whole: bool,
-) -> Result<Listed<Question>, NoMemory>
-    requires { IsIndexed book.now }
-    ensures { IfOk result (λ found. found ≡ if whole then questions book.now.records.items slots.now else []) }
+    number: u32,
+    named: Named,
+    settings: Settings,
+) -> Result<Plan, NoMemory>
+    requires indexed { IsIndexed book.now }
+    requires named { at_place (quizzes book.now.records.items) number ≡ Some (named_in named) }
+    ensures { IfOk result (λ p. option_map (lean false) (plan_under settings book.now.records.items number) ≡ Some p) }
 {
-    if whole {
-        questions(alloc, &book.records, &book.entries, slots)
-    } else {
-        Ok(Listed::empty(alloc))
-    }
+    let slots = slots(alloc, book, number)?;
+    Ok(Plan {
+        at: book.records.len() as u64,
+        quiz: number,
+        name: named.name.try_copy(alloc)?,
+        ready: is_ready(book, number),
+        behaviour: named.behaviour,
+        settings,
+        policy: policy(policy_terms(book, number), slots.as_slice()),
+        slots,
+        questions: Listed::empty(alloc),
+    })
+}
+
+/// A plan with the questions of its slots, by the bank that all the records make.
+pub(crate) fn with_questions(alloc: Global, book: &Book, plan: Plan) -> Result<Plan, NoMemory>
+    requires { IsIndexed book.now }
+    ensures { IfOk result (λ p. p ≡ with_questions book.now.records.items plan) }
+{
+    Ok(Plan {
+        questions: questions(alloc, &book.records, &book.entries, plan.slots.as_slice())?,
+        ..plan
+    })
 }
 
 /// The plan of a quiz for a user, with its questions where it is whole. A quiz that isn't there is `Unknown`, and then a user.
@@ -165,16 +187,10 @@ pub(crate) fn plan(
     if let Some(refusal) = missing_user(book, user) {
         return Err(refusal);
     }
-    let slots = slots(alloc, book, number)?;
-    Ok(Plan {
-        at: book.records.len() as u64,
-        quiz: number,
-        name: named.name.try_copy(alloc)?,
-        ready: is_ready(book, number),
-        behaviour: named.behaviour,
-        settings: settings(alloc, book, number, user)?,
-        policy: policy(policy_terms(book, number), slots.as_slice()),
-        questions: questions_if(alloc, book, slots.as_slice(), whole)?,
-        slots,
-    })
+    let settings = settings(alloc, book, number, user)?;
+    let plan = lean_plan(alloc, book, number, named, settings)?;
+    if whole {
+        return Ok(with_questions(alloc, book, plan)?);
+    }
+    Ok(plan)
 }

@@ -8,13 +8,14 @@ ghost use Rattle.qz_terms.specs.declared.request.Request.{Request};
 ghost use Rattle.qz_terms.specs.Catalog.{asked};
 ghost use Rattle.qz_roster.specs.Roster.{HasRoom, IsNext, IsRosterOf};
 ghost use Rattle.qz_catalog.specs.Applying.{IsPosed, IsReady, MayPut, bank_after, bank_cause, bank_with};
-ghost use Rattle.qz_catalog.specs.Holdings.{IsBook, IsIndexed, IsShownBy};
+ghost use Rattle.qz_catalog.specs.Holdings.{IsBook, IsIndexed, IsPin, IsShownBy};
 
 use crate::book::Book;
+use crate::pins::{keep_pin, pin_of};
 use crate::replies::{number_of, said};
 use qz_bank::{Entries, Prepared};
 use qz_grading::Refusal;
-use qz_terms::{Ask, Event, Record, Reply, Request, User, copy_of_text, make_room};
+use qz_terms::{Ask, Event, Plan, Record, Reply, Request, User, copy_of_text, make_room};
 use qz_text::{NoMemory, TryCopy};
 use std::alloc::Global;
 
@@ -87,14 +88,17 @@ pub(crate) fn make_book_room(
     ensures few { OnOk result (length book.new.records.items + 1 < 2 ^ 32 - 1) }
     ensures place { OnOk result (vec_len book.new.records < vec_capacity book.new.records) }
     ensures number { OnOk result (vec_len book.new.shown < vec_capacity book.new.shown) }
+    ensures pin { OnOk result (vec_len book.new.pinned < vec_capacity book.new.pinned) }
     ensures room { OnOk result (HasRoom book.new.roster «record».now) }
     ensures roster { IsRosterOf book.new.records.items book.new.roster }
     ensures records { book.new.records.items ≡ book.old.records.items }
     ensures shown { book.new.shown.items ≡ book.old.shown.items }
+    ensures pinned { book.new.pinned.items ≡ book.old.pinned.items }
     ensures entries { book.new.entries ≡ book.old.entries }
 {
     make_room(&mut book.records)?;
     book.shown.reserve(1)?;
+    book.pinned.reserve(1)?;
     book.roster.make_room(alloc, &book.records, record)
 }
 
@@ -120,10 +124,17 @@ fn change(entries: &mut Entries, prepared: Option<Prepared>)
     }
 }
 
-/// Puts a record, for which there is room, behind those of a book, and the change of the bank that was prepared for it. It takes
-/// no memory.
-pub(crate) fn append(alloc: Global, book: &mut Book, record: Record, prepared: Option<Prepared>)
-    requires { IsReady book.old «record» prepared }
+/// Puts a record, for which there is room, behind those of a book, with the change of the bank that was prepared for it and the
+/// plan that it pins. It takes no memory.
+pub(crate) fn append(
+    alloc: Global,
+    book: &mut Book,
+    record: Record,
+    prepared: Option<Prepared>,
+    pin: Option<Plan>,
+)
+    requires ready { IsReady book.old «record» prepared }
+    requires pin { IsPin book.old.records.items «record» pin }
     ensures records { book.new.records.items ≡ book.old.records.items ++ «record» ∷ [] }
     ensures entries { book.new.entries ≡ bank_with book.old.entries prepared }
     ensures book { IsBook book.new }
@@ -134,6 +145,7 @@ pub(crate) fn append(alloc: Global, book: &mut Book, record: Record, prepared: O
     book.records.push(record).unwrap();
     let number = last_number(book, at);
     book.shown.push(number).unwrap();
+    keep_pin(&mut book.pinned, pin);
 }
 
 /// Puts the record that a request makes at the end, and changes the bank with it. Before anything is changed, what may still refuse
@@ -155,9 +167,10 @@ pub(crate) fn put(
 {
     let prepared = prepare(alloc, &book.entries, &ask.request)?;
     let record = record_of(alloc, &book.records, now, user, ask)?;
+    let pin = pin_of(alloc, book, &record)?;
     make_book_room(alloc, book, &record)?;
     // Here a keeper's journal will take the record. What follows takes no memory, and none of it fails.
     let at = book.records.len();
-    append(alloc, book, record, prepared);
+    append(alloc, book, record, prepared, pin);
     Ok(said(book, at))
 }

@@ -2,7 +2,8 @@ use Rattle.std.proofs.Common.{◌≡◌, List, [], ◌∷◌, ◌++◌, Some, le
 use Rattle.std.specs.Prelude.{slice_get}
 use Rattle.qz_terms.specs.declared.record.Record.{Record}
 use Rattle.qz_roster.specs.Roster.{IsRosterOf}
-use Rattle.qz_catalog.specs.Holdings.{AreShown, IsHeld, IsShownBy}
+use Rattle.qz_catalog.specs.Holdings.{ArePinned, AreShown, IsHeld, IsShownBy}
+use Rattle.qz_catalog.proofs.PinLemmas.{pinned-push}
 use Rattle.qz_catalog.proofs.ShownLemmas.{put-at, shown-push}
 use Rattle.qz_catalog.proofs.putting.append.Goals as goal
 
@@ -17,9 +18,10 @@ returns-clause-book c =
     let found : slice_get c.push.new.self.items c.len-at.result ≡ Some r = put-at old c.push.new.self.items r c.len-at.result items place in
     record {
       indexed = record {
-        held = subst (λ (l : List Record). IsHeld l c.change.new.entries) (sym items) (subst (IsHeld (old ++ r ∷ [])) (sym c.change.ensures) c.requires.held);
+        held = subst (λ (l : List Record). IsHeld l c.change.new.entries) (sym items) (subst (IsHeld (old ++ r ∷ [])) (sym c.change.ensures) c.requires.ready.held);
         roster = subst (λ (l : List Record). IsRosterOf l c.keep.new.self) (ap (λ (l : List Record). l ++ r ∷ []) c.deref.ensures.value ∙ sym items) c.keep.ensures;
       };
       shown = subst (λ (l : List Record). AreShown l c.push-2.new.self.items) (sym items) (subst (AreShown (old ++ r ∷ [])) (sym numbers)
-          (shown-push old c.args.book.now.shown.items r number c.requires.shown (λ x asks. subst (λ (l : List Record). IsShownBy l x number) items (c.last_number-number.ensures x r found asks))));
+          (shown-push old c.args.book.now.shown.items r number c.requires.ready.shown (λ x asks. subst (λ (l : List Record). IsShownBy l x number) items (c.last_number-number.ensures x r found asks))));
+      pinned = subst (λ (l : List Record). ArePinned l c.keep_pin.new.pinned.items) (sym items) (subst (ArePinned (old ++ r ∷ [])) (sym c.keep_pin.ensures) (pinned-push old r c.args.book.now.pinned.items c.args.pin c.requires.ready.pinned c.requires.pin));
     }

@@ -7,7 +7,7 @@ use Rattle.qz_terms.specs.CatalogAnswer.{record_in}
 use Rattle.qz_bank.specs.declared.entry.Entry.{Entry}
 use Rattle.qz_roster.specs.Roster.{IsNext}
 use Rattle.qz_catalog.specs.Applying.{MayPut, bank_after, bank_with}
-use Rattle.qz_catalog.specs.Holdings.{AreShown, IsHeld}
+use Rattle.qz_catalog.specs.Holdings.{ArePinned, AreShown, IsHeld, IsPin}
 use Rattle.qz_catalog.proofs.Answering.{put-held, refused-told}
 use Rattle.qz_catalog.proofs.Bounds.{entries-few}
 use Rattle.qz_catalog.proofs.ShownLemmas.{posed-next, put-at, put-done}
@@ -18,13 +18,18 @@ returns-in_err-prepared-clause-refused c =
     let p = err_from_is_err_and c.from_residual.result c.from_residual.ensures.1 in
     rw (p.1, p.2) (refused-told c.args.book.now.records.items c.args.book.now.entries c.args.now c.args.user.now c.args.ask.now c.in_err-prepared.field-0.0 c.requires.posed c.in_err-prepared.ensures.refused)
 
+pub pin_of-requires-clause-next : goal.pin_of-requires-clause-next
+pin_of-requires-clause-next c =
+    posed-next c.args.book.now.records.items c.args.book.now.entries c.args.now c.args.user.now c.args.ask.now c.in_ok-record.record c.requires.posed
+    (c.in_ok-record.ensures ∙ ap (λ (l : List Record). record_in l c.args.now c.args.user.now c.args.ask.now) c.deref.ensures.value)
+
 pub make_book_room-requires-clause-next : goal.make_book_room-requires-clause-next
 make_book_room-requires-clause-next c =
     posed-next c.args.book.now.records.items c.args.book.now.entries c.args.now c.args.user.now c.args.ask.now c.in_ok-record.record c.requires.posed
     (c.in_ok-record.ensures ∙ ap (λ (l : List Record). record_in l c.args.now c.args.user.now c.args.ask.now) c.deref.ensures.value)
 
-pub append-requires : goal.append-requires
-append-requires c =
+pub append-requires-clause-ready : goal.append-requires-clause-ready
+append-requires-clause-ready c =
     let list = c.args.book.now.records.items in
     let bank = c.args.book.now.entries in
     let p = c.in_ok-prepared.prepared in
@@ -38,6 +43,7 @@ append-requires c =
     record {
       roster = room.roster;
       shown = subst (λ (l : List Record). AreShown l c.make_book_room.new.book.shown.items) (sym items) (subst (AreShown list) (sym room.shown) c.requires.book.shown);
+      pinned = subst (λ (l : List Record). ArePinned l c.make_book_room.new.book.pinned.items) (sym items) (subst (ArePinned list) (sym c.make_book_room.ensures.pinned) c.requires.book.pinned);
       next = subst (λ (l : List Record). IsNext l r) (sym items) (posed-next list bank c.args.now c.args.user.now c.args.ask.now r c.requires.posed made);
       entries = subst (λ (l : List Record). length (entries l) ≤ 20000) (sym items) (entries-few list c.requires.posed.held.legal);
       held = subst (λ (l : List Record). IsHeld (l ++ r ∷ []) (bank_with c.make_book_room.new.book.entries p)) (sym items)
@@ -47,7 +53,11 @@ append-requires c =
       room = c.in_ok-make_book_room.ensures.room;
       records = c.in_ok-make_book_room.ensures.place;
       numbers = c.in_ok-make_book_room.ensures.number;
+      pins = c.in_ok-make_book_room.ensures.pin;
     }
+
+pub append-requires-clause-pin : goal.append-requires-clause-pin
+append-requires-clause-pin c = subst (λ (l : List Record). IsPin l c.in_ok-record.record c.in_ok-pin.pin) (sym c.make_book_room.ensures.records) c.in_ok-pin.ensures
 
 pub said-requires-clause-asked : goal.said-requires-clause-asked
 said-requires-clause-asked c =
