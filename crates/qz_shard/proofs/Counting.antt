@@ -35,7 +35,7 @@ use Rattle.qz_shard.specs.Decisions.{IsDecision}
 use Rattle.qz_shard.specs.Gradings.{most_gradings, most_of_work}
 use Rattle.qz_shard.specs.Nexts.{IsPutWith, record_by}
 use Rattle.qz_shard.specs.Works.{IsWork}
-use Rattle.qz_shard.proofs.Legality.{told_event, told-pair}
+use Rattle.qz_lives.proofs.Legality.{told_event, told-pair}
 
 save-none : (h : List Record) (v : Moved) (a : AttemptId) (k : ℕ) (r : Response) → gradings_by h (acted_or_noted v a k (step.Save r)) ≤ 0
 save-none h moved_as.Kept a k r = omega arith

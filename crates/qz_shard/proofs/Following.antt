@@ -36,9 +36,10 @@ use Rattle.qz_usage.proofs.RunLemmas.{given_taken, limits_kept, taken}
 use Rattle.qz_usage.proofs.Shapes.{fits-alike}
 use Rattle.qz_usage.proofs.StepCounts.{has_misfit-push, limits_more}
 use Rattle.qz_shard.specs.Decisions.{IsSound}
-use Rattle.qz_shard.proofs.Effects.{Acts, Begins, Does, Finishes, Leaves, Rebinds, acts, begins, begun, does, finishes, first-two, leaves, rebinds, slot-max}
-use Rattle.qz_shard.proofs.Keeping.{All-seam, and-left, bound-kept}
-use Rattle.qz_shard.proofs.Legality.{by-prefixes, legal-before}
+use Rattle.qz_lives.proofs.Effects.{begun, first-two, slot-max}
+use Rattle.qz_shard.proofs.Effects.{Acts, Begins, Does, Finishes, Leaves, Rebinds, acts, begins, does, finishes, leaves, rebinds}
+use Rattle.qz_lives.proofs.Keeping.{All-seam, and-left, bound-kept}
+use Rattle.qz_lives.proofs.Legality.{by-prefixes, legal-before}
 use Rattle.qz_shard.proofs.Placing.{IsPlaced, bound-more, placed, start-same, steps-more, steps-same, version-more}
 use Rattle.qz_shard.proofs.ReadingLemmas.{max-mark}
 

@@ -1,15 +1,10 @@
 pub mod DecisionLemmas
-pub mod Legality
-pub mod Orders
-pub mod Numbered
-pub mod Keeping
 pub mod ReadingLemmas
 pub mod Learning
 pub mod PlayLemmas
 pub mod Allowing
 pub mod Making
 pub mod StepLemmas
-pub mod GradeLemmas
 pub mod LookLemmas
 pub mod PageLemmas
 pub mod Again

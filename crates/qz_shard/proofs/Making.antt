@@ -48,9 +48,9 @@ use Rattle.qz_shard.specs.Decisions.{IsDecision, IsRepeated, IsSound}
 use Rattle.qz_shard.specs.Holdings.{Holding, IsHeld, StartsHere, is_asked, is_asked_event, is_change, older}
 use Rattle.qz_shard.specs.Nexts.{CanGrow, IsNext, IsPutWith, record_by}
 use Rattle.qz_shard.proofs.Allowing.{IsGranted, IsOn, acted, ask_of, ended, noted, first-none, made_ready, on-allowed, on-step, start-allowed}
-use Rattle.qz_shard.proofs.Keeping.{All-seam, all-at, and-left, and-right}
+use Rattle.qz_lives.proofs.Keeping.{All-seam, all-at, and-left, and-right}
 use Rattle.qz_shard.proofs.Learning.{learned_all}
-use Rattle.qz_shard.proofs.Legality.{legal-before, legal-push, told_event, told-pair}
+use Rattle.qz_lives.proofs.Legality.{legal-before, legal-push, told_event, told-pair}
 
 -- ---- what is kept of a moment
 

@@ -15,9 +15,10 @@ use Rattle.qz_terms.specs.Cause.{missing_attempt, missing_slot}
 use Rattle.qz_terms.specs.Legal.{IsLegal}
 use Rattle.qz_terms.specs.History.{Start, binds, bound, learns, start, starts, step_in, steps, version}
 use Rattle.qz_terms.proofs.Walks.{all_of-push, first_of-push, last_of-push}
-use Rattle.qz_shard.proofs.Effects.{Begins, Does, IsActed, Rebinds, acts, begins, begun, does, finishes, first-two, leaves, rebinds}
-use Rattle.qz_shard.proofs.Keeping.{and-left, and-right}
-use Rattle.qz_shard.proofs.Legality.{by-prefixes, legal-before}
+use Rattle.qz_lives.proofs.Effects.{IsActed, begun, first-two}
+use Rattle.qz_shard.proofs.Effects.{Begins, Does, Rebinds, acts, begins, does, finishes, leaves, rebinds}
+use Rattle.qz_lives.proofs.Keeping.{and-left, and-right}
+use Rattle.qz_lives.proofs.Legality.{by-prefixes, legal-before}
 use Rattle.qz_isolation.proofs.Versions.{learned-after}
 
 -- ---- readings of a list with one record more

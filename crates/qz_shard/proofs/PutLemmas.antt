@@ -21,7 +21,7 @@ use Rattle.qz_terms.specs.Lists.{how_many}
 use Rattle.qz_shard.specs.Books.{IsUntold}
 use Rattle.qz_shard.specs.Holdings.{is_asked}
 use Rattle.qz_shard.specs.Nexts.{CanGrow}
-use Rattle.qz_shard.proofs.Legality.{started-number}
+use Rattle.qz_lives.proofs.Legality.{started-number}
 use Rattle.qz_shard.proofs.Making.{grown-sound}
 
 -- ---- before it stands

@@ -44,7 +44,7 @@ use Rattle.qz_terms.specs.Lists.{first_of, up_to_first}
 use Rattle.qz_terms.specs.History.{Slot, Start, next_attempt, slot, slot_count, start, steps}
 use Rattle.qz_terms.specs.History as history
 use Rattle.qz_shard.specs.Allowed.{answer_moves, can_act, can_answer, can_end, can_end_by, can_finish, can_mark, can_note, can_put, can_put_under, can_settle, can_start, has_asker, is_further, is_in_time, is_overdue, is_own, is_same, same_how, slot_refusal, starting_cause, takes}
-use Rattle.qz_shard.proofs.Legality.{told_event}
+use Rattle.qz_lives.proofs.Legality.{told_event}
 use Rattle.qz_shard.proofs.PutTold.{mark-cause, none-of, shown}
 
 -- ---- a user, a plan and a request

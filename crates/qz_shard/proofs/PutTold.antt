@@ -35,9 +35,9 @@ use Rattle.qz_terms.specs.History.{Slot, next_attempt, slot, slot_count, start, 
 use Rattle.qz_terms.specs.History as history
 use Rattle.qz_terms.proofs.Standing.{unmapped}
 use Rattle.qz_shard.specs.Allowed.{answer_moves, can_act, can_answer, can_end, can_end_by, can_finish, can_mark, can_note, can_put, can_put_under, can_settle, can_start, has_asker, is_further, is_in_time, is_overdue, is_own, is_same, same_how, slot_refusal, starting_cause, takes}
-use Rattle.qz_shard.proofs.Effects.{first-two, slot-max}
-use Rattle.qz_shard.proofs.Keeping.{and-left, and-right}
-use Rattle.qz_shard.proofs.Legality.{IsFree, event-put, free-put, told-pair, told_event}
+use Rattle.qz_lives.proofs.Effects.{first-two, slot-max}
+use Rattle.qz_lives.proofs.Keeping.{and-left, and-right}
+use Rattle.qz_lives.proofs.Legality.{IsFree, event-put, free-put, told-pair, told_event}
 
 -- ---- tests
 

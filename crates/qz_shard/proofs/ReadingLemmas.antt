@@ -12,7 +12,7 @@ use Rattle.qz_terms.specs.Kept.{IsKept, is_bound, is_moment}
 use Rattle.qz_lives.specs.declared.live.Begun.{Begun}
 use Rattle.qz_lives.specs.Attempts.{begun_of}
 use Rattle.qz_grading.specs.declared.refusal.Refusal.{Refusal}
-use Rattle.qz_shard.proofs.Keeping.{and-left, and-right, start-kept}
+use Rattle.qz_lives.proofs.Keeping.{and-left, and-right, start-kept}
 
 pub le-true : (a b : ℤ) → int_le a b ≡ true → a ≤ℤ b
 le-true a b is = le_z_yes (subst T (sym is) tt)

@@ -27,7 +27,7 @@ use Rattle.qz_terms.specs.History.{is_done, is_skipped, next_attempt, question, 
 use Rattle.qz_shard.specs.Allowed.{can_begin, can_close, can_put, can_put_under, can_rebind, can_skip, can_stand, can_stand_by, can_start, has_shape, is_alike, is_at, is_first_left, is_open, is_own, learns_new, new_bound, same_pairs, starting_cause}
 use Rattle.qz_shard.specs.Holdings.{is_asked, is_asked_event}
 use Rattle.qz_shard.proofs.BeginLemmas.{bounds-again, learned-again, questions_of, slot_of}
-use Rattle.qz_shard.proofs.Legality.{told_event}
+use Rattle.qz_lives.proofs.Legality.{told_event}
 use Rattle.qz_shard.proofs.PutMade.{IsOn, act-put, asked-put, end-put, note-put, owner-of, plan_by, student-may}
 use Rattle.qz_shard.proofs.PutTold.{is-none, none-of, put-told}
 use Rattle.qz_shard.proofs.TargetLemmas.{self-same}

@@ -26,7 +26,7 @@ use Rattle.qz_usage.specs.Runs.{IsBound, Run}
 use Rattle.qz_lives.specs.Attempts.{IsSlot, slot_of}
 use Rattle.qz_shard.specs.Decisions.{IsFate, IsSound}
 use Rattle.qz_shard.specs.Plays.{IsStepFate}
-use Rattle.qz_shard.proofs.Effects.{slot-max}
+use Rattle.qz_lives.proofs.Effects.{slot-max}
 use Rattle.qz_shard.proofs.Following.{slot-named, slot-there}
 
 slot-steps-asked : (s : Start) (b : Bound) (taken : List Step) (o : Option Question) (x : Slot) → option_map (slot_with s b taken) o ≡ Some x → x.steps ≡ taken

@@ -23,7 +23,7 @@ use Rattle.qz_terms.proofs.Walks.{found_nowhere, found_up_to}
 use Rattle.qz_shard.specs.Allowed.{slot_refusal, takes}
 use Rattle.qz_shard.specs.Decisions.{IsSound}
 use Rattle.qz_shard.specs.Plays.{IsMove}
-use Rattle.qz_shard.proofs.Keeping.{version-kept}
+use Rattle.qz_lives.proofs.Keeping.{version-kept}
 use Rattle.qz_shard.proofs.PutMade.{any-there, asker, begun-by, none-first, slot-there}
 use Rattle.qz_shard.proofs.StepLemmas.{slot-some, slot-steps}
 

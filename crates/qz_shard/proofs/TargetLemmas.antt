@@ -17,8 +17,8 @@ use Rattle.qz_terms.specs.History.{Start, attempt_at, attempt_before, bound, is_
 use Rattle.qz_terms.proofs.Walks.{all_of-push}
 use Rattle.qz_shard.specs.Works.{first_left, has_left}
 use Rattle.qz_shard.proofs.Effects.{Does, acts, begins, does, finishes, leaves, rebinds}
-use Rattle.qz_shard.proofs.Keeping.{and-left, and-right}
-use Rattle.qz_shard.proofs.Legality.{by-prefixes, legal-before}
+use Rattle.qz_lives.proofs.Keeping.{and-left, and-right}
+use Rattle.qz_lives.proofs.Legality.{by-prefixes, legal-before}
 use Rattle.qz_shard.proofs.Placing.{placed, start-more}
 use Rattle.qz_shard.proofs.PlayLemmas.{places-more}
 

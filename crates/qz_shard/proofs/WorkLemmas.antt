@@ -33,7 +33,7 @@ use Rattle.qz_shard.specs.Holdings.{IsHeld, IsWorkable}
 use Rattle.qz_shard.specs.Nexts.{IsNext, IsPutWith}
 use Rattle.qz_shard.specs.Works.{IsWork, IsWorked}
 use Rattle.qz_shard.proofs.Allowing.{time-again}
-use Rattle.qz_shard.proofs.Keeping.{all-at, start-here}
+use Rattle.qz_lives.proofs.Keeping.{all-at, start-here}
 use Rattle.qz_shard.proofs.Learning.{learns-new}
 use Rattle.qz_shard.proofs.Making.{learned-kept, time-kept}
 use Rattle.qz_shard.proofs.Placing.{version-more}

@@ -1,12 +1,12 @@
 //! The records of a shard, and what is kept beside them: where each thing stands, and what each attempt has come to.
 
 ghost use Rattle.std.specs.Prelude.{◌≡◌, ◌+◌, ◌-◌, ◌<◌, ◌≤◌, ◌^◌, ◌++◌, ◌∷◌, [], List, length, map, filter, filter_map, true, is_some, option_map, option_copied, All, IfOk, IfSome, OnOk, OnErr};
-ghost use Rattle.qz_decimal.specs.Numbers.{IsMaxMark};
+ghost use Rattle.qz_decimal.specs.Numbers.{IsMaxMark, IsMaxSum, IsQuizGrade};
 ghost use Rattle.qz_grading.specs.Questions.{IsQuestion};
 ghost use Rattle.qz_index.specs.Jobs.{done_in};
 ghost use Rattle.qz_lives.specs.Attempts.{begun_of};
 ghost use Rattle.qz_lives.specs.Changes.{gradings_by};
-ghost use Rattle.qz_terms.specs.History.{attempt_at, attempt_before, bound, ended, ended_at, floor, is_ended, is_finished, is_skipped, mark, next_attempt, place, slot_count, start, state, takers, time, total, version};
+ghost use Rattle.qz_terms.specs.History.{attempt_at, attempt_before, bound, ended, ended_at, floor, is_ended, is_skipped, mark, next_attempt, place, row, slot_count, start, state, takers, time, total, version};
 ghost use Rattle.qz_terms.specs.History as history;
 ghost use Rattle.qz_terms.specs.Kept.{IsKept, is_moment};
 ghost use Rattle.qz_terms.specs.Lists.{in_order};
@@ -17,10 +17,10 @@ ghost use Rattle.qz_shard.specs.Plays.{IsSlot};
 
 use crate::known::Known;
 use crate::listing::Listing;
-use qz_decimal::Mark;
+use qz_decimal::{Grade, Mark};
 use qz_grading::{AttemptId, Question, State, Steps};
 use qz_lives::Begun;
-use qz_terms::{Bound, How, Record};
+use qz_terms::{Bound, How, Policy, Record};
 use qz_text::NoMemory;
 use qz_usage::SlotRun;
 use std::alloc::Global;
@@ -203,13 +203,6 @@ impl Book {
         self.listing.lives.is_ended(attempt)
     }
 
-    /// Whether an attempt is finished.
-    pub(crate) fn is_finished(&self, attempt: AttemptId) -> bool
-        ensures { result ≡ is_finished self.now attempt }
-    {
-        self.listing.lives.is_finished(attempt)
-    }
-
     /// The first attempt after this one, in order of user and number, that hasn't ended.
     pub(crate) fn live_after(&self, after: AttemptId) -> Option<AttemptId>
         ensures { result ≡ history.live_after self.now after }
@@ -255,6 +248,15 @@ impl Book {
         ensures range { IfSome result IsTotal }
     {
         self.listing.lives.total(attempt)
+    }
+
+    /// The grade (in 10^-5) of a user at a quiz, and none where no total is taken.
+    pub(crate) fn row(&self, quiz: u32, policy: &Policy, user: u32) -> Option<Grade>
+        requires grade { IsQuizGrade policy.now.grade }
+        requires sum { IsMaxSum policy.now.sum }
+        ensures { result ≡ row self.now quiz policy.now user }
+    {
+        self.listing.lives.row(quiz, policy, user)
     }
 
     /// Puts a record at the end. All that takes memory is made first, and where memory is wanting the book is as before. Only the

@@ -6,7 +6,6 @@ mod book;
 mod decision;
 mod fates;
 mod feedback;
-mod grades;
 mod job_puts;
 mod keys;
 mod known;

@@ -9,7 +9,6 @@ ghost use Rattle.qz_shard.specs.Decisions.{IsSound};
 ghost use Rattle.qz_shard.specs.Holdings.{is_look, IsAsked};
 
 use crate::book::Book;
-use crate::grades::row;
 use crate::missing::missing_here;
 use crate::pages::page;
 use crate::putting::moment_of;
@@ -59,7 +58,7 @@ fn looked_by(
         }
         Request::Grade { quiz, user: owner } => {
             let visible = sees_grade(user, &plan.settings, moment);
-            let grade = row(alloc, book, *quiz, &plan.policy, *owner)?;
+            let grade = book.row(*quiz, &plan.policy, *owner);
             Ok(Done::Grade {
                 grade: shown_grade(visible, grade),
             })

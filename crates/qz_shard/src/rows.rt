@@ -3,11 +3,9 @@
 ghost use Rattle.std.specs.Prelude.{◌≡◌, map, IfOk};
 ghost use Rattle.qz_decimal.specs.Numbers.{IsMaxSum, IsQuizGrade};
 ghost use Rattle.qz_terms.specs.History.{takers};
-ghost use Rattle.qz_shard.specs.Decisions.{IsSound};
 ghost use Rattle.qz_shard.specs.Grades.{graded};
 
 use crate::book::Book;
-use crate::grades::row;
 use qz_decimal::Grade;
 use qz_terms::Policy;
 use qz_text::{Listed, NoMemory};
@@ -21,14 +19,13 @@ fn grades_of(
     policy: &Policy,
     users: &[u32],
 ) -> Result<Listed<(u32, Option<Grade>)>, NoMemory>
-    requires sound { IsSound book.now }
     requires grade { IsQuizGrade policy.now.grade }
     requires sum { IsMaxSum policy.now.sum }
     ensures { IfOk result (λ found. found ≡ map (graded book.now quiz policy.now) users.now) }
 {
     let mut items = Vec::with_capacity(alloc, users.len())?;
     for user in users {
-        let grade = row(alloc, book, quiz, policy, *user)?;
+        let grade = book.row(quiz, policy, *user);
         items.push((*user, grade))?;
     }
     Ok(Listed { items })
@@ -41,7 +38,6 @@ pub(crate) fn rows(
     quiz: u32,
     policy: &Policy,
 ) -> Result<Listed<(u32, Option<Grade>)>, NoMemory>
-    requires sound { IsSound book.now }
     requires grade { IsQuizGrade policy.now.grade }
     requires sum { IsMaxSum policy.now.sum }
     ensures { IfOk result (λ found. found ≡ map (graded book.now quiz policy.now) (takers book.now quiz)) }

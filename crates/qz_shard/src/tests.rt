@@ -509,6 +509,58 @@ fn looks_are_shown(rt: HostRuntime) -> Result<(), Fail> {
     Ok(())
 }
 
+/// The same slot is marked again, with 1 of 3.
+fn mark_lower(
+    shard: &mut Shard,
+    alloc: Global,
+    root: &User,
+    plan: &Plan,
+) -> Result<Option<Reply>, NoMemory>
+    requires { IsKeptPlan plan.now }
+{
+    let mark = Request::Mark {
+        attempt: FIRST,
+        slot: 1,
+        mark: Mark(ONE),
+    };
+    change(shard, alloc, root, plan, "m2", mark, 150)
+}
+
+/// The grade that the student is shown, if one is taken.
+fn grade(shard: &mut Shard, alloc: Global, ann: &User, plan: &Plan) -> Option<Grade>
+    requires { IsKeptPlan plan.now }
+{
+    let look = look(shard, alloc, ann, plan, Request::Grade { quiz: 1, user: 2 });
+    match look {
+        Some(
+            Reply::Ok {
+                done: Done::Grade {
+                    grade: Shown::Value(grade),
+                },
+                ..
+            },
+        ) => Some(grade),
+        _ => None,
+    }
+}
+
+/// The highest of 10 over 0, then 2, then 1 of 3.
+#[test]
+fn a_grade_follows_each_mark(rt: HostRuntime) -> Result<(), Fail> {
+    let alloc = rt.alloc();
+    let (ann, root) = (user(alloc, 2, Role::Student), user(alloc, 1, Role::Teacher));
+    let plan = plan(alloc)?;
+    let (mut shard, _) = begun(alloc, &ann, &plan)?;
+    assert!(rt; grade(&mut shard, alloc, &ann, &plan).is_none());
+    let _ = finish(&mut shard, alloc, &ann, &plan)?;
+    assert!(rt; grade(&mut shard, alloc, &ann, &plan) == Some(Grade(0)));
+    let _ = mark(&mut shard, alloc, &root, &plan)?;
+    assert!(rt; grade(&mut shard, alloc, &ann, &plan) == Some(Grade(666_667)));
+    let _ = mark_lower(&mut shard, alloc, &root, &plan)?;
+    assert!(rt; grade(&mut shard, alloc, &ann, &plan) == Some(Grade(333_333)));
+    Ok(())
+}
+
 fn is_idle(told: Option<Reply>) -> bool {
     match told {
         Some(
