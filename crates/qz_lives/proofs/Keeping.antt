@@ -130,12 +130,12 @@ version-kept h e v q kept is =
     let keeps : KeepsEvent t.item.event = (All-seam IsKept t.front t.item t.rest all).event in
     learns-kept (learned_by t.item.event) e v q (learned-by-kept t.item.event keeps) t.tells
 
-at_place-kept : (bs : List Bound) (k : ℕ) (b : Bound) (z : Bool) → (k == 0) ≡ z → list_all is_bound bs ≡ true → (if z then None else slice_get bs (k - 1)) ≡ Some b → is_bound b ≡ true
-at_place-kept bs k b true is all told = absurd cc
-at_place-kept bs k b false is all told = all-at is_bound bs (k - 1) b all told
+pub at_place-passes : {A : Type 0} (p : A → Bool) (xs : List A) (k : ℕ) (x : A) (z : Bool) → (k == 0) ≡ z → list_all p xs ≡ true → (if z then None else slice_get xs (k - 1)) ≡ Some x → p x ≡ true
+at_place-passes p xs k x true is all told = absurd cc
+at_place-passes p xs k x false is all told = all-at p xs (k - 1) x all told
 
 binds-kept-started : (bs : List Bound) (k : ℕ) (b : Bound) (same : Bool) → list_all is_bound bs ≡ true → (if same then at_place bs k else None) ≡ Some b → is_bound b ≡ true
-binds-kept-started bs k b true all told = at_place-kept bs k b (k == 0) refl all told
+binds-kept-started bs k b true all told = at_place-passes is_bound bs k b (k == 0) refl all told
 binds-kept-started bs k b false all told = absurd cc
 
 binds-kept-rebound : (d b : Bound) (same : Bool) → is_bound d ≡ true → (if same then Some d else None) ≡ Some b → is_bound b ≡ true

@@ -26,7 +26,7 @@ use Rattle.qz_lives.proofs.Orders.{Before, Rising, in_order-rises, one, or-right
 abbrev pub Earlier : AttemptId → AttemptId → Type 0
 Earlier a b = attempt_before a b ≡ true
 
-behind-all : (x : AttemptId) (xs : List AttemptId) → Before x xs → All (Earlier x) xs
+pub behind-all : (x : AttemptId) (xs : List AttemptId) → Before x xs → All (Earlier x) xs
 unfolding Before
 behind-all x [] b = All-nil (Earlier x)
 behind-all x (y ∷ ys) b = All-cons (Earlier x) y ys b.0 (behind-all x ys b.1)

@@ -84,7 +84,7 @@ unfoldable pub Rising : List AttemptId → Type 0
 Rising [] = Unit {0}
 Rising (x ∷ xs) = Before x xs × Rising xs
 
-before-all : (x y : AttemptId) (ys : List AttemptId) → attempt_before x y ≡ true → Before y ys → Before x ys
+pub before-all : (x y : AttemptId) (ys : List AttemptId) → attempt_before x y ≡ true → Before y ys → Before x ys
 unfolding Before
 before-all x y [] is b = tt
 before-all x y (z ∷ zs) is b = (before-after x y z is b.0, before-all x y zs is b.1)
@@ -160,3 +160,17 @@ first-placed p x (y ∷ ys) rising = first-placed-by p x y ys (attempt_before x 
 -- the first of a list in order, of one more that is met
 pub first-more : (p : AttemptId → Bool) (x : AttemptId) (xs : List AttemptId) → first_passing p (in_order attempt_before (x ∷ xs)) ≡ sooner p (first_passing p (in_order attempt_before xs)) (Some x)
 first-more p x xs = first-placed p x (in_order attempt_before xs) (in_order-rises xs)
+
+-- ---- none is before one that is before it
+
+pub never-back : (x y : AttemptId) (z : Bool) → attempt_before y x ≡ z → attempt_before x y ≡ true → z ≡ false
+never-back x y true is before = absurd (never-both x y before is)
+never-back x y false is before = refl
+
+-- none comes before itself
+not-before-by : (x : AttemptId) (z : Bool) → attempt_before x x ≡ z → z ≡ false
+not-before-by x true is = absurd (never-both x x is is)
+not-before-by x false is = refl
+
+pub not-before : (x : AttemptId) → attempt_before x x ≡ false
+not-before x = not-before-by x (attempt_before x x) refl

@@ -13,6 +13,8 @@ pub mod Effects
 pub mod Placing
 pub mod Following
 pub mod TargetLemmas
+pub mod SearchLemmas
+pub mod CursorLemmas
 pub mod WorkLemmas
 pub mod PutLemmas
 pub mod Counting

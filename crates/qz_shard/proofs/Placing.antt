@@ -23,7 +23,7 @@ use Rattle.qz_isolation.proofs.Versions.{learned-after}
 
 -- ---- readings of a list with one record more
 
-or-none : {A : Type 0} (o : Option A) → option_or o None ≡ o
+pub or-none : {A : Type 0} (o : Option A) → option_or o None ≡ o
 or-none None = refl
 or-none (Some x) = refl
 

@@ -30,8 +30,7 @@ use Rattle.qz_shard.proofs.BeginLemmas.{bounds-again, learned-again, questions_o
 use Rattle.qz_lives.proofs.Legality.{told_event}
 use Rattle.qz_shard.proofs.PutMade.{IsOn, act-put, asked-put, end-put, note-put, owner-of, plan_by, student-may}
 use Rattle.qz_shard.proofs.PutTold.{is-none, none-of, put-told}
-use Rattle.qz_shard.proofs.TargetLemmas.{self-same}
-use Rattle.qz_shard.proofs.WorkLemmas.{none-left}
+use Rattle.qz_shard.proofs.TargetLemmas.{none-left, self-same}
 
 -- ---- what a test tells
 

@@ -1,7 +1,7 @@
 -- The first slot that a job has left, found attempt by attempt, and what is known of it.
 use Rattle.std.proofs.Common.{◌≡◌, ℕ, ◌+◌, Bool, true, false, not, ◌&&◌, List, [], ◌∷◌, ◌++◌, Option, Some, None, append-nil, map, refl, sym, ap, subst, ◌∙◌, option_map, eq-eqb, All}
 use Rattle.std.specs.Option.{option_or}
-use Rattle.std.specs.Prelude.{◌==◌, filter, filter_map, flat_map, if◌then◌else◌, is_some, nat_lt, option_and_then, option_to_list, unwrap_or, find}
+use Rattle.std.specs.Prelude.{◌==◌, filter, filter_map, flat_map, if◌then◌else◌, is_some, nat_lt, option_and_then, option_to_list, unwrap_or}
 use Rattle.std.proofs.lemmas.Bool.{eqb-true, not-true}
 use Rattle.std.proofs.lemmas.List.Elements.{All-cons, All-head, All-nil, All-push, All-tail, All-weaker}
 use Rattle.qz_grading.specs.declared.question.Question.{Question}
@@ -44,7 +44,7 @@ passes-step p y xs x true is found rest = let first : Some y ≡ Some x = rw is 
 passes-step p y xs x false is found rest = rest (rw is at found)
 
 -- it passes
-passes : {A : Type 0} (p : A → Bool) (xs : List A) (x : A) → first_of (filter p xs) ≡ Some x → p x ≡ true
+pub passes : {A : Type 0} (p : A → Bool) (xs : List A) (x : A) → first_of (filter p xs) ≡ Some x → p x ≡ true
 passes p [] x found = absurd cc
 passes p (y ∷ xs) x found = passes-step p y xs x (p y) refl found (passes p xs x)
 
@@ -53,13 +53,17 @@ of-all-step P p y xs x true is all found rest = let first : Some y ≡ Some x = 
 of-all-step P p y xs x false is all found rest = rest (rw is at found)
 
 -- and is one of the list
-of-all : {A : Type 0} (P : A → Type 0) (p : A → Bool) (xs : List A) (x : A) → All P xs → first_of (filter p xs) ≡ Some x → P x
+pub of-all : {A : Type 0} (P : A → Type 0) (p : A → Bool) (xs : List A) (x : A) → All P xs → first_of (filter p xs) ≡ Some x → P x
 of-all P p [] x all found = absurd cc
 of-all P p (y ∷ xs) x all found = of-all-step P p y xs x (p y) refl all found (of-all P p xs x (All-tail P y xs all))
 
 -- ---- the first target
 
-abbrev first_of_attempt : List Record → ℕ → ℕ → AttemptId → Option (AttemptId × ℕ)
+pub none-left : {A : Type 0} (xs : List A) → first_of xs ≡ None → xs ≡ []
+none-left [] none = refl
+none-left (x ∷ xs) none = absurd cc
+
+abbrev pub first_of_attempt : List Record → ℕ → ℕ → AttemptId → Option (AttemptId × ℕ)
 first_of_attempt h job position a = option_map (λ k. (a, k)) (first_left h job position a)
 
 first-flat-step : (h : List Record) (job position : ℕ) (a : AttemptId) (xs : List AttemptId) (ks : List ℕ) → filter (is_target h job position a) (places_to (slot_count h a)) ≡ ks
@@ -72,28 +76,16 @@ first-flat : (h : List Record) (job position : ℕ) (xs : List AttemptId) → fi
 first-flat h job position [] = refl
 first-flat h job position (a ∷ xs) = first-flat-step h job position a xs (filter (is_target h job position a) (places_to (slot_count h a))) refl (first-flat h job position xs)
 
--- the attempts of the job's quiz, in order
+-- the attempts of a quiz, in order
 abbrev pub attempts_of : List Record → ℕ → List AttemptId
 attempts_of h q = in_order attempt_before (filter_map (attempt_at q) h)
-
-find-by : {A : Type 0} (p : A → Bool) (x : A) (xs : List A) (b : Bool) → p x ≡ b → find p xs ≡ first_of (filter p xs) → find p (x ∷ xs) ≡ first_of (filter p (x ∷ xs))
-find-by p x xs true is rest = rw is refl
-find-by p x xs false is rest = rw is rest
-
-find-first : {A : Type 0} (p : A → Bool) (xs : List A) → find p xs ≡ first_of (filter p xs)
-find-first p [] = refl
-find-first p (x ∷ xs) = find-by p x xs (p x) refl (find-first p xs)
-
--- what is found among the attempts of the job's quiz
-pub found-in : (h : List Record) (job q position : ℕ) (xs : List AttemptId) (o : Option AttemptId) → o ≡ find (has_left h job position) xs → xs ≡ attempts_of h q → o ≡ first_of (filter (has_left h job position) (attempts_of h q))
-found-in h job q position xs o is all = is ∙ find-first (has_left h job position) xs ∙ ap (λ (ys : List AttemptId). first_of (filter (has_left h job position) ys)) all
 
 pub target-by : (h : List Record) (job q position : ℕ) (o : Option AttemptId) → o ≡ first_of (filter (has_left h job position) (attempts_of h q)) → first_of (targets h job q position) ≡ option_and_then (first_of_attempt h job position) o
 target-by h job q position o is = first-flat h job position (attempts_of h q) ∙ ap (option_and_then (first_of_attempt h job position)) (sym is)
 
 -- ---- attempts of a quiz
 
-abbrev OfQuiz : List Record → ℕ → AttemptId → Type 0
+abbrev pub OfQuiz : List Record → ℕ → AttemptId → Type 0
 OfQuiz h q a = quiz h a ≡ Some q
 
 record IsStartOf (r : Record) (q : ℕ) (a : AttemptId) : Type 0 where
@@ -162,6 +154,10 @@ All-in_order : {A : Type 0} (P : A → Type 0) (before : A → A → Bool) (xs :
 All-in_order P before [] all = all
 All-in_order P before (x ∷ xs) all = All-placed P before x (in_order before xs) (All-head P x xs all) (All-in_order P before xs (All-tail P x xs all))
 
+-- each is one of the quiz
+pub all-of_quiz : (index count : ℕ) (h : List Record) (q : ℕ) → IsLegal index count h → All (OfQuiz h q) (attempts_of h q)
+all-of_quiz index count h q legal = All-in_order (OfQuiz h q) attempt_before (filter_map (attempt_at q) h) (of-quiz index count h q legal)
+
 -- ---- what is known of the first target
 
 pub record IsLeft (h : List Record) (job : Job) (a : AttemptId) (k : ℕ) : Type 0 where
@@ -176,7 +172,7 @@ some-start : (o : Option Start) (q : ℕ) → option_map (λ (s : Start). s.quiz
 some-start None q is = absurd cc
 some-start (Some s) q is = (s, refl)
 
-some-bound : (o : Option Bound) (position : ℕ) → unwrap_or (option_map (λ (b : Bound). nat_lt b.at position) o) false ≡ true → (b : Bound) × (o ≡ Some b)
+pub some-bound : (o : Option Bound) (position : ℕ) → unwrap_or (option_map (λ (b : Bound). nat_lt b.at position) o) false ≡ true → (b : Bound) × (o ≡ Some b)
 some-bound None position is = absurd cc
 some-bound (Some b) position is = (b, refl)
 
@@ -195,13 +191,19 @@ parts-by h job position a k (Some b) is =
     let parts = parts-slot a b k (first_left h job position b) is in
     (ap (λ (c : AttemptId). Some c) parts.0, ap (first_left h job position) (sym parts.0) ∙ parts.1)
 
+-- the first of all targets is one
+pub first-is_target : (h : List Record) (job q position : ℕ) (a : AttemptId) (k : ℕ) → first_of (targets h job q position) ≡ Some (a, k) → is_target h job position a k ≡ true
+first-is_target h job q position a k is =
+    let attempt = first_of (filter (has_left h job position) (attempts_of h q)) in
+    let parts = parts-by h job position a k attempt (sym (target-by h job q position attempt refl) ∙ is) in
+    passes (is_target h job position a) (places_to (slot_count h a)) k parts.1
+
 pub left : (index count : ℕ) (h : List Record) (job : Job) (a : AttemptId) (k : ℕ) → IsLegal index count h → first_target h job ≡ Some (a, k) → IsLeft h job a k
 left index count h job a k legal is =
     let attempt = first_of (filter (has_left h job.number job.position) (attempts_of h job.plan.quiz)) in
     let parts = parts-by h job.number job.position a k attempt (sym (target-by h job.number job.plan.quiz job.position attempt refl) ∙ is) in
-    let all : All (OfQuiz h job.plan.quiz) (attempts_of h job.plan.quiz) = All-in_order (OfQuiz h job.plan.quiz) attempt_before (filter_map (attempt_at job.plan.quiz) h) (of-quiz index count h job.plan.quiz legal) in
-    let of_it : quiz h a ≡ Some job.plan.quiz = of-all (OfQuiz h job.plan.quiz) (has_left h job.number job.position) (attempts_of h job.plan.quiz) a all parts.0 in
-    let test : is_target h job.number job.position a k ≡ true = passes (is_target h job.number job.position a) (places_to (slot_count h a)) k parts.1 in
+    let of_it : quiz h a ≡ Some job.plan.quiz = of-all (OfQuiz h job.plan.quiz) (has_left h job.number job.position) (attempts_of h job.plan.quiz) a (all-of_quiz index count h job.plan.quiz legal) parts.0 in
+    let test : is_target h job.number job.position a k ≡ true = first-is_target h job.number job.plan.quiz job.position a k is in
     let early = unwrap_or (option_map (λ (b : Bound). nat_lt b.at job.position) (bound h a k)) false in
     let s = some-start (start h a) job.plan.quiz of_it in
     let b = some-bound (bound h a k) job.position (and-left early (not (is_skipped h job.number a k)) test) in

@@ -37,12 +37,7 @@ use Rattle.qz_lives.proofs.Keeping.{all-at, start-here}
 use Rattle.qz_shard.proofs.Learning.{learns-new}
 use Rattle.qz_shard.proofs.Making.{learned-kept, time-kept}
 use Rattle.qz_shard.proofs.Placing.{version-more}
-use Rattle.qz_shard.proofs.TargetLemmas.{IsLeft, left}
-
--- of a job that has no slot left
-pub none-left : {A : Type 0} (xs : List A) → first_of xs ≡ None → xs ≡ []
-none-left [] none = refl
-none-left (x ∷ xs) none = absurd cc
+use Rattle.qz_shard.proofs.TargetLemmas.{IsLeft, left, none-left}
 
 -- ---- whether a job is done
 

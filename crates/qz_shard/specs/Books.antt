@@ -7,9 +7,11 @@ use Rattle.qz_lives.specs.declared.prepared.Prepared.{Prepared}
 use Rattle.qz_lives.specs.Attempts.{AreLives}
 use Rattle.qz_lives.specs.Changes.{IsReady}
 use Rattle.qz_terms.specs.History.{version}
+use Rattle.qz_shard.specs.declared.cursors.Cursors.{Cursors}
 use Rattle.qz_shard.specs.declared.listing.Listing.{Listing}
 use Rattle.qz_terms.specs.declared.record.Record.{Record}
 use Rattle.qz_terms.specs.Kept.{IsKept}
+use Rattle.qz_shard.specs.Cursors.{AreCursors}
 use Rattle.qz_shard.specs.Holdings.{IsHeld, is_asked}
 
 -- the index and the attempts are those of the list
@@ -34,10 +36,11 @@ pub record IsFollowed (old new : Listing) (r : Record) : Type 0 where
   pub index : new.index ≡ old.index
   pub alive : AreLives new.lives (old.records.items ++ r ∷ [])
 
--- the list of a shard, and the replies that were said of its records with a key
-pub record IsAnswering (index count : ℕ) (h : List Record) (keys : Keys) : Type 0 where
+-- the list of a shard, the replies that were said of its records with a key, and how far jobs have come
+pub record IsAnswering (index count : ℕ) (h : List Record) (keys : Keys) (cursors : Cursors) : Type 0 where
   pub held : IsHeld index count h
   pub keyed : AreKeys keys h
+  pub passed : AreCursors cursors h
 
 -- the last record stands at this place, from 0, and what is said of it isn't kept yet
 pub record IsUntold (keys : Keys) (h : List Record) (place : ℕ) : Type 0 where

@@ -8,5 +8,6 @@ pub mod Nexts
 pub mod Answering
 pub mod Grades
 pub mod Works
+pub mod Cursors
 pub mod Pages
 pub mod Allowed

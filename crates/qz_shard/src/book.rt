@@ -1,15 +1,15 @@
 //! The records of a shard, and what is kept beside them: where each thing stands, and what each attempt has come to.
 
-ghost use Rattle.std.specs.Prelude.{◌≡◌, ◌+◌, ◌-◌, ◌<◌, ◌≤◌, ◌^◌, ◌++◌, ◌∷◌, [], List, length, map, filter, filter_map, true, is_some, option_map, option_copied, All, IfOk, IfSome, OnOk, OnErr};
+ghost use Rattle.std.specs.Prelude.{◌≡◌, ◌+◌, ◌-◌, ◌<◌, ◌≤◌, ◌^◌, ◌++◌, ◌∷◌, [], List, length, map, filter, true, is_some, option_map, option_copied, All, IfOk, IfSome, OnOk, OnErr};
 ghost use Rattle.qz_decimal.specs.Numbers.{IsMaxMark, IsMaxSum, IsQuizGrade};
 ghost use Rattle.qz_grading.specs.Questions.{IsQuestion};
 ghost use Rattle.qz_index.specs.Jobs.{done_in};
+ghost use Rattle.qz_index.specs.Orders.{attempt_after};
 ghost use Rattle.qz_lives.specs.Attempts.{begun_of};
 ghost use Rattle.qz_lives.specs.Changes.{gradings_by};
-ghost use Rattle.qz_terms.specs.History.{attempt_at, attempt_before, bound, ended, ended_at, floor, is_ended, is_skipped, mark, next_attempt, place, row, slot_count, start, state, takers, time, total, version};
+ghost use Rattle.qz_terms.specs.History.{bound, ended, ended_at, floor, is_ended, is_skipped, mark, next_attempt, place, row, slot_count, start, state, takers, time, total, version};
 ghost use Rattle.qz_terms.specs.History as history;
 ghost use Rattle.qz_terms.specs.Kept.{IsKept, is_moment};
-ghost use Rattle.qz_terms.specs.Lists.{in_order};
 ghost use Rattle.qz_usage.specs.Usages.{IsTotal};
 ghost use Rattle.qz_shard.specs.Decisions.{IsSound};
 ghost use Rattle.qz_shard.specs.Nexts.{CanGrow, IsPut};
@@ -108,11 +108,11 @@ impl Book {
         self.listing.index.attempts(quiz, user)
     }
 
-    /// All attempts of a quiz, in order of user and number.
-    pub(crate) fn attempts_of(&self, alloc: Global, quiz: u32) -> Result<Vec<AttemptId>, NoMemory>
-        ensures { IfOk result (λ found. found.items ≡ in_order attempt_before (filter_map (attempt_at quiz) self.now)) }
+    /// The first attempt of a quiz after this one, in order of user and number.
+    pub(crate) fn attempt_after(&self, quiz: u32, after: AttemptId) -> Option<AttemptId>
+        ensures { result ≡ attempt_after self.now quiz after }
     {
-        self.listing.index.attempts_of(alloc, quiz)
+        self.listing.index.attempt_after(quiz, after)
     }
 
     /// The users who have an attempt of a quiz, in order of number.

@@ -6,12 +6,14 @@ ghost use Rattle.qz_terms.specs.History.{is_done, quiz};
 ghost use Rattle.qz_terms.specs.Kept.{IsKept};
 ghost use Rattle.qz_terms.specs.Legal.{is_bare};
 ghost use Rattle.qz_shard.specs.Allowed.{can_close, can_rebind, can_skip, has_shape, is_alike, is_at, is_first_left, is_open};
+ghost use Rattle.qz_shard.specs.Cursors.{AreCursors};
 ghost use Rattle.qz_shard.specs.Decisions.{IsSound};
 
 use crate::book::Book;
+use crate::cursors::Cursors;
 use crate::keys::is_same;
 use crate::new_versions::learns_new;
-use crate::targets::first_target;
+use crate::targets::next_target;
 use crate::working::{question_of, same_shape};
 use qz_grading::{AttemptId, Question, Shape, shape_of};
 use qz_terms::{Bound, Learned, Record};
@@ -60,17 +62,21 @@ fn quiz_of(book: &Book, attempt: AttemptId) -> Option<u32>
 fn is_first_left(
     alloc: Global,
     book: &Book,
+    cursors: &mut Cursors,
     job: u32,
     position: u64,
     attempt: AttemptId,
     slot: u16,
 ) -> Result<bool, NoMemory>
-    ensures { IfOk result (λ b. b ≡ is_first_left book.now job position attempt slot) }
+    requires sound { IsSound book.now }
+    requires cursors { AreCursors cursors.old book.now }
+    ensures left { IfOk result (λ b. b ≡ is_first_left book.now job position attempt slot) }
+    ensures cursors { AreCursors cursors.new book.now }
 {
     let Some(quiz) = quiz_of(book, attempt) else {
         return Ok(false);
     };
-    let found = first_target(alloc, book, job, quiz, position)?;
+    let found = next_target(alloc, book, cursors, job, quiz, position)?;
     Ok(is_at(attempt, slot, found))
 }
 
@@ -90,6 +96,7 @@ fn is_alike(old: Option<&Question>, newer: Option<&Question>) -> bool
 pub(crate) fn can_rebind(
     alloc: Global,
     book: &Book,
+    cursors: &mut Cursors,
     made: &Record,
     job: u32,
     attempt: AttemptId,
@@ -99,12 +106,15 @@ pub(crate) fn can_rebind(
 ) -> Result<bool, NoMemory>
     requires sound { IsSound book.now }
     requires kept { IsKept made.now }
-    ensures { IfOk result (λ b. b ≡ can_rebind book.now made.now job attempt slot bound.now learned.now) }
+    requires cursors { AreCursors cursors.old book.now }
+    ensures allowed { IfOk result (λ b. b ≡ can_rebind book.now made.now job attempt slot bound.now learned.now) }
+    ensures cursors { AreCursors cursors.new book.now }
 {
-    if !is_open(book, made, job)
-        || !is_first_left(alloc, book, job, bound.at, attempt, slot)?
-        || !learns_new(book, &[*bound], learned)
-    {
+    if !is_open(book, made, job) {
+        return Ok(false);
+    }
+    let is_first = is_first_left(alloc, book, cursors, job, bound.at, attempt, slot)?;
+    if !is_first || !learns_new(book, &[*bound], learned) {
         return Ok(false);
     }
     let old = question_of(book, attempt, slot);
@@ -145,15 +155,19 @@ pub(crate) fn can_skip(
 pub(crate) fn can_close(
     alloc: Global,
     book: &Book,
+    cursors: &mut Cursors,
     made: &Record,
     job: u32,
     quiz: u32,
     position: u64,
 ) -> Result<bool, NoMemory>
-    ensures { IfOk result (λ b. b ≡ can_close book.now made.now job quiz position) }
+    requires sound { IsSound book.now }
+    requires cursors { AreCursors cursors.old book.now }
+    ensures allowed { IfOk result (λ b. b ≡ can_close book.now made.now job quiz position) }
+    ensures cursors { AreCursors cursors.new book.now }
 {
     if !is_open(book, made, job) {
         return Ok(false);
     }
-    Ok(first_target(alloc, book, job, quiz, position)?.is_none())
+    Ok(next_target(alloc, book, cursors, job, quiz, position)?.is_none())
 }

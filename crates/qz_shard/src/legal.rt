@@ -10,10 +10,12 @@ ghost use Rattle.qz_terms.specs.Kept.{IsKept};
 ghost use Rattle.qz_terms.specs.Legal.{IsAllowed, at_least_floor, bound_at, has_its_owner, has_new_key, is_here};
 ghost use Rattle.qz_shard.specs.Allowed.{can_begin, can_stand, can_stand_by};
 ghost use Rattle.qz_shard.specs.Books.{IsAnswering};
+ghost use Rattle.qz_shard.specs.Cursors.{AreCursors};
 ghost use Rattle.qz_shard.specs.Decisions.{IsSound};
 ghost use Rattle.qz_shard.specs.Holdings.{is_shard};
 
 use crate::book::Book;
+use crate::cursors::Cursors;
 use crate::job_puts::{can_close, can_rebind, can_skip};
 use crate::new_versions::learns_new;
 use crate::request_puts::can_put;
@@ -97,10 +99,17 @@ fn can_begin(
 }
 
 /// Whether what a record says may have happened behind the list.
-fn can_stand_by(alloc: Global, book: &Book, made: &Record) -> Result<bool, NoMemory>
+fn can_stand_by(
+    alloc: Global,
+    book: &Book,
+    cursors: &mut Cursors,
+    made: &Record,
+) -> Result<bool, NoMemory>
     requires sound { IsSound book.now }
     requires kept { IsKept made.now }
-    ensures { IfOk result (λ b. b ≡ can_stand_by book.now made.now (made.now).event) }
+    requires cursors { AreCursors cursors.old book.now }
+    ensures allowed { IfOk result (λ b. b ≡ can_stand_by book.now made.now (made.now).event) }
+    ensures cursors { AreCursors cursors.new book.now }
 {
     match &made.event {
         Event::Started {
@@ -119,6 +128,7 @@ fn can_stand_by(alloc: Global, book: &Book, made: &Record) -> Result<bool, NoMem
         } => can_rebind(
             alloc,
             book,
+            cursors,
             made,
             *job,
             *attempt,
@@ -137,7 +147,7 @@ fn can_stand_by(alloc: Global, book: &Book, made: &Record) -> Result<bool, NoMem
             job,
             quiz,
             position,
-        } => can_close(alloc, book, made, *job, *quiz, *position),
+        } => can_close(alloc, book, cursors, made, *job, *quiz, *position),
         Event::Founded { .. } | Event::Asked { .. } => Ok(false),
     }
 }
@@ -147,13 +157,15 @@ fn can_stand(
     alloc: Global,
     book: &Book,
     keys: &Keys,
+    cursors: &mut Cursors,
     index: u8,
     count: u8,
     made: &Record,
 ) -> Result<bool, NoMemory>
-    requires answering { IsAnswering index count book.now keys.now }
+    requires answering { IsAnswering index count book.now keys.now cursors.old }
     requires kept { IsKept made.now }
-    ensures { IfOk result (λ b. b ≡ can_stand index count book.now made.now) }
+    ensures allowed { IfOk result (λ b. b ≡ can_stand index count book.now made.now) }
+    ensures cursors { AreCursors cursors.new book.now }
 {
     if !has_its_owner(index, count, made)
         || book.time(made.owner, made.moment) != made.moment
@@ -161,7 +173,7 @@ fn can_stand(
     {
         return Ok(false);
     }
-    can_stand_by(alloc, book, made)
+    can_stand_by(alloc, book, cursors, made)
 }
 
 /// Whether a record is allowed behind the list of the shard with this index, of so many: a request or a job of some user under some
@@ -170,13 +182,15 @@ pub(crate) fn is_allowed(
     alloc: Global,
     book: &Book,
     keys: &Keys,
+    cursors: &mut Cursors,
     index: u8,
     count: u8,
     made: &Record,
 ) -> Result<bool, NoMemory>
-    requires answering { IsAnswering index count book.now keys.now }
+    requires answering { IsAnswering index count book.now keys.now cursors.old }
     requires kept { IsKept made.now }
-    ensures { IfOk result (λ b. Decides b (IsAllowed index count book.now made.now)) }
+    ensures allowed { IfOk result (λ b. Decides b (IsAllowed index count book.now made.now)) }
+    ensures cursors { AreCursors cursors.new book.now }
 {
-    can_stand(alloc, book, keys, index, count, made)
+    can_stand(alloc, book, keys, cursors, index, count, made)
 }

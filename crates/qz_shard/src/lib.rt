@@ -3,6 +3,7 @@
 
 mod attempts;
 mod book;
+mod cursors;
 mod decision;
 mod fates;
 mod feedback;

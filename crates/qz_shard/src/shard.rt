@@ -1,12 +1,12 @@
 //! A shard and what is asked of it.
 
-ghost use Rattle.std.specs.Prelude.{◌≡◌, ◌⊎◌, ◌+◌, ◌≤◌, List, [], length, map, true, false, Ok, Some, None, option_map, IfOk, IfErr, OnOk, OnErr, MatchResult};
+ghost use Rattle.std.specs.Prelude.{◌≡◌, ◌⊎◌, ◌+◌, ◌≤◌, List, [], length, map, true, false, Ok, Some, None, option_map, option_copied, IfOk, IfErr, OnOk, OnErr, MatchResult};
 ghost use Rattle.qz_decimal.specs.Numbers.{IsMaxSum, IsQuizGrade};
 ghost use Rattle.qz_grading.specs.declared.refusal.Refusal.TheVariants as refusal;
 ghost use Rattle.qz_terms.specs.declared.reply.Done.TheVariants as done;
 ghost use Rattle.qz_terms.specs.declared.reply.Reply.TheVariants as reply;
 ghost use Rattle.qz_terms.specs.Answer.{named_user};
-ghost use Rattle.qz_terms.specs.History.{live_after, place, quiz, takers};
+ghost use Rattle.qz_terms.specs.History.{live_after, place, quiz, takers, version};
 ghost use Rattle.qz_terms.specs.Legal.{IsLegal};
 ghost use Rattle.qz_shard.specs.Answering.{IsAnswered, IsPosed};
 ghost use Rattle.qz_shard.specs.Grades.{graded};
@@ -17,13 +17,14 @@ ghost use Rattle.qz_shard.specs.Nexts.{IsNext, IsPutWith};
 ghost use Rattle.qz_shard.specs.Works.{IsWorked};
 
 use crate::book::Book;
+use crate::cursors::Cursors;
 use crate::decision::{Decision, decide};
 use crate::looking::seen;
 use crate::putting::{moment_of, record_of, tell};
 use crate::rows::rows;
 use crate::working::{Work, work_on};
 use qz_decimal::Grade;
-use qz_grading::{AttemptId, Refusal, Steps, Thing};
+use qz_grading::{AttemptId, Question, Refusal, Steps, Thing};
 use qz_index::Keys;
 use qz_terms::{Ask, Done, Job, Plan, Policy, Record, Reply, Request, User, named_user};
 use qz_text::{Listed, NoMemory};
@@ -50,14 +51,15 @@ fn idle(book: &Book, user: &User, request: &Request) -> Reply
 
 /// The records of the attempts of a part of the users: those whose number, modulo the number of shards, is the shard's index.
 ///
-/// Beside them it keeps an index of them, what each attempt has come to, and what was said under each key. So a request walks no
-/// list of records, and only a step that is put is graded.
+/// Beside them it keeps an index of them, what each attempt has come to, what was said under each key, and how far the jobs at work
+/// have come. So a request walks no list of records, and only a step that is put is graded.
 #[derive(Drop)]
 pub struct Shard {
     index: u8,
     count: u8,
     book: Book,
     keys: Keys,
+    cursors: Cursors,
 }
 
 impl Model for Shard {
@@ -69,7 +71,7 @@ impl Model for Shard {
 
     ghost view = { λ s. record { index = s.index; count = s.count; records = s.book } };
 
-    ghost invariant = { λ s. IsAnswering s.index s.count s.book s.keys };
+    ghost invariant = { λ s. IsAnswering s.index s.count s.book s.keys s.cursors };
 }
 
 impl Shard {
@@ -83,6 +85,7 @@ impl Shard {
             count,
             book: Book::new(alloc),
             keys: Keys::new(alloc),
+            cursors: Cursors::new(alloc),
         }
     }
 
@@ -212,6 +215,9 @@ impl Shard {
     /// left the job is done here, and where it was done before nothing is put. The reply is the answer over the list before, and the
     /// list afterwards has the answer's record at its end where the answer puts one. A target for which the plan has no slot
     /// is `Unknown`, and nothing is put. Where memory is wanting the reply is `Memory` and the list is as before.
+    ///
+    /// A target is looked for behind the attempts that the job has passed, so that the cost of a whole job grows with its targets and
+    /// the attempts of its quiz, and not with their product.
     pub fn work<L: Ledger>(
         &mut self,
         alloc: Global,
@@ -248,7 +254,7 @@ impl Shard {
         ensures count { steps.new ≤ steps.old + most_of_work self.old.records job.now }
         ensures still { self.new.records ≡ self.old.records → steps.new ≡ steps.old }
     {
-        let made = match work_on(alloc, &self.book, now, caller, job)? {
+        let made = match work_on(alloc, &self.book, &mut self.cursors, now, caller, job)? {
             Work::AlreadyDone(place) => {
                 return Ok(Reply::Ok {
                     place,
@@ -307,6 +313,7 @@ impl Shard {
         self.keys.grow(alloc, &made)?;
         let place = self.book.as_slice().len();
         self.book.put(alloc, made, steps)?;
+        self.cursors.follow(&self.book.as_slice()[place]);
         Ok(tell(&self.book, &mut self.keys, place))
     }
 
@@ -319,5 +326,15 @@ impl Shard {
         };
         let floor = self.book.floor(plan.quiz);
         (plan.at < floor).then_some(floor)
+    }
+}
+
+#[cfg(test)]
+impl Shard {
+    /// The question of a version, if the shard has learned it.
+    pub(crate) fn version(&self, entry: u32, number: u32) -> Option<&Question>
+        ensures { option_copied result ≡ version self.now.records entry number }
+    {
+        self.book.version(entry, number)
     }
 }

@@ -1,12 +1,17 @@
 //! The slots that a job has left, and the first of them.
 
-ghost use Rattle.std.specs.Prelude.{◌≡◌, None, Some, filter, find, if◌then◌else◌, IfOk};
-ghost use Rattle.std.specs.Option.{option_copied, option_or};
+ghost use Rattle.std.specs.Prelude.{◌≡◌, ℕ, None, Some, filter, if◌then◌else◌, option_map, IfOk};
+ghost use Rattle.std.specs.Option.{option_or};
+ghost use Rattle.qz_grading.specs.declared.refusal.AttemptId.{AttemptId};
+ghost use Rattle.qz_index.specs.Orders.{attempt_after};
 ghost use Rattle.qz_terms.specs.History.{is_target, targets};
 ghost use Rattle.qz_terms.specs.Lists.{first_of};
-ghost use Rattle.qz_shard.specs.Works.{first_left, has_left};
+ghost use Rattle.qz_shard.specs.Cursors.{AreCursors, IsPassed};
+ghost use Rattle.qz_shard.specs.Decisions.{IsSound};
+ghost use Rattle.qz_shard.specs.Works.{first_left};
 
 use crate::book::Book;
+use crate::cursors::Cursors;
 use qz_grading::AttemptId;
 use qz_text::NoMemory;
 use std::alloc::Global;
@@ -50,42 +55,55 @@ fn first_left(book: &Book, job: u32, position: u64, attempt: AttemptId) -> Optio
     found
 }
 
-/// Whether a slot of an attempt is left to a job.
-fn has_left(book: &Book, job: u32, position: u64, attempt: AttemptId) -> bool
-    ensures { result ≡ has_left book.now job position attempt }
-{
-    first_left(book, job, position, attempt).is_some()
+/// What a search for a target came to: no slot of an attempt up to `passed` is left, and the next one has the target, if any is left.
+#[derive(Clone, Copy)]
+struct Search {
+    passed: AttemptId,
+    target: Option<(AttemptId, u16)>,
 }
 
-/// The first of these attempts that has a slot left.
-fn first_attempt<'a>(
-    book: &Book,
-    job: u32,
-    position: u64,
-    attempts: &'a [AttemptId],
-) -> Option<&'a AttemptId>
-    ensures { option_copied result ≡ find (has_left book.now job position) attempts.now }
+/// The first slot that is left to a job of a quiz, in order of user, attempt and slot; of attempts live or ended. Up to `passed` none
+/// is left, so the attempts of the quiz are gone through from there.
+fn first_target(book: &Book, job: u32, quiz: u32, position: u64, passed: AttemptId) -> Search
+    requires sound { IsSound book.now }
+    requires passed { IsPassed book.now quiz job position passed }
+    ensures target { result.target ≡ first_of (targets book.now job quiz position) }
+    ensures passed { IsPassed book.now quiz job position result.passed }
+    ensures next { attempt_after book.now quiz result.passed
+        ≡ option_map (λ (t : AttemptId × ℕ). t.0) result.target }
 {
-    attempts.iter().find(|attempt| has_left(book, job, position, **attempt))
+    let mut passed = passed;
+    while let Some(attempt) = book.attempt_after(quiz, passed) {
+        if let Some(slot) = first_left(book, job, position, attempt) {
+            return Search {
+                passed,
+                target: Some((attempt, slot)),
+            };
+        }
+        passed = attempt;
+    }
+    Search {
+        passed,
+        target: None,
+    }
 }
 
-/// The first slot that is left to a job of a quiz, in order of user, attempt and slot; of attempts live or ended. The attempts of
-/// the quiz are gone through from the first.
-pub(crate) fn first_target(
+/// The first slot that is left to a job of a quiz. The search goes on where the job's last one ended, and how far it comes is kept.
+pub(crate) fn next_target(
     alloc: Global,
     book: &Book,
+    cursors: &mut Cursors,
     job: u32,
     quiz: u32,
     position: u64,
 ) -> Result<Option<(AttemptId, u16)>, NoMemory>
-    ensures { IfOk result (λ target. target ≡ first_of (targets book.now job quiz position)) }
+    requires sound { IsSound book.now }
+    requires cursors { AreCursors cursors.old book.now }
+    ensures target { IfOk result (λ target. target ≡ first_of (targets book.now job quiz position)) }
+    ensures cursors { AreCursors cursors.new book.now }
 {
-    let attempts = book.attempts_of(alloc, quiz)?;
-    let Some(attempt) = first_attempt(book, job, position, &attempts) else {
-        return Ok(None);
-    };
-    match first_left(book, job, position, *attempt) {
-        Some(slot) => Ok(Some((*attempt, slot))),
-        None => Ok(None),
-    }
+    let passed = cursors.passed(job, quiz, position);
+    let search = first_target(book, job, quiz, position, passed);
+    cursors.keep(alloc, job, quiz, position, search.passed)?;
+    Ok(search.target)
 }

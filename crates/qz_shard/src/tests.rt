@@ -1,8 +1,11 @@
-ghost use Rattle.std.specs.Prelude.{◌≡◌, ◌<◌, length, true, false, IfOk, IsTrue};
+ghost use Rattle.std.specs.Prelude.{◌≡◌, ◌<◌, ◌*◌, ◌∷◌, [], length, true, false, pos, IfOk, IsTrue};
+ghost use Rattle.qz_decimal.specs.Numbers.{one};
 ghost use Rattle.qz_terms.specs.Cause.{is_keyless};
 ghost use Rattle.qz_terms.specs.Kept.{IsKeptPlan, KeepsAsked, is_moment};
 ghost use Rattle.qz_terms.specs.Legal.{is_plan_for};
 ghost use Rattle.qz_shard.specs.Holdings.{IsAsked, StartsHere, is_change, is_look};
+
+mod jobs;
 
 use super::*;
 use qz_decimal::{Fraction, Grade, Mark, ONE};
@@ -45,16 +48,26 @@ fn plan(alloc: Global) -> Result<Plan, NoMemory>
     ensures quiz { IfOk result (λ p. p.quiz ≡ 1) }
     ensures whole { IfOk result (λ p. length p.questions ≡ length p.slots) }
 {
+    plan_of(alloc, 7, 1)
+}
+
+/// That plan at another position, with another version of its question.
+fn plan_of(alloc: Global, at: u64, version: u32) -> Result<Plan, NoMemory>
+    ensures kept { IfOk result IsKeptPlan }
+    ensures quiz { IfOk result (λ p. p.quiz ≡ 1) }
+    ensures whole { IfOk result (λ p. length p.questions ≡ length p.slots) }
+    ensures slots { IfOk result (λ p. p.slots ≡ record { entry = 1; version = version; max = pos (3 * one) } ∷ []) }
+{
     let mut slots = Vec::new(alloc);
     slots.push(Planned {
         entry: 1,
-        version: 1,
+        version,
         max: Mark(3 * ONE),
     })?;
     let mut questions = Vec::new(alloc);
     questions.push(truth(alloc, true, Fraction(3_333_333))?)?;
     Ok(Plan {
-        at: 7,
+        at,
         quiz: 1,
         name: empty(alloc),
         ready: true,

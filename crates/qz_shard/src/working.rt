@@ -7,11 +7,13 @@ ghost use Rattle.qz_grading.specs.Shapes.{same_shape};
 ghost use Rattle.qz_terms.specs.Answer.{learned_as, new_versions, put_target, rebound_or_skipped, record_of_job, target_event};
 ghost use Rattle.qz_terms.specs.History.{question};
 ghost use Rattle.qz_terms.specs.Kept.{IsKept};
+ghost use Rattle.qz_shard.specs.Cursors.{AreCursors};
 ghost use Rattle.qz_shard.specs.Decisions.{IsSound};
 ghost use Rattle.qz_shard.specs.Works.{IsWork};
 
 use crate::book::Book;
-use crate::targets::first_target;
+use crate::cursors::Cursors;
+use crate::targets::next_target;
 use qz_grading::{AttemptId, Question, Shape, shape_of};
 use qz_terms::{Bound, Event, Job, Learned, Planned, Record};
 use qz_text::{Listed, NoMemory, TryCopy};
@@ -186,22 +188,25 @@ fn put_target(
     Ok(Some(record_of(moment, caller, attempt.user, event)))
 }
 
-/// What a worker's request comes to. One target is taken, and the job is done where none is left.
+/// What a worker's request comes to. One target is taken, and the job is done where none is left. How far the job has come is kept.
 pub(crate) fn work_on(
     alloc: Global,
     book: &Book,
+    cursors: &mut Cursors,
     now: u64,
     caller: u32,
     job: &Job,
 ) -> Result<Work, NoMemory>
     requires sound { IsSound book.now }
     requires questions { All IsQuestion job.now.plan.questions }
-    ensures { IfOk result (IsWork book.now now caller job.now) }
+    requires cursors { AreCursors cursors.old book.now }
+    ensures work { IfOk result (IsWork book.now now caller job.now) }
+    ensures cursors { AreCursors cursors.new book.now }
 {
     if let Some(place) = book.done_place(job.number) {
         return Ok(Work::AlreadyDone(place));
     }
-    let target = first_target(alloc, book, job.number, job.plan.quiz, job.position)?;
+    let target = next_target(alloc, book, cursors, job.number, job.plan.quiz, job.position)?;
     match put_target(alloc, book, now, caller, job, target)? {
         Some(record) => Ok(Work::Put(record)),
         None => Ok(Work::NoSlot),

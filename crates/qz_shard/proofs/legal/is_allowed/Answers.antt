@@ -7,8 +7,8 @@ use Rattle.qz_shard.proofs.Making.{if_ok-more}
 use Rattle.qz_shard.proofs.StandLemmas.{stand-decides}
 use Rattle.qz_shard.proofs.legal.is_allowed.Goals as goal
 
-pub returns : goal.returns
-returns c =
+pub returns-clause-allowed : goal.returns-clause-allowed
+returns-clause-allowed c =
     let test = can_stand c.args.index c.args.count c.args.book.now c.args.made.now in
     if_ok-more c.can_stand.result (λ b. b ≡ test) (λ b. Decides b (IsAllowed c.args.index c.args.count c.args.book.now c.args.made.now))
-    (λ b is. Decides-at b test is (stand-decides c.args.index c.args.count c.args.book.now c.args.made.now)) c.can_stand.ensures
+    (λ b is. Decides-at b test is (stand-decides c.args.index c.args.count c.args.book.now c.args.made.now)) c.can_stand.ensures.allowed

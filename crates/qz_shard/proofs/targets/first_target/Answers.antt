@@ -1,38 +1,21 @@
-use Rattle.std.proofs.Common.{◌≡◌, ℕ, Option, Some, None, sym, ap, ◌∙◌, option_map}
-use Rattle.std.specs.Option.{option_copied}
-use Rattle.std.specs.Prelude.{filter}
-use Rattle.qz_grading.specs.declared.refusal.AttemptId.{AttemptId}
-use Rattle.qz_terms.specs.Lists.{first_of}
-use Rattle.qz_shard.specs.Works.{has_left}
-use Rattle.qz_shard.proofs.TargetLemmas.{attempts_of, found-in, target-by}
+use Rattle.std.proofs.Common.{sym, ◌∙◌}
+use Rattle.qz_shard.proofs.SearchLemmas.{fewer, no-target, none-here, passed-more, target-there}
 use Rattle.qz_shard.proofs.targets.first_target.Goals as goal
 
-pub returns-in_default : goal.returns-in_default
-returns-in_default c =
-    let h = c.args.book.now in
-    let job = c.args.job in
-    let q = c.args.quiz in
-    let position = c.args.position in
-    let told : None ≡ first_of (filter (has_left h job position) (attempts_of h q)) =
-    found-in h job q position c.deref.result.now None (sym (ap option_copied c.in_default.is) ∙ c.first_attempt.ensures) (c.deref.ensures.value ∙ c.in_ok-attempts.ensures) in
-    sym (target-by h job q position None told)
+pub returns-in-Some-first_left-clause-target : goal.returns-in-Some-first_left-clause-target
+returns-in-Some-first_left-clause-target c =
+    let sound = c.requires.sound in
+    sym (target-there sound.index sound.count c.args.book.now c.args.job c.args.quiz c.args.position c.loop-attempt.passed sound.held.legal c.loop-attempt.invariant c.in-Some.attempt c.in-Some-first_left.slot (sym c.in-Some.ensures) (sym c.in-Some-first_left.ensures))
 
-pub returns-in-Some-first_left : goal.returns-in-Some-first_left
-returns-in-Some-first_left c =
-    let h = c.args.book.now in
-    let job = c.args.job in
-    let q = c.args.quiz in
-    let position = c.args.position in
-    let told : Some c.in-Some.attempt.now ≡ first_of (filter (has_left h job position) (attempts_of h q)) =
-    found-in h job q position c.deref.result.now (Some c.in-Some.attempt.now) (sym (ap option_copied c.in-Some.is) ∙ c.first_attempt.ensures) (c.deref.ensures.value ∙ c.in_ok-attempts.ensures) in
-    sym (target-by h job q position (Some c.in-Some.attempt.now) told ∙ ap (option_map (λ (k : ℕ). (c.in-Some.attempt.now, k))) (sym c.first_left.ensures ∙ c.in-Some-first_left.is))
+pub loop-attempt-smaller : goal.loop-attempt-smaller
+loop-attempt-smaller c = fewer c.args.book.now c.args.quiz c.loop-attempt.passed c.in-Some.attempt (sym c.in-Some.ensures)
 
-pub returns : goal.returns
-returns c =
-    let h = c.args.book.now in
-    let job = c.args.job in
-    let q = c.args.quiz in
-    let position = c.args.position in
-    let told : Some c.in-Some.attempt.now ≡ first_of (filter (has_left h job position) (attempts_of h q)) =
-    found-in h job q position c.deref.result.now (Some c.in-Some.attempt.now) (sym (ap option_copied c.in-Some.is) ∙ c.first_attempt.ensures) (c.deref.ensures.value ∙ c.in_ok-attempts.ensures) in
-    sym (target-by h job q position (Some c.in-Some.attempt.now) told ∙ ap (option_map (λ (k : ℕ). (c.in-Some.attempt.now, k))) (sym c.first_left.ensures ∙ c.in-None.is))
+pub loop-attempt-preserved : goal.loop-attempt-preserved
+loop-attempt-preserved c =
+    passed-more c.args.book.now c.args.quiz c.args.job c.args.position c.loop-attempt.passed c.in-Some.attempt c.loop-attempt.invariant (sym c.in-Some.ensures)
+    (none-here _ (sym c.in_default-first_left.is ∙ c.first_left.ensures))
+
+pub returns-clause-target : goal.returns-clause-target
+returns-clause-target c =
+    let sound = c.requires.sound in
+    sym (no-target sound.index sound.count c.args.book.now c.args.job c.args.quiz c.args.position c.loop-attempt.passed sound.held.legal c.loop-attempt.invariant (sym c.in_default.ensures))
