@@ -21,10 +21,10 @@ use Rattle.qz_shard.specs.declared.cursors.Cursor.{Cursor}
 use Rattle.qz_shard.specs.declared.cursors.Cursors.{Cursors}
 use Rattle.qz_shard.specs.Cursors.{AreCursors, IsPassed, cursor_at, cursor_of, followed, followed_by, front, moved_back, passed_by, place_before, plan_position}
 use Rattle.qz_shard.specs.Works.{first_left, has_left}
-use Rattle.qz_shard.proofs.Effects.{Does, acts, attempt_of, begins, does, finishes, leaves, one-attempt, rebinds}
+use Rattle.qz_shard.proofs.Effects.{Does, acts, begins, does, finishes, leaves, rebinds}
+use Rattle.qz_lives.proofs.Effects.{attempt_of, made, one-attempt}
 use Rattle.qz_lives.proofs.Keeping.{and-left, and-right, at_place-passes, start-record}
 use Rattle.qz_lives.proofs.Legality.{started-number}
-use Rattle.qz_lives.proofs.Effects.{made}
 use Rattle.qz_lives.proofs.Orders.{before-after, by-number, never-both, one}
 use Rattle.qz_shard.proofs.Placing.{bound-more, or-none, placed, start-more}
 use Rattle.qz_shard.proofs.TargetLemmas.{first-is_target, some-bound}

@@ -14,7 +14,7 @@ use Rattle.qz_terms.specs.Lists.{first_of, in_order}
 use Rattle.qz_terms.specs.History.{Start, attempt_at, attempt_before, quiz, same_attempt, started, targets}
 use Rattle.qz_shard.specs.Cursors.{IsPassed}
 use Rattle.qz_shard.specs.Works.{first_left, has_left}
-use Rattle.qz_shard.proofs.Effects.{one-attempt}
+use Rattle.qz_lives.proofs.Effects.{one-attempt}
 use Rattle.qz_lives.proofs.Members.{behind-all}
 use Rattle.qz_lives.proofs.Orders.{Before, Rising, before-all, never-back, not-before, one, in_order-rises}
 use Rattle.qz_shard.proofs.TargetLemmas.{OfQuiz, all-of_quiz, attempts_of, none-left, of-all, target-by}
