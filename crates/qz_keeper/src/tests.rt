@@ -5,19 +5,22 @@ ghost use Rattle.qz_terms.specs.Spelling.{spelling};
 use super::*;
 use qz_disks::{KeepErr, Keeper, MemoryKeeper};
 use qz_terms::{Event, Record};
-use qz_text::{Bytes, Listed, NoMemory};
+use qz_text::{Bytes, Listed, TryCopy};
 use std::alloc::Global;
+use std::process::Abort;
 use std::test::Fail;
 
-// A keeper that fails each append, and keeps the payload all the same. It tells nothing of its list.
+// A keeper that tells nothing of its list. It fails each append, and keeps the payload or not, and so many reopenings.
 #[derive(Drop)]
-struct KeepsAll {
+struct Failing {
     payloads: Listed<Bytes>,
     doubt: Option<Bytes>,
+    keeps: bool,
+    failures: u64,
     faults: u64,
 }
 
-impl Keeper for KeepsAll {
+impl Keeper for Failing {
     ghost use Rattle.std.specs.Prelude.{None};
 
     ghost kept = { λ _. None };
@@ -30,24 +33,25 @@ impl Keeper for KeepsAll {
 
     fn append(&mut self, alloc: Global, payload: &[u8]) -> Result<(), KeepErr> {
         let copy = Bytes::of(alloc, payload)?;
-        let kept = Bytes::of(alloc, payload)?;
-        self.payloads.items.push(kept)?;
-        self.faults = self.faults.saturating_add(1);
+        if self.keeps {
+            let kept = Bytes::of(alloc, payload)?;
+            self.payloads.items.push(kept)?;
+        }
         self.doubt = Some(copy);
+        self.faults = self.faults.saturating_add(1);
         Err(KeepErr::Fault)
     }
 
     fn reopen(&mut self, alloc: Global) -> Result<Listed<Bytes>, KeepErr> {
         let copy = self.payloads.try_copy(alloc)?;
+        if self.failures > 0 {
+            self.failures -= 1;
+            self.faults = self.faults.saturating_add(1);
+            return Err(KeepErr::Fault);
+        }
         self.doubt = None;
         Ok(copy)
     }
-}
-
-fn listed(alloc: Global, numbers: &[u64]) -> Result<Listed<u64>, NoMemory> {
-    Ok(Listed {
-        items: Vec::from_slice(alloc, numbers)?,
-    })
 }
 
 // The first job, of the first quiz, was done at position 9: a worker's record of moment 100, which has 35 bytes.
@@ -69,59 +73,63 @@ fn done() -> Record
     }
 }
 
+// The moment of a record that was given.
+fn moment_of(given: Option<Record>) -> Option<u64> {
+    let moment = given.as_ref().map(|record| record.moment);
+    drop(given);
+    moment
+}
+
 #[test]
-fn a_record_is_given_back(rt: HostRuntime) -> Result<(), Fail> {
+fn a_record_is_kept_and_given_back(rt: HostRuntime) -> Result<(), Fail> {
     let alloc = rt.alloc();
     let keeper = MemoryKeeper::new(Listed::empty(alloc), Listed::empty(alloc));
     let mut records = RecordKeeper::new(keeper);
-    let Ok(given) = records.append(alloc, done()) else {
-        return Err("not kept".into());
-    };
-    assert_eq!(rt; given.moment, 100);
-    assert!(rt; records.doubt().is_none());
+    let moment = moment_of(records.append(alloc, done()).ok());
     let mut keeper = records.into_keeper();
+    assert_eq!(rt; moment, Some(100));
     let payloads = keeper.reopen(alloc)?;
     assert_eq!(rt; payloads.items.len(), 1);
     assert_eq!(rt; payloads.items[0].as_slice().len(), 35);
     Ok(())
 }
 
-#[test]
-fn what_a_keeper_lost_is_dropped(rt: HostRuntime) -> Result<(), Fail> {
-    let alloc = rt.alloc();
-    let keeper = MemoryKeeper::new(Listed::empty(alloc), listed(alloc, &[1, 2])?);
-    let mut records = RecordKeeper::new(keeper);
-    let Err(fault) = records.append(alloc, done()) else {
-        return Err("kept".into());
-    };
-    assert_eq!(rt; fault, KeepErr::Fault);
-    // A failure leaves it in doubt.
-    let Err(fault) = records.mend(alloc, 0) else {
-        return Err("mended".into());
-    };
-    assert_eq!(rt; fault, KeepErr::Fault);
+// The moment of the record that is given where one append and one reopening failed.
+fn mended(
+    rt: &impl Abort,
+    alloc: Global,
+    records: &mut RecordKeeper<Failing>,
+    count: u64,
+) -> Option<u64>
+    requires { records.old.doubt ≡ None }
+{
+    assert_eq!(rt;
+        records.append(alloc, done()).err(),
+        Some(KeepErr::Fault)
+    );
+    assert_eq!(rt; records.mend(alloc, count).err(), Some(KeepErr::Fault));
     assert!(rt; records.doubt().is_some());
-    assert!(rt; records.mend(alloc, 0)?.is_none());
+    let given = moment_of(records.mend(alloc, count).ok().flatten());
     assert!(rt; records.doubt().is_none());
-    Ok(())
+    given
 }
 
 #[test]
-fn what_a_keeper_kept_is_adopted(rt: HostRuntime) -> Result<(), Fail> {
+fn what_is_in_doubt_is_adopted_or_dropped(rt: HostRuntime) -> Result<(), Fail> {
     let alloc = rt.alloc();
-    // How many records the list has, and whether the one in doubt is the next.
-    for (count, adopted) in [(0, true), (1, false)] {
-        let keeper = KeepsAll {
+    // Whether the keeper keeps what it failed to append, how many records the list has, and the moment of what is given.
+    let rows = [(true, 0, Some(100)), (true, 1, None), (false, 0, None)];
+    for (keeps, count, moment) in rows {
+        let mut records = RecordKeeper::new(Failing {
             payloads: Listed::empty(alloc),
             doubt: None,
+            keeps,
+            failures: 1,
             faults: 0,
-        };
-        let mut records = RecordKeeper::new(keeper);
-        assert!(rt; records.mend(alloc, count)?.is_none());
-        assert!(rt; records.append(alloc, done()).is_err());
-        let given = records.mend(alloc, count)?;
-        assert_eq!(rt; given.is_some(), adopted);
-        assert!(rt; records.doubt().is_none());
+        });
+        let given = mended(&rt, alloc, &mut records, count);
+        drop(records);
+        assert_eq!(rt; given, moment);
     }
     Ok(())
 }
