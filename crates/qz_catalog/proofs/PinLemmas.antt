@@ -1,22 +1,19 @@
 -- The plans that jobs pinned.
-use Rattle.std.proofs.Common.{◌≡◌, ℕ, suc, ◌+◌, ◌≤◌, Bool, true, false, List, [], ◌∷◌, ◌++◌, Option, Some, None, length, map, take, option_map, refl, sym, ap, subst, ◌∙◌, arith, length-append, append-nil}
-use Rattle.std.specs.List.{enumerate_from, list_any}
-use Rattle.std.specs.Option.{option_or}
-use Rattle.std.specs.Prelude.{ℤ, filter_map, is_some, option_and_then, option_to_list, unwrap_or}
+use Rattle.std.proofs.Common.{◌≡◌, ℕ, suc, ◌+◌, ◌≤◌, false, List, [], ◌∷◌, ◌++◌, Option, Some, None, length, map, take, option_map, refl, sym, ap, subst, ◌∙◌, arith, length-append, append-nil}
+use Rattle.std.specs.List.{enumerate_from}
+use Rattle.std.specs.Prelude.{ℤ, filter_map, option_and_then, option_to_list, unwrap_or}
 use Rattle.std.proofs.lemmas.Grind.{flat_map-append}
 use Rattle.std.proofs.lemmas.List.{length-take-le, map-append, take-append-le, take_all}
 use Rattle.std.proofs.lemmas.List.Folds.{list_any-append}
 use Rattle.qz_grading.proofs.StepLemmas.{or-false}
 use Rattle.qz_grading.specs.declared.outcome.Behaviour.{Behaviour}
 use Rattle.qz_grading.specs.declared.question.Item.{Item}
-use Rattle.qz_grading.specs.declared.question.Question.{Question}
 use Rattle.qz_grading.specs.declared.refusal.Refusal.TheVariants as refusal
 use Rattle.qz_grading.specs.declared.refusal.Thing.TheVariants as thing
 use Rattle.qz_grading.specs.Grading.{at_place}
 use Rattle.qz_grading.specs.Steps.{last_of}
 use Rattle.qz_terms.specs.declared.access.Settings.{Settings}
 use Rattle.qz_terms.specs.declared.grades.Method.{Method}
-use Rattle.qz_terms.specs.declared.grades.Policy.{Policy}
 use Rattle.qz_terms.specs.declared.plan.Job.{Job}
 use Rattle.qz_terms.specs.declared.plan.Plan.{Plan}
 use Rattle.qz_terms.specs.declared.plan.Planned.{Planned}

@@ -1,7 +1,13 @@
+ghost use Rattle.std.specs.Prelude.{◌≡◌, false, true};
+ghost use Rattle.qz_terms.specs.Cause.{is_keyless};
+ghost use Rattle.qz_terms.specs.CatalogAnswer.{asks_catalog};
+ghost use Rattle.qz_terms.specs.Kept.{KeepsAsked, asks_described};
+
 use super::*;
-use qz_grading::{Refusal, Thing};
-use qz_terms::{Plan, Role, User};
+use qz_grading::{Behaviour, Refusal, Thing};
+use qz_terms::{Ask, Caller, Handling, Job, Plan, Reply, Request, Review, Role, User};
 use qz_text::Text;
+use std::alloc::Global;
 use std::test::Fail;
 
 fn is_admin(user: Result<User, Refusal>) -> bool {
@@ -33,5 +39,71 @@ fn knows_its_manager(rt: HostRuntime) -> Result<(), Fail> {
     assert!(rt; refused_user(catalog.user(alloc, &other)) == Some(Refusal::UnknownToken));
     let missing = Some(Refusal::Unknown { what: Thing::Quiz });
     assert!(rt; refused_plan(catalog.plan(alloc, 1, 1, true)) == missing);
+    Ok(())
+}
+
+/// Whether the manager is answered at the moment 1000, under this key.
+fn does(alloc: Global, catalog: &mut Catalog, key: &str, request: Request) -> Result<bool, Refusal>
+    requires here { asks_catalog request ≡ true }
+    requires keyed { is_keyless request ≡ false }
+    requires kept { KeepsAsked request }
+    requires described { asks_described request ≡ true }
+{
+    let token = Text::of(alloc, "root")?;
+    let user = catalog.user(alloc, &token)?;
+    let ask = Ask {
+        caller: Caller::Token(token),
+        key: Some(Text::of(alloc, key)?),
+        request,
+    };
+    let reply = catalog.apply(alloc, &user, &ask, 1000);
+    Ok(matches!(reply, Reply::Ok { .. }))
+}
+
+fn is_pinned(job: Result<Job, Refusal>, position: u64, closes: u64) -> bool {
+    match job {
+        Ok(job) => {
+            job.position == position
+                && job.plan.at == position
+                && job.plan.name.as_str() == "Quiz"
+                && job.plan.settings.closes == closes
+        }
+        Err(_) => false,
+    }
+}
+
+/// A quiz that is to close at the moment 500 from behind its first job on, and before the second.
+fn changed_quiz(alloc: Global) -> Result<Option<Catalog>, Refusal> {
+    let root = Text::of(alloc, "root")?;
+    let mut catalog = Catalog::new(alloc, 2, &root)?;
+    let name = Text::of(alloc, "Quiz")?;
+    let behaviour = Behaviour::Deferred;
+    let quiz = Request::Quiz { name, behaviour };
+    let times = Request::Times {
+        quiz: 1,
+        opens: 0,
+        closes: 500,
+        limit: 0,
+        allowed: 0,
+        handling: Handling::AutoSubmit,
+        grace: 0,
+        review: Review::Always,
+    };
+    let made = does(alloc, &mut catalog, "quiz", quiz)?;
+    let ready = does(alloc, &mut catalog, "ready", Request::Ready { quiz: 1 })?;
+    let first = does(alloc, &mut catalog, "first", Request::Regrade { quiz: 1 })?;
+    let closed = does(alloc, &mut catalog, "times", times)?;
+    let second = does(alloc, &mut catalog, "second", Request::Regrade { quiz: 1 })?;
+    Ok((made && ready && first && closed && second).then_some(catalog))
+}
+
+/// What is changed behind a job changes no job that was there.
+#[test]
+fn job_keeps_what_it_pinned(rt: HostRuntime) -> Result<(), Fail> {
+    let alloc = rt.alloc();
+    let catalog = changed_quiz(alloc).ok().flatten().ok_or("made")?;
+    assert!(rt; is_pinned(catalog.job(alloc, 1), 4, 0));
+    assert!(rt; is_pinned(catalog.job(alloc, 2), 6, 500));
+    assert!(rt; catalog.job(alloc, 3).err() == Some(Refusal::Unknown { what: Thing::Job }));
     Ok(())
 }

@@ -1,7 +1,6 @@
-use Rattle.std.proofs.Common.{◌≡◌, Some, None, ap, sym, ◌∙◌}
+use Rattle.std.proofs.Common.{◌≡◌, Some, ap, sym, ◌∙◌}
 use Rattle.std.specs.Prelude.{option_copied}
 use Rattle.qz_grading.specs.Grading.{at_place}
-use Rattle.qz_terms.specs.declared.plan.Plan.{Plan}
 use Rattle.qz_catalog.specs.Readings.{with_questions}
 use Rattle.qz_catalog.proofs.PinLemmas.{job-pinned}
 use Rattle.qz_catalog.proofs.jobs.job.Goals as goal

@@ -1,7 +1,6 @@
 use Rattle.std.proofs.Common.{◌≡◌, ◌+◌, List, length, Some, None, option_map, sym, ap, subst, ◌∙◌, arith, false}
 use Rattle.qz_grading.specs.Grading.{at_place}
 use Rattle.qz_terms.specs.declared.access.Settings.{Settings}
-use Rattle.qz_terms.specs.declared.plan.Plan.{Plan}
 use Rattle.qz_terms.specs.declared.record.Record.{Record}
 use Rattle.qz_terms.specs.Catalog.{asked, own_settings, plan_under, quizzes, regrade_by}
 use Rattle.qz_roster.specs.Told.{named_in}
