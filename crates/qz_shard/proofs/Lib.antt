@@ -27,3 +27,4 @@ pub mod BeginLemmas
 pub mod StandLemmas
 pub mod LearnTests
 pub mod TakeLemmas
+pub mod LoadLemmas

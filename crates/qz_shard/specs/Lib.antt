@@ -10,3 +10,4 @@ pub mod Grades
 pub mod Works
 pub mod Pages
 pub mod Allowed
+pub mod Loads
