@@ -24,3 +24,4 @@ pub mod BeginLemmas
 pub mod StandLemmas
 pub mod LearnTests
 pub mod TakeLemmas
+pub mod LoadLemmas

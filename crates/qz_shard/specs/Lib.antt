@@ -11,3 +11,4 @@ pub mod Works
 pub mod Cursors
 pub mod Pages
 pub mod Allowed
+pub mod Loads

@@ -33,4 +33,6 @@ mod working;
 pub use shard::{Older, Shard};
 
 #[cfg(test)]
+mod load_tests;
+#[cfg(test)]
 mod tests;

@@ -1,6 +1,6 @@
 //! A shard and what is asked of it.
 
-ghost use Rattle.std.specs.Prelude.{◌≡◌, ◌⊎◌, ◌+◌, ◌≤◌, List, [], length, map, true, false, Ok, Some, None, option_map, option_copied, IfOk, IfErr, OnOk, OnErr, MatchResult};
+ghost use Rattle.std.specs.Prelude.{◌≡◌, ◌⊎◌, ◌+◌, ◌<◌, ◌≤◌, List, [], length, map, true, false, Ok, Some, None, option_map, option_copied, IfOk, IfErr, OnOk, OnErr, MatchResult};
 ghost use Rattle.qz_decimal.specs.Numbers.{IsMaxSum, IsQuizGrade};
 ghost use Rattle.qz_grading.specs.declared.refusal.Refusal.TheVariants as refusal;
 ghost use Rattle.qz_terms.specs.declared.reply.Done.TheVariants as done;
@@ -13,12 +13,14 @@ ghost use Rattle.qz_shard.specs.Grades.{graded};
 ghost use Rattle.qz_shard.specs.Holdings.{is_shard, is_change, is_look, IsAsked, StartsHere, older, Answers, IsAlone, IsAnsweredAgain, IsWorkable, Works};
 ghost use Rattle.qz_lives.specs.Changes.{gradings_by};
 ghost use Rattle.qz_shard.specs.Gradings.{most_gradings, most_of_work};
+ghost use Rattle.qz_shard.specs.Loads.{IsListFault, IsLoaded, IsTaken};
 ghost use Rattle.qz_shard.specs.Nexts.{IsNext, IsPutWith};
 ghost use Rattle.qz_shard.specs.Works.{IsWorked};
 
 use crate::book::Book;
 use crate::cursors::Cursors;
 use crate::decision::{Decision, decide};
+use crate::legal::is_allowed;
 use crate::looking::seen;
 use crate::putting::{moment_of, record_of, tell};
 use crate::rows::rows;
@@ -26,11 +28,12 @@ use crate::working::{Work, work_on};
 use qz_decimal::Grade;
 use qz_grading::{AttemptId, Question, Refusal, Steps, Thing};
 use qz_index::Keys;
+use qz_record::{ListFault, RecordFault, parse};
 use qz_terms::{Ask, Done, Job, Plan, Policy, Record, Reply, Request, User, named_user};
-use qz_text::{Listed, NoMemory};
+use qz_text::{Bytes, Listed, NoMemory};
 use std::alloc::Global;
-use std::marker::Model;
-use std::sync::ledger::Ledger;
+use std::marker::{Brand, Model};
+use std::sync::ledger::{Blank, Ledger};
 
 /// A start's plan is older than a job that is done here. It is to be read again, from a catalogue that has at least the
 /// position `floor`.
@@ -87,6 +90,56 @@ impl Shard {
             keys: Keys::new(alloc),
             cursors: Cursors::new(alloc),
         }
+    }
+
+    /// Reads a shard's list: one of `count` shards, which are from 1 to 64, whose records these payloads spell, in order.
+    ///
+    /// Each record has to be one that may stand behind those before it. `Illegal` names the first payload, from 1, that spells no such
+    /// record. What was said of a record with a key is kept again, so that a request that is asked again has the reply that it had.
+    pub fn load(
+        alloc: Global,
+        index: u8,
+        count: u8,
+        payloads: &[Bytes],
+    ) -> Result<Shard, ListFault>
+        requires { is_shard index count ≡ true }
+        ensures loaded { IfOk result (IsLoaded index count payloads.now) }
+        ensures illegal { IfErr result (IsListFault index count payloads.now) }
+    {
+        let mut shard = Shard::new(alloc, index, count);
+        for (place, payload) in payloads.iter().enumerate() {
+            if !shard.take::<Brand>(Blank::new(1), alloc, payload.as_slice())? {
+                return Err(ListFault::Illegal {
+                    nth: place as u64 + 1,
+                });
+            }
+        }
+        Ok(shard)
+    }
+
+    /// Takes the record that a payload spells, where it may stand at the end. Its gradings aren't counted.
+    fn take<L: Ledger>(
+        &mut self,
+        blank: Blank,
+        alloc: Global,
+        payload: &[u8],
+    ) -> Result<bool, NoMemory>
+        requires name { blank.name ≡ L.name }
+        requires parts { blank.parts ≡ L.parts }
+        requires some_part { 0 < blank.parts }
+        ensures taken { IfOk result (IsTaken self.old self.new payload.now) }
+        ensures shard { (self.new.index ≡ self.old.index) × (self.new.count ≡ self.old.count) }
+    {
+        let made = match parse(alloc, payload) {
+            Ok(made) => made,
+            Err(RecordFault::NotOne) => return Ok(false),
+            Err(RecordFault::Memory) => return Err(NoMemory),
+        };
+        if !is_allowed(alloc, &self.book, &self.keys, self.index, self.count, &made)? {
+            return Ok(false);
+        }
+        self.put(alloc, made, &mut Steps::<L>::open(blank))?;
+        Ok(true)
     }
 
     /// The number of records.

@@ -1,0 +1,19 @@
+use Rattle.std.proofs.Common.{refl}
+use Rattle.qz_shard.proofs.LoadLemmas.{next-read, none-behind}
+use Rattle.qz_shard.proofs.shard.Shard.take.Goals as goal
+
+pub put-requires : goal.put-requires
+put-requires g c = next-read c.args.self.now c.self.inside.index c.self.inside.count c.self.inside.book c.in-Ok.made c.in_ok-is_allowed.field-0 c.self.view_is c.in_ok-is_allowed.ensures c.if-not-branch.false c.in-Ok.ensures.found.0
+
+pub returns-then-not-branch-clause-taken : goal.returns-then-not-branch-clause-taken
+returns-then-not-branch-clause-taken g c =
+    (refl, none-behind c.args.self.now c.self.inside.index c.self.inside.count c.self.inside.book c.in-Ok.made c.args.payload.now c.in_ok-is_allowed.field-0 c.self.view_is c.in_ok-is_allowed.ensures c.if-not-branch.true c.in-Ok.ensures.only)
+
+pub returns-clause-taken : goal.returns-clause-taken
+returns-clause-taken g c = record {
+  made = c.in-Ok.made;
+  next = next-read c.args.self.now c.self.inside.index c.self.inside.count c.self.inside.book c.in-Ok.made c.in_ok-is_allowed.field-0 c.self.view_is c.in_ok-is_allowed.ensures c.if-not-branch.false c.in-Ok.ensures.found.0;
+  keeps = c.in-Ok.ensures.found.0;
+  spelled = c.in-Ok.ensures.found.1;
+  put = c.in_ok-put.ensures.put.put;
+}
