@@ -135,7 +135,15 @@ impl Shard {
             Err(RecordFault::NotOne) => return Ok(false),
             Err(RecordFault::Memory) => return Err(NoMemory),
         };
-        if !is_allowed(alloc, &self.book, &self.keys, self.index, self.count, &made)? {
+        if !is_allowed(
+            alloc,
+            &self.book,
+            &self.keys,
+            &mut self.cursors,
+            self.index,
+            self.count,
+            &made,
+        )? {
             return Ok(false);
         }
         self.put(alloc, made, &mut Steps::<L>::open(blank))?;
