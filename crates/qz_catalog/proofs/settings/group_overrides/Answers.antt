@@ -1,4 +1,4 @@
-use Rattle.std.proofs.Common.{◌+◌, ◌++◌, List, Option, Some, sym, ap, ◌∙◌, append-nil, ◌≡◌, length, arith}
+use Rattle.std.proofs.Common.{◌++◌, List, Option, Some, sym, ap, ◌∙◌, append-nil, ◌≡◌, length, arith}
 use Rattle.std.specs.Prelude.{filter_map, option_to_list}
 use Rattle.qz_terms.specs.declared.access.Override.{Override}
 use Rattle.qz_terms.specs.Catalog.{groups}
