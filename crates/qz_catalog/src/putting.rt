@@ -52,11 +52,7 @@ fn record_of(
 }
 
 /// Prepares what a request changes of the bank, if it does.
-fn prepare(
-    alloc: Global,
-    entries: &Entries,
-    request: &Request,
-) -> Result<Option<Prepared>, Refusal>
+fn prepare(alloc: Global, entries: &Entries, request: &Request) -> Result<Option<Prepared>, Refusal>
     ensures ready { IfOk result (MayPut entries.now) }
     ensures prepared { IfOk result (λ p. bank_with entries.now p ≡ bank_after entries.now request.now) }
     ensures free { OnOk result (bank_cause entries.now request.now ≡ None) }

@@ -12,13 +12,13 @@ use Rattle.qz_terms.specs.declared.request.Request.{Request}
 use Rattle.qz_terms.specs.declared.request.Request.TheVariants as request
 use Rattle.qz_terms.specs.declared.request.Whom.{Whom}
 use Rattle.qz_terms.specs.declared.request.Whom.TheVariants as whom
-use Rattle.qz_terms.specs.Catalog.{asked, override, override_by, same_whom}
+use Rattle.qz_terms.specs.Catalog.{asked, override, override_by}
 use Rattle.qz_terms.specs.Cause.{overridden, override_before, override_count}
 use Rattle.qz_terms.specs.Lists.{in_order, placed}
 use Rattle.qz_terms.proofs.Walks.{all_of-push}
 use Rattle.qz_roster.specs.declared.overrides.Overrides.{Overrides}
 use Rattle.qz_roster.specs.declared.told.Target.{Target as Whose}
-use Rattle.qz_roster.specs.Overrides.{AreOverrides, set_in, set_otherwise}
+use Rattle.qz_roster.specs.Overrides.{AreOverrides, set_otherwise}
 use Rattle.qz_roster.proofs.Reading.{length-told, some-same}
 
 -- ---- one number first, and then the rest

@@ -14,7 +14,7 @@ use Rattle.qz_terms.specs.Catalog.{asked, override, override_by, same_whom}
 use Rattle.qz_terms.proofs.Walks.{last_of-push}
 use Rattle.qz_roster.specs.declared.overrides.Overrides.{Overrides}
 use Rattle.qz_roster.specs.declared.told.Target.{Target}
-use Rattle.qz_roster.specs.Overrides.{AreOverrides, of_whom, set_in, set_otherwise}
+use Rattle.qz_roster.specs.Overrides.{AreOverrides, set_in, set_otherwise}
 use Rattle.qz_roster.specs.Pairs.{pair_cmp}
 use Rattle.qz_roster.proofs.Filled.{filled}
 use Rattle.qz_roster.proofs.OverrideCounts.{override_count-more, override_count-same}

@@ -1,9 +1,8 @@
-ghost use Rattle.std.specs.Prelude.{◌≡◌, ◌+◌, ◌<◌, length, OnOk};
+ghost use Rattle.std.specs.Prelude.{◌+◌, ◌<◌, ◌≤◌, vec_len, vec_capacity};
 ghost use Rattle.qz_roster.specs.Overrides.{AreOverrides};
 
 use super::*;
 use qz_terms::{Event, Record, Request, Whom};
-use qz_text::NoMemory;
 use std::test::Fail;
 
 /// A limit of a minute at a quiz, for a user or a group.
@@ -28,36 +27,40 @@ fn limited(quiz: u32, whom: Whom, number: u32) -> Record {
     }
 }
 
-/// Puts one record more, and counts.
-fn counted(
-    records: &mut Vec<Record>,
-    overrides: &mut Overrides,
-    record: Record,
-) -> Result<usize, NoMemory>
+/// Puts one record more, for which there is a place, and counts.
+fn counted(records: &mut Vec<Record>, overrides: &mut Overrides, record: Record) -> Option<usize>
     requires overrides { AreOverrides records.old.items overrides.old }
-    requires few { length records.old.items < 4 }
+    requires few { vec_len records.old < 4 }
+    requires place { 4 ≤ vec_capacity records.old }
     ensures overrides { AreOverrides records.new.items overrides.new }
-    ensures more { OnOk result (length records.new.items ≡ length records.old.items + 1) }
+    ensures more { vec_len records.new ≤ vec_len records.old + 1 }
+    ensures places { vec_capacity records.old ≤ vec_capacity records.new }
 {
-    records.reserve(1)?;
-    overrides.make_room(&record)?;
-    overrides.keep(records, &record);
-    records.push(record).unwrap();
-    Ok(overrides.count())
+    match overrides.make_room(&record) {
+        Ok(()) => {
+            overrides.keep(records, &record);
+            records.push(record).unwrap();
+            Some(overrides.count())
+        }
+        Err(_) => {
+            drop(record);
+            None
+        }
+    }
 }
 
 /// What is set again for the same quiz and user counts once, and a group isn't a user.
 #[test]
 fn each_pair_counts_once(rt: HostRuntime) -> Result<(), Fail> {
     let alloc = rt.alloc();
-    let mut records = Vec::new(alloc);
+    let mut records = Vec::with_capacity(alloc, 4)?;
     let mut overrides = Overrides::new(alloc);
     assert_eq!(rt; overrides.count(), 0);
-    let first = counted(&mut records, &mut overrides, limited(1, Whom::User, 2))?;
-    let group = counted(&mut records, &mut overrides, limited(1, Whom::Group, 2))?;
-    let again = counted(&mut records, &mut overrides, limited(1, Whom::User, 2))?;
-    let other = counted(&mut records, &mut overrides, limited(2, Whom::User, 2))?;
-    assert!(rt; first == 1 && group == 2 && again == 2 && other == 3);
+    let first = counted(&mut records, &mut overrides, limited(1, Whom::User, 2));
+    let group = counted(&mut records, &mut overrides, limited(1, Whom::Group, 2));
+    let again = counted(&mut records, &mut overrides, limited(1, Whom::User, 2));
+    let other = counted(&mut records, &mut overrides, limited(2, Whom::User, 2));
+    assert!(rt; first == Some(1) && group == Some(2) && again == Some(2) && other == Some(3));
     assert_eq!(rt; overrides.count(), 3);
     Ok(())
 }

@@ -73,16 +73,16 @@ pub returns-clause-reply : goal.returns-clause-reply
 returns-clause-reply c =
     let place : c.len-at.result ≡ length c.make_book_room.new.book.records.items = let long = c.len-at.ensures in omega arith in
     (put-done c.args.book.now.records.items c.make_book_room.new.book.records.items c.append.new.book.records.items c.args.book.now.entries c.append.new.book.entries
-      c.args.now c.args.user.now c.args.ask.now c.in_ok-record.record c.said.result c.len-at.result c.requires.posed c.in_ok-prepared.ensures.free c.in_ok-make_book_room.ensures.few
-      (c.in_ok-record.ensures ∙ ap (λ (l : List Record). record_in l c.args.now c.args.user.now c.args.ask.now) c.deref.ensures.value)
-      c.make_book_room.ensures.records c.append.ensures.records place c.said.ensures
-      (c.append.ensures.entries ∙ ap (λ (es : List Entry). bank_with es c.in_ok-prepared.prepared) c.make_book_room.ensures.entries ∙ c.in_ok-prepared.ensures.prepared)).reply
+    c.args.now c.args.user.now c.args.ask.now c.in_ok-record.record c.said.result c.len-at.result c.requires.posed c.in_ok-prepared.ensures.free c.in_ok-make_book_room.ensures.few
+    (c.in_ok-record.ensures ∙ ap (λ (l : List Record). record_in l c.args.now c.args.user.now c.args.ask.now) c.deref.ensures.value)
+    c.make_book_room.ensures.records c.append.ensures.records place c.said.ensures
+    (c.append.ensures.entries ∙ ap (λ (es : List Entry). bank_with es c.in_ok-prepared.prepared) c.make_book_room.ensures.entries ∙ c.in_ok-prepared.ensures.prepared)).reply
 
 pub returns-clause-list : goal.returns-clause-list
 returns-clause-list c =
     let place : c.len-at.result ≡ length c.make_book_room.new.book.records.items = let long = c.len-at.ensures in omega arith in
     (put-done c.args.book.now.records.items c.make_book_room.new.book.records.items c.append.new.book.records.items c.args.book.now.entries c.append.new.book.entries
-      c.args.now c.args.user.now c.args.ask.now c.in_ok-record.record c.said.result c.len-at.result c.requires.posed c.in_ok-prepared.ensures.free c.in_ok-make_book_room.ensures.few
-      (c.in_ok-record.ensures ∙ ap (λ (l : List Record). record_in l c.args.now c.args.user.now c.args.ask.now) c.deref.ensures.value)
-      c.make_book_room.ensures.records c.append.ensures.records place c.said.ensures
-      (c.append.ensures.entries ∙ ap (λ (es : List Entry). bank_with es c.in_ok-prepared.prepared) c.make_book_room.ensures.entries ∙ c.in_ok-prepared.ensures.prepared)).list
+    c.args.now c.args.user.now c.args.ask.now c.in_ok-record.record c.said.result c.len-at.result c.requires.posed c.in_ok-prepared.ensures.free c.in_ok-make_book_room.ensures.few
+    (c.in_ok-record.ensures ∙ ap (λ (l : List Record). record_in l c.args.now c.args.user.now c.args.ask.now) c.deref.ensures.value)
+    c.make_book_room.ensures.records c.append.ensures.records place c.said.ensures
+    (c.append.ensures.entries ∙ ap (λ (es : List Entry). bank_with es c.in_ok-prepared.prepared) c.make_book_room.ensures.entries ∙ c.in_ok-prepared.ensures.prepared)).list

@@ -1,9 +1,8 @@
-use Rattle.std.proofs.Common.{◌≡◌, ◌+◌, IsSome, Some, length, refl, sym, ap, subst, ◌∙◌, arith}
+use Rattle.std.proofs.Common.{◌+◌, IsSome, length, refl, sym, ap, subst, ◌∙◌, arith}
 use Rattle.std.specs.BTreeMap.{get}
 use Rattle.std.specs.Prelude.{is_some}
 use Rattle.qz_terms.specs.declared.request.Whom.{Whom}
-use Rattle.qz_terms.specs.Catalog.{asked}
-use Rattle.qz_roster.specs.Overrides.{of_whom, set_otherwise}
+use Rattle.qz_roster.specs.Overrides.{of_whom}
 use Rattle.qz_roster.specs.Pairs.{pair_cmp}
 use Rattle.qz_roster.proofs.OverrideCounts.{override_count-few}
 use Rattle.qz_roster.proofs.OverrideLemmas.{group-set, overrides-kept, overrides-same, user-set}
