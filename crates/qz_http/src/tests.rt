@@ -50,7 +50,9 @@ fn heads_are_judged(rt: HostRuntime) -> Result<(), Fail> {
 /// What a request for a page by a token of so many bytes gives.
 fn item_by_token(alloc: Global, bytes: usize) -> Result<Item, NoMemory> {
     let token = "t".repeat(alloc, bytes)?;
-    let head = format!(in alloc; "GET /attempt/2.1 HTTP/1.1\r\nAuthorization: Bearer {token}\r\n\r\n")?;
+    let head = format!(in alloc;
+        "GET /attempt/2.1 HTTP/1.1\r\nAuthorization: Bearer {token}\r\n\r\n"
+    )?;
     ended(alloc, head.as_str())?.next(alloc)
 }
 

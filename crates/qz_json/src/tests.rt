@@ -59,9 +59,9 @@ fn body_of_user(
     let key = "k".repeat(alloc, key)?;
     let name = name.0.repeat(alloc, name.1)?;
     let own = "o".repeat(alloc, own)?;
-    Ok(
-        format!(in alloc; "{{\"do\":\"user\",\"key\":\"{key}\",\"name\":\"{name}\",\"role\":\"student\",\"token\":\"{own}\"}}")?,
-    )
+    Ok(format!(in alloc;
+        "{{\"do\":\"user\",\"key\":\"{key}\",\"name\":\"{name}\",\"role\":\"student\",\"token\":\"{own}\"}}"
+    )?)
 }
 
 // A length is that of the text, in bytes.

@@ -103,10 +103,7 @@ fn mended(
 ) -> Option<u64>
     requires { records.old.doubt ≡ None }
 {
-    assert_eq!(rt;
-        records.append(alloc, done()).err(),
-        Some(KeepErr::Fault)
-    );
+    assert_eq!(rt; records.append(alloc, done()).err(), Some(KeepErr::Fault));
     assert_eq!(rt; records.mend(alloc, count).err(), Some(KeepErr::Fault));
     assert!(rt; records.doubt().is_some());
     let given = moment_of(records.mend(alloc, count).ok().flatten());

@@ -84,7 +84,7 @@ module _ (m : Lives) (l : List Record) (r : Record) (h : AreAttempts m l) where
     spared = (
       spared-finished,
       ap (λ (z : Bool). if z then total_of (map history.scored (slots (l ++ r ∷ []) b)) else None) spared-finished
-      ∙ ap (λ (xs : List Slot). if is_finished l b then total_of (map history.scored xs) else None) spared-slots,
+          ∙ ap (λ (xs : List Slot). if is_finished l b then total_of (map history.scored xs) else None) spared-slots,
     )
 
   -- ---- where no total changes

@@ -26,12 +26,7 @@ fn goes_on(book: &Book, settings: &Settings, moment: u64, attempt: AttemptId) ->
 }
 
 /// Whether an attempt that goes on is expired.
-pub(crate) fn is_overdue(
-    book: &Book,
-    moment: u64,
-    settings: &Settings,
-    attempt: AttemptId,
-) -> bool
+pub(crate) fn is_overdue(book: &Book, moment: u64, settings: &Settings, attempt: AttemptId) -> bool
     requires sound { IsSound book.now }
     ensures { result ≡ is_overdue book.now settings.now moment attempt }
 {

@@ -109,7 +109,12 @@ impl Cursors {
         ensures room { OnOk result (IsSome (get nat_cmp self.new.quizzes quiz)) }
     {
         if !self.quizzes.contains_key(&quiz) {
-            self.quizzes.insert(quiz, Track { jobs: BTreeMap::new(alloc) })?;
+            self.quizzes.insert(
+                quiz,
+                Track {
+                    jobs: BTreeMap::new(alloc),
+                },
+            )?;
         }
         Ok(())
     }
@@ -141,7 +146,7 @@ impl Cursors {
     fn start(&mut self, quiz: u32, attempt: AttemptId, plan: u64)
         ensures { (q job : ℕ) → cursor_at self.new q job
             ≡ (if quiz == q then option_map (moved_back attempt plan) (cursor_at self.old q job)
-                else cursor_at self.old q job) }
+            else cursor_at self.old q job) }
     {
         if let Some(track) = self.quizzes.get_mut(&quiz) {
             track.move_back(attempt, plan);

@@ -82,13 +82,7 @@ fn are_at_terms(made: &Record, bounds: &[Bound]) -> bool
 }
 
 /// Whether a record may start an attempt of a quiz, with these bounds.
-fn can_begin(
-    book: &Book,
-    made: &Record,
-    quiz: u32,
-    bounds: &[Bound],
-    learned: &[Learned],
-) -> bool
+fn can_begin(book: &Book, made: &Record, quiz: u32, bounds: &[Bound], learned: &[Learned]) -> bool
     requires sound { IsSound book.now }
     ensures { result ≡ can_begin book.now made.now quiz bounds.now learned.now }
 {

@@ -159,7 +159,11 @@ fn a_finish_is_legal_once(rt: HostRuntime) -> Result<(), Fail> {
     let once = illegal_behind(alloc, end(alloc, 130, Some("k4"), How::Finished)?, None)?;
     assert_eq!(rt; once, 0);
     let again = end(alloc, 140, Some("k5"), How::Finished)?;
-    let twice = illegal_behind(alloc, end(alloc, 130, Some("k4"), How::Finished)?, Some(again))?;
+    let twice = illegal_behind(
+        alloc,
+        end(alloc, 130, Some("k4"), How::Finished)?,
+        Some(again),
+    )?;
     assert_eq!(rt; twice, 5);
     Ok(())
 }

@@ -62,16 +62,21 @@ fn answer_moves(
     requires sound { IsSound book.now }
     ensures { result ≡ answer_moves book.now made.now settings.now attempt slot step.now }
 {
-    if !is_own(made, attempt.user)
-        || answer_time(book, settings, made.moment, attempt).is_some()
-    {
+    if !is_own(made, attempt.user) || answer_time(book, settings, made.moment, attempt).is_some() {
         return None;
     }
     taken(book, attempt, slot, step)
 }
 
 /// Whether a teacher's mark may have put a record: with the max mark (in 10^-7) that is bound now, on a slot that takes it.
-fn can_mark(book: &Book, made: &Record, attempt: AttemptId, slot: u16, mark: Mark, max: Mark) -> bool
+fn can_mark(
+    book: &Book,
+    made: &Record,
+    attempt: AttemptId,
+    slot: u16,
+    mark: Mark,
+    max: Mark,
+) -> bool
     requires sound { IsSound book.now }
     ensures { result ≡ can_mark book.now made.now attempt slot mark max }
 {
@@ -136,13 +141,7 @@ fn same_how(one: How, other: How) -> bool
 }
 
 /// Whether a student's finish of an own attempt may have put a record.
-fn can_finish(
-    book: &Book,
-    made: &Record,
-    settings: &Settings,
-    attempt: AttemptId,
-    how: How,
-) -> bool
+fn can_finish(book: &Book, made: &Record, settings: &Settings, attempt: AttemptId, how: How) -> bool
     requires sound { IsSound book.now }
     ensures { result ≡ can_finish book.now made.now settings.now attempt how }
 {

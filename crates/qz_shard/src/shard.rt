@@ -96,12 +96,7 @@ impl Shard {
     ///
     /// Each record has to be one that may stand behind those before it. `Illegal` names the first payload, from 1, that spells no such
     /// record. What was said of a record with a key is kept again, so that a request that is asked again has the reply that it had.
-    pub fn load(
-        alloc: Global,
-        index: u8,
-        count: u8,
-        payloads: &[Bytes],
-    ) -> Result<Shard, ListFault>
+    pub fn load(alloc: Global, index: u8, count: u8, payloads: &[Bytes]) -> Result<Shard, ListFault>
         requires { is_shard index count ≡ true }
         ensures loaded { IfOk result (IsLoaded index count payloads.now) }
         ensures illegal { IfErr result (IsListFault index count payloads.now) }

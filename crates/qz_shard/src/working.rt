@@ -206,7 +206,14 @@ pub(crate) fn work_on(
     if let Some(place) = book.done_place(job.number) {
         return Ok(Work::AlreadyDone(place));
     }
-    let target = next_target(alloc, book, cursors, job.number, job.plan.quiz, job.position)?;
+    let target = next_target(
+        alloc,
+        book,
+        cursors,
+        job.number,
+        job.plan.quiz,
+        job.position,
+    )?;
     match put_target(alloc, book, now, caller, job, target)? {
         Some(record) => Ok(Work::Put(record)),
         None => Ok(Work::NoSlot),

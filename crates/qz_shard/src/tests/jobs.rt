@@ -56,12 +56,10 @@ fn starts(shard: &mut Shard, alloc: Global, number: u32) -> Result<bool, NoMemor
     let told = change(shard, alloc, &student, &plan, "start", start, 100)?;
     Ok(matches!(
         told,
-        Some(
-            Reply::Ok {
-                done: Done::Started { .. },
-                ..
-            },
-        )
+        Some(Reply::Ok {
+            done: Done::Started { .. },
+            ..
+        },)
     ))
 }
 
@@ -80,24 +78,20 @@ fn is_rebound(told: &Option<Reply>, user: u32) -> bool {
 fn is_job_done(told: &Option<Reply>) -> bool {
     matches!(
         told,
-        Some(
-            Reply::Ok {
-                done: Done::JobDone { job: 1 },
-                ..
-            },
-        )
+        Some(Reply::Ok {
+            done: Done::JobDone { job: 1 },
+            ..
+        },)
     )
 }
 
 fn was_job_done(told: &Option<Reply>) -> bool {
     matches!(
         told,
-        Some(
-            Reply::Ok {
-                done: Done::AlreadyDone { job: 1 },
-                ..
-            },
-        )
+        Some(Reply::Ok {
+            done: Done::AlreadyDone { job: 1 },
+            ..
+        },)
     )
 }
 

@@ -13,4 +13,3 @@ returns-in-Some-2-clause-work c = put-work c.args.book.now c.args.now c.args.cal
 pub returns-in-None-clause-work : goal.returns-in-None-clause-work
 returns-in-None-clause-work c = no-work c.args.book.now c.args.now c.args.caller c.args.job.now (undone c.args.book.now c.args.job.now.number c.in_default.ensures)
     (sym c.in-None.is ∙ c.in_ok-record.ensures ∙ ap (put_target c.args.book.now c.args.now c.args.caller c.args.job.now) c.in_ok-target.ensures.target)
-

@@ -24,14 +24,14 @@ invariant_of-self-2 g c =
     let item : r ≡ get_or c.put.new.self place r = subst (λ (l : List Record). r ≡ get_or l place r) c.as_slice.ensures c.index-as_slice-place.is in
     let made : r ≡ c.args.made = item ∙ get_or_from_slice_get c.put.new.self place c.args.made r at in
     let followed-made : (q job : ℕ) → cursor_at c.follow.new.self q job ≡ followed c.args.made q job (cursor_at c.self.inside.cursors q job) =
-      λ q job. c.follow.ensures q job ∙ ap (λ (s : Record). followed s q job (cursor_at c.self.inside.cursors q job)) made in
+    λ q job. c.follow.ensures q job ∙ ap (λ (s : Record). followed s q job (cursor_at c.self.inside.cursors q job)) made in
     record {
       held = subst (IsHeld c.self.inside.index c.self.inside.count) (sym c.in_ok-put.ensures.put.put)
           (held-push c.self.inside.index c.self.inside.count c.self.inside.book c.args.made c.self.invariant.held next c.in_ok-put.ensures.put.few);
       keyed = c.tell.ensures.keys;
       passed = subst (AreCursors c.follow.new.self) (sym c.in_ok-put.ensures.put.put)
           (cursors-follow c.self.inside.index c.self.inside.count c.self.inside.book c.args.made c.self.invariant.held.legal next.allowed.event
-              c.self.inside.cursors c.follow.new.self c.self.invariant.passed followed-made);
+          c.self.inside.cursors c.follow.new.self c.self.invariant.passed followed-made);
     }
 
 pub returns-clause-put : goal.returns-clause-put
