@@ -1,8 +1,8 @@
 -- A start: what it learns decides the questions of its plan.
-use Rattle.std.proofs.Common.{◌≡◌, ℕ, ◌+◌, eqb, Bool, true, false, not, ◌&&◌, ◌||◌, List, [], ◌∷◌, Option, Some, None, length, map, refl, sym, ap, subst, ◌∙◌, eq-eqb}
+use Rattle.std.proofs.Common.{◌≡◌, ℕ, Bool, true, false, not, List, [], ◌∷◌, Some, map, refl, sym, ap, subst, ◌∙◌, eq-eqb}
 use Rattle.std.specs.List.{list_all, list_any}
-use Rattle.std.specs.Prelude.{◌==◌, filter, filter_map, if◌then◌else◌, is_none, unwrap_or, zip, pos}
-use Rattle.std.proofs.lemmas.Bool.{and_from, and_parts, eqb-true}
+use Rattle.std.specs.Prelude.{filter, filter_map, is_none, unwrap_or, zip, pos}
+use Rattle.std.proofs.lemmas.Bool.{and_parts, eqb-true}
 use Rattle.qz_grading.specs.declared.question.Format.TheVariants as format
 use Rattle.qz_grading.specs.declared.question.Kind.TheVariants as kind
 use Rattle.qz_grading.specs.declared.question.Question.{Question}
@@ -16,7 +16,6 @@ use Rattle.qz_terms.specs.Answer.{bind, learned_as, new_versions, same_version}
 use Rattle.qz_terms.specs.Legal.{LearnsNew, bound_at, same_pair, version_of_bound, version_of_learned}
 use Rattle.qz_terms.specs.Lists.{first_of, once}
 use Rattle.qz_terms.specs.History.{learned_version, version}
-use Rattle.qz_shard.specs.Allowed.{new_bound}
 use Rattle.qz_shard.proofs.Learning.{map-filter, map-once}
 use Rattle.qz_shard.proofs.PutTold.{or-false}
 

@@ -1,6 +1,6 @@
 -- What the cursors tell stays so: where one is kept, and where a record is put.
-use Rattle.std.proofs.Common.{◌≡◌, ◌⊎◌, ℕ, ◌+◌, ◌-◌, ◌<◌, ◌≤◌, inl, inr, Bool, true, false, not, ◌&&◌, ◌||◌, List, [], ◌∷◌, ◌++◌, Option, Some, None, length, refl, sym, ap, subst, ◌∙◌, arith, eq-eqb, option_map}
-use Rattle.std.specs.List.{list_all, list_any}
+use Rattle.std.proofs.Common.{◌≡◌, ℕ, ◌+◌, ◌-◌, ◌<◌, ◌≤◌, Bool, true, false, not, ◌&&◌, ◌||◌, List, [], ◌∷◌, ◌++◌, Option, Some, None, length, refl, sym, ap, subst, ◌∙◌, arith, eq-eqb, option_map}
+use Rattle.std.specs.List.{list_any}
 use Rattle.std.specs.Option.{option_or}
 use Rattle.std.specs.Prelude.{◌==◌, filter, if◌then◌else◌, is_some, nat_lt, unwrap_or}
 use Rattle.std.proofs.lemmas.Bool.{eqb-true, lt-ltb, ltb-false, ltb-true, not-true}
@@ -20,12 +20,12 @@ use Rattle.qz_terms.specs.History.{Start, attempt_before, binds, bound, is_skipp
 use Rattle.qz_shard.specs.declared.cursors.Cursor.{Cursor}
 use Rattle.qz_shard.specs.declared.cursors.Cursors.{Cursors}
 use Rattle.qz_shard.specs.Cursors.{AreCursors, IsPassed, cursor_at, cursor_of, followed, followed_by, front, moved_back, passed_by, place_before, plan_position}
-use Rattle.qz_shard.specs.Works.{first_left, has_left}
+use Rattle.qz_shard.specs.Works.{has_left}
 use Rattle.qz_shard.proofs.Effects.{Does, acts, begins, does, finishes, leaves, rebinds}
 use Rattle.qz_lives.proofs.Effects.{attempt_of, made, one-attempt}
 use Rattle.qz_lives.proofs.Keeping.{and-left, and-right, at_place-passes, start-record}
 use Rattle.qz_lives.proofs.Legality.{started-number}
-use Rattle.qz_lives.proofs.Orders.{before-after, by-number, never-both, one}
+use Rattle.qz_lives.proofs.Orders.{before-after, by-number, one}
 use Rattle.qz_shard.proofs.Placing.{bound-more, or-none, placed, start-more}
 use Rattle.qz_shard.proofs.TargetLemmas.{first-is_target, some-bound}
 

@@ -1,5 +1,5 @@
 -- What an allowed record does at a place of an attempt.
-use Rattle.std.proofs.Common.{◌≡◌, ℕ, ◌+◌, Bool, true, false, List, [], ◌∷◌, ◌++◌, Some, None, refl, sym, ap, ◌∙◌}
+use Rattle.std.proofs.Common.{◌≡◌, ℕ, Bool, true, false, List, [], ◌∷◌, ◌++◌, Some, None, refl, sym, ap, ◌∙◌}
 use Rattle.std.specs.Prelude.{◌==◌, is_none}
 use Rattle.std.proofs.lemmas.Bool.{eqb-true}
 use Rattle.qz_grading.specs.declared.outcome.Behaviour.{Behaviour}
@@ -17,7 +17,7 @@ use Rattle.qz_terms.specs.declared.record.How.TheVariants as how
 use Rattle.qz_terms.specs.declared.record.Learned.{Learned}
 use Rattle.qz_terms.specs.declared.record.Record.{Record}
 use Rattle.qz_terms.specs.Legal.{EventIsAllowed, IsLegal, IsPut, LearnsNew, RebindIsAllowed, StartIsAllowed}
-use Rattle.qz_terms.specs.History.{Start, binds, ends, learned_by, question, quiz, same_attempt, start, starts, step_in, version}
+use Rattle.qz_terms.specs.History.{Start, binds, ends, learned_by, question, same_attempt, start, starts, step_in, version}
 use Rattle.qz_lives.proofs.Effects.{IsActed, IsEnding, acted-as, acted-put, attempt_of, begins-first, ended-put, ending-as, one-attempt, quiz-there}
 use Rattle.qz_lives.proofs.Legality.{started-number}
 

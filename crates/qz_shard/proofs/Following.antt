@@ -1,47 +1,21 @@
 -- A slot that a request names and that isn't missing is there.
-use Rattle.std.proofs.Common.{◌≡◌, ℕ, ◌+◌, ◌≤◌, eqb, Bool, true, false, not, ◌||◌, List, [], ◌∷◌, ◌++◌, Option, Some, None, length, length-append, refl, sym, ap, subst, ◌∙◌, arith, append_assoc, take, drop, All}
-use Rattle.std.specs.Prelude.{IfSome, ℤ, filter, is_none, is_some, option_and_then}
-use Rattle.std.specs.Option.{option_or}
-use Rattle.std.proofs.Math.Seq.{take-append_seam}
-use Rattle.std.proofs.lemmas.Bool.{eqb-true}
-use Rattle.std.proofs.lemmas.List.{take-append-drop}
-use Rattle.std.proofs.lemmas.List.Elements.{All-nil, All-push, All-take, filter-append, filter_map-append}
-use Rattle.std.proofs.lemmas.List.Folds.{list_any-append}
-use Rattle.qz_grading.specs.declared.outcome.Behaviour.{Behaviour}
-use Rattle.qz_grading.specs.declared.question.Kind.{Kind}
-use Rattle.qz_grading.specs.declared.question.Kind.TheVariants as kind
+use Rattle.std.proofs.Common.{◌≡◌, ℕ, Bool, true, false, not, List, Option, Some, None, length, refl, sym, ap, ◌∙◌}
+use Rattle.std.specs.Prelude.{is_none}
 use Rattle.qz_grading.specs.declared.question.Question.{Question}
 use Rattle.qz_grading.specs.declared.refusal.AttemptId.{AttemptId}
 use Rattle.qz_grading.specs.declared.refusal.Refusal.{Refusal}
 use Rattle.qz_grading.specs.declared.refusal.Refusal.TheVariants as refusal
 use Rattle.qz_grading.specs.declared.refusal.Thing.TheVariants as thing
-use Rattle.qz_grading.specs.declared.response.Step.{Step}
-use Rattle.qz_grading.specs.declared.response.Step.TheVariants as step
-use Rattle.qz_grading.specs.Behaviours.{behaviour_for, when}
-use Rattle.qz_grading.specs.Grading.{is_place, kind_number}
-use Rattle.qz_grading.specs.Slots.{is_misfit, step_cause}
-use Rattle.qz_grading.specs.Steps.{given, has_finish, is_answering, is_finish, is_mark}
+use Rattle.qz_grading.specs.Behaviours.{when}
+use Rattle.qz_grading.specs.Grading.{is_place}
 use Rattle.qz_terms.specs.declared.people.User.{User}
 use Rattle.qz_terms.specs.declared.plan.Bound.{Bound}
-use Rattle.qz_terms.specs.declared.record.How.{How}
-use Rattle.qz_terms.specs.declared.record.How.TheVariants as how
 use Rattle.qz_terms.specs.declared.record.Record.{Record}
 use Rattle.qz_terms.specs.Cause.{missing_attempt, missing_slot}
-use Rattle.qz_terms.specs.Kept.{IsKept}
-use Rattle.qz_terms.specs.Legal.{IsLegal}
-use Rattle.qz_terms.specs.History.{Start, binds, bound, ended, ends, is_ended, slot, slot_count, slot_with, start, starts, step_in, steps, version}
-use Rattle.qz_terms.proofs.Walks.{first_of-push}
-use Rattle.qz_usage.specs.Runs.{IsGiven, IsWithinLimits, has_misfit}
-use Rattle.qz_usage.proofs.RunLemmas.{given_taken, limits_kept, taken}
-use Rattle.qz_usage.proofs.Shapes.{fits-alike}
-use Rattle.qz_usage.proofs.StepCounts.{has_misfit-push, limits_more}
+use Rattle.qz_terms.specs.History.{Start, bound, slot, slot_count, slot_with, start, steps, version}
 use Rattle.qz_shard.specs.Decisions.{IsSound}
-use Rattle.qz_lives.proofs.Effects.{begun, first-two, slot-max}
-use Rattle.qz_shard.proofs.Effects.{Acts, Begins, Does, Finishes, Leaves, Rebinds, acts, begins, does, finishes, leaves, rebinds}
-use Rattle.qz_lives.proofs.Keeping.{All-seam, and-left, bound-kept}
-use Rattle.qz_lives.proofs.Legality.{by-prefixes, legal-before}
-use Rattle.qz_shard.proofs.Placing.{IsPlaced, bound-more, placed, start-same, steps-more, steps-same, version-more}
-use Rattle.qz_shard.proofs.ReadingLemmas.{max-mark}
+use Rattle.qz_lives.proofs.Effects.{begun, first-two}
+use Rattle.qz_shard.proofs.Placing.{IsPlaced, placed}
 
 -- ---- a slot that is there
 

@@ -1,5 +1,5 @@
 -- A list that is read payload by payload.
-use Rattle.std.proofs.Common.{◌≡◌, ℕ, suc, ◌+◌, ◌<◌, ◌≤◌, Bool, true, false, List, [], ◌∷◌, ◌++◌, length, append_assoc, take, drop, map, get_or, refl, sym, ap, subst, ◌∙◌, arith, All}
+use Rattle.std.proofs.Common.{◌≡◌, ℕ, ◌+◌, ◌<◌, ◌≤◌, Bool, true, false, List, [], ◌∷◌, ◌++◌, length, append_assoc, take, drop, map, get_or, refl, sym, ap, subst, ◌∙◌, arith, All}
 use Rattle.std.specs.Bool.{Decides}
 use Rattle.std.proofs.lemmas.Bool.{both_ways}
 use Rattle.std.proofs.lemmas.List.{length-map, length-take-le, map-append, take-append-drop, take_all}
@@ -11,7 +11,7 @@ use Rattle.qz_terms.specs.Spelling.{spelling}
 use Rattle.qz_terms.proofs.Walks.{take-one_more}
 use Rattle.qz_record.specs.Records.{IsRecord}
 use Rattle.qz_shard.specs.Holdings.{Holding, IsHeld, is_shard}
-use Rattle.qz_shard.specs.Loads.{IsAdded, IsFirstIllegal, IsLoaded, IsNoneBehind, IsTaken}
+use Rattle.qz_shard.specs.Loads.{IsFirstIllegal, IsLoaded, IsNoneBehind, IsTaken}
 use Rattle.qz_shard.specs.Nexts.{IsNext}
 use Rattle.qz_shard.proofs.StandLemmas.{allowed-asked}
 

@@ -1,9 +1,7 @@
 -- What a look is answered.
-use Rattle.std.proofs.Common.{◌≡◌, ℕ, suc, Bool, true, false, List, [], ◌∷◌, Option, Some, None, append-nil, refl, sym, ap, option_map}
-use Rattle.std.specs.Prelude.{filter_map, is_none, unwrap_or}
-use Rattle.qz_grading.specs.declared.refusal.AttemptId.{AttemptId}
+use Rattle.std.proofs.Common.{◌≡◌, ℕ, true, List, Option, Some, None, append-nil, refl, sym}
+use Rattle.std.specs.Prelude.{is_none}
 use Rattle.qz_grading.specs.declared.refusal.Refusal.{Refusal}
-use Rattle.qz_grading.specs.Steps.{is_answering}
 use Rattle.qz_terms.specs.declared.ask.Ask.{Ask}
 use Rattle.qz_terms.specs.declared.people.User.{User}
 use Rattle.qz_terms.specs.declared.plan.Plan.{Plan}
@@ -11,10 +9,8 @@ use Rattle.qz_terms.specs.declared.record.Record.{Record}
 use Rattle.qz_terms.specs.declared.reply.Reply.TheVariants as reply
 use Rattle.qz_terms.specs.declared.request.Request.{Request}
 use Rattle.qz_terms.specs.declared.request.Request.TheVariants as request
-use Rattle.qz_terms.specs.Answer.{answering_steps, event_here, looked, moment_of}
+use Rattle.qz_terms.specs.Answer.{event_here, looked, moment_of}
 use Rattle.qz_terms.specs.Cause.{cause_here, forbidden, is_keyed, is_keyless, missing_here}
-use Rattle.qz_terms.specs.History.{step_in}
-use Rattle.qz_terms.specs.Lists.{how_many}
 use Rattle.qz_shard.specs.Answering.{IsAnswered}
 use Rattle.qz_shard.specs.Holdings.{is_look}
 

@@ -1,12 +1,10 @@
 -- The record that a decision makes may be put next, and what is then answered.
-use Rattle.std.proofs.Common.{◌≡◌, ℕ, suc, ◌+◌, ◌-◌, ◌<◌, ◌≤◌, ◌^◌, max, Bool, true, false, List, [], ◌∷◌, ◌++◌, Option, Some, None, Result, Ok, Err, length, length-append, append-nil, map, take, drop, get_or, refl, sym, ap, subst, ◌∙◌, arith, option_map, All}
-use Rattle.std.specs.Prelude.{IfOk, OnErr, OnOk, ◌==◌, filter_map, is_none, if◌then◌else◌, unwrap_or}
+use Rattle.std.proofs.Common.{◌≡◌, ℕ, suc, ◌+◌, ◌-◌, ◌<◌, ◌≤◌, ◌^◌, max, Bool, true, false, List, [], ◌∷◌, ◌++◌, Option, Some, None, Result, Ok, Err, length, length-append, append-nil, map, refl, sym, ap, subst, ◌∙◌, arith, option_map, All}
+use Rattle.std.specs.Prelude.{IfOk, ◌==◌, filter_map, is_none, if◌then◌else◌, unwrap_or}
 use Rattle.std.specs.List.{list_all, last_or}
 use Rattle.std.proofs.lemmas.Bool.{le-leb, leb-true}
-use Rattle.std.proofs.lemmas.List.{take-append-drop}
-use Rattle.std.proofs.lemmas.List.Elements.{All-cons, All-filter, All-head, All-map, All-nil, All-push, All-tail, All-take}
+use Rattle.std.proofs.lemmas.List.Elements.{All-cons, All-filter, All-head, All-map, All-nil, All-push, All-tail}
 use Rattle.std.proofs.lemmas.List.Folds.{list_all-append}
-use Rattle.std.proofs.lemmas.Option.{get_or_from_slice_get, slice_get_within}
 use Rattle.qz_grading.specs.declared.question.Question.{Question}
 use Rattle.qz_grading.specs.declared.refusal.AttemptId.{AttemptId}
 use Rattle.qz_grading.specs.declared.refusal.Refusal.{Refusal}
@@ -34,7 +32,7 @@ use Rattle.qz_terms.specs.declared.request.Request.{Request}
 use Rattle.qz_terms.specs.declared.request.Request.TheVariants as request
 use Rattle.qz_terms.specs.Access.{settled_by}
 use Rattle.qz_terms.specs.Answer.{acted_or_noted, answer_here, bind, event_here, is_overdue, list_after, looked_by, max_now, moment_of, named_user, new_versions, put_here, record_under, said, same_version, started_by, stepped_by}
-use Rattle.qz_terms.specs.Cause.{Verdict, Denied, Granted, Repeated, by_key, cause_here, forbidden, spells, is_keyed, missing_attempt, missing_here, missing_slot, verdict_here}
+use Rattle.qz_terms.specs.Cause.{Denied, Granted, Repeated, by_key, cause_here, forbidden, spells, is_keyed, missing_attempt, missing_here, missing_slot, verdict_here}
 use Rattle.qz_terms.specs.Kept.{AreLearned, AreQuestions, IsKept, IsKeptPlan, KeepsAsked, KeepsEvent, has_terms, is_bound, is_moment, is_planned, is_step}
 use Rattle.qz_terms.specs.Legal.{is_plan_for}
 use Rattle.qz_terms.specs.Lists.{once}
@@ -48,9 +46,9 @@ use Rattle.qz_shard.specs.Decisions.{IsDecision, IsRepeated, IsSound}
 use Rattle.qz_shard.specs.Holdings.{Holding, IsHeld, StartsHere, is_asked, is_asked_event, is_change, older}
 use Rattle.qz_shard.specs.Nexts.{CanGrow, IsNext, IsPutWith, record_by}
 use Rattle.qz_shard.proofs.Allowing.{IsGranted, IsOn, acted, ask_of, ended, noted, first-none, made_ready, on-allowed, on-step, start-allowed}
-use Rattle.qz_lives.proofs.Keeping.{All-seam, all-at, and-left, and-right}
+use Rattle.qz_lives.proofs.Keeping.{All-seam, and-left, and-right}
 use Rattle.qz_shard.proofs.Learning.{learned_all}
-use Rattle.qz_lives.proofs.Legality.{legal-before, legal-push, told_event, told-pair}
+use Rattle.qz_lives.proofs.Legality.{legal-push, told_event, told-pair}
 
 -- ---- what is kept of a moment
 

@@ -1,10 +1,8 @@
 -- A record that is put behind a shard's list: what is known of the longer list before it stands, and of the last record then.
-use Rattle.std.proofs.Common.{◌≡◌, ℕ, suc, ◌+◌, ◌-◌, ◌<◌, ◌≤◌, ◌^◌, Bool, true, false, List, [], ◌∷◌, ◌++◌, Option, Some, None, length, length-append, take, refl, sym, ap, subst, ◌∙◌, arith, eq-eqb}
-use Rattle.std.specs.Prelude.{filter, slice_get, ◌==◌}
+use Rattle.std.proofs.Common.{◌≡◌, ℕ, suc, ◌+◌, ◌-◌, ◌<◌, ◌≤◌, ◌^◌, Bool, true, false, List, [], ◌∷◌, ◌++◌, Some, length, length-append, take, refl, sym, ap, subst, ◌∙◌, arith, eq-eqb}
+use Rattle.std.specs.Prelude.{filter, slice_get}
 use Rattle.std.proofs.Math.Seq.{take-append_seam}
 use Rattle.std.proofs.lemmas.List.Elements.{filter-append}
-use Rattle.qz_grading.specs.declared.outcome.Behaviour.{Behaviour}
-use Rattle.qz_grading.specs.declared.question.Question.{Question}
 use Rattle.qz_grading.specs.declared.refusal.AttemptId.{AttemptId}
 use Rattle.qz_grading.proofs.StepLemmas.{slice_get-push}
 use Rattle.qz_index.specs.declared.keys.Keys.{Keys}
@@ -14,10 +12,9 @@ use Rattle.qz_lives.specs.Changes.{IsLawful, Knows}
 use Rattle.qz_terms.specs.declared.record.Event.{Event}
 use Rattle.qz_terms.specs.declared.record.Event.TheVariants as event
 use Rattle.qz_terms.specs.declared.record.Record.{Record}
-use Rattle.qz_terms.specs.History.{Start, is_owned, next_attempt, place, start_by, started, version}
+use Rattle.qz_terms.specs.History.{Start, is_owned, next_attempt, place, start_by, version}
 use Rattle.qz_terms.specs.Kept.{IsKept}
 use Rattle.qz_terms.specs.Legal.{EventIsAllowed}
-use Rattle.qz_terms.specs.Lists.{how_many}
 use Rattle.qz_shard.specs.Books.{IsUntold}
 use Rattle.qz_shard.specs.Holdings.{is_asked}
 use Rattle.qz_shard.specs.Nexts.{CanGrow}

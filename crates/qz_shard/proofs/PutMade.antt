@@ -1,8 +1,8 @@
 -- Of a record that passes, some user, plan and request that put it.
-use Rattle.std.proofs.Common.{◌≡◌, ℕ, ◌≤◌, eqb, leb, Bool, true, false, not, ◌&&◌, ◌||◌, List, [], ◌∷◌, Option, Some, None, length, refl, sym, ap, subst, ◌∙◌, eq-eqb, option_map, arith}
+use Rattle.std.proofs.Common.{◌≡◌, ℕ, ◌≤◌, leb, Bool, true, false, not, ◌&&◌, ◌||◌, List, [], ◌∷◌, Option, Some, None, length, refl, sym, ap, ◌∙◌, eq-eqb, option_map, arith}
 use Rattle.std.specs.List.{list_any}
 use Rattle.std.specs.Ordering.{int_eq}
-use Rattle.std.specs.Prelude.{ℤ, pos, ◌==◌, filter, if◌then◌else◌, is_none, is_some, option_and_then, unwrap_or}
+use Rattle.std.specs.Prelude.{ℤ, pos, ◌==◌, filter, if◌then◌else◌, is_none, is_some, unwrap_or}
 use Rattle.std.proofs.lemmas.Bool.{and_parts, eqb-true, leb-true, not-true}
 use Rattle.std.proofs.lemmas.Bool.Decides.{Decides-int_eq}
 use Rattle.qz_grading.specs.declared.outcome.Behaviour.{Behaviour}
@@ -13,7 +13,6 @@ use Rattle.qz_grading.specs.declared.question.Question.{Question}
 use Rattle.qz_grading.specs.declared.refusal.AttemptId.{AttemptId}
 use Rattle.qz_grading.specs.declared.refusal.Refusal.{Refusal}
 use Rattle.qz_grading.specs.declared.refusal.Refusal.TheVariants as refusal
-use Rattle.qz_grading.specs.declared.refusal.Thing.TheVariants as thing
 use Rattle.qz_grading.specs.declared.response.Response.{Response}
 use Rattle.qz_grading.specs.declared.response.Step.{Step}
 use Rattle.qz_grading.specs.declared.response.Step.TheVariants as step
@@ -37,13 +36,13 @@ use Rattle.qz_terms.specs.declared.record.Terms.{Terms}
 use Rattle.qz_terms.specs.declared.request.Request.{Request}
 use Rattle.qz_terms.specs.declared.request.Request.TheVariants as request
 use Rattle.qz_terms.specs.Access.{answer_cause, expired, finish_cause, settled_by}
-use Rattle.qz_terms.specs.Answer.{acted_or_noted, event_here, max_now, put_here, record_under}
-use Rattle.qz_terms.specs.Cause.{Granted, by_key, cause_here, denied, forbidden, has_key, is_anothers, is_keyed, missing_attempt, missing_here, missing_slot, repeated_or_reused, sees_marks, slot_cause, spells, time_cause, verdict_here}
+use Rattle.qz_terms.specs.Answer.{acted_or_noted, event_here, max_now, record_under}
+use Rattle.qz_terms.specs.Cause.{by_key, cause_here, forbidden, has_key, is_anothers, is_keyed, missing_attempt, missing_here, missing_slot, repeated_or_reused, sees_marks, slot_cause, spells, time_cause}
 use Rattle.qz_terms.specs.Legal.{IsPut, is_plan_for, new_key_by}
 use Rattle.qz_terms.specs.Lists.{first_of, up_to_first}
 use Rattle.qz_terms.specs.History.{Slot, Start, next_attempt, slot, slot_count, start, steps}
 use Rattle.qz_terms.specs.History as history
-use Rattle.qz_shard.specs.Allowed.{answer_moves, can_act, can_answer, can_end, can_end_by, can_finish, can_mark, can_note, can_put, can_put_under, can_settle, can_start, has_asker, is_further, is_in_time, is_overdue, is_own, is_same, same_how, slot_refusal, starting_cause, takes}
+use Rattle.qz_shard.specs.Allowed.{answer_moves, can_act, can_answer, can_end, can_end_by, can_finish, can_mark, can_note, can_settle, has_asker, is_further, is_in_time, is_overdue, is_own, is_same, same_how, slot_refusal, takes}
 use Rattle.qz_lives.proofs.Legality.{told_event}
 use Rattle.qz_shard.proofs.PutTold.{mark-cause, none-of, shown}
 

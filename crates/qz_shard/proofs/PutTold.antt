@@ -1,7 +1,7 @@
 -- What a record that a request put tells, so that the record and the list alone decide.
-use Rattle.std.proofs.Common.{◌≡◌, ℕ, eqb, Bool, true, false, not, ◌&&◌, ◌||◌, cond, List, [], ◌∷◌, Option, Some, None, refl, sym, ap, subst, ◌∙◌, eq-eqb, option_map}
+use Rattle.std.proofs.Common.{◌≡◌, ℕ, Bool, true, false, not, ◌&&◌, ◌||◌, cond, List, Option, Some, None, refl, sym, ap, subst, ◌∙◌, eq-eqb, option_map}
 use Rattle.std.specs.Ordering.{int_eq}
-use Rattle.std.specs.Prelude.{ℤ, ◌==◌, if◌then◌else◌, is_none, is_some, option_and_then, unwrap_or}
+use Rattle.std.specs.Prelude.{ℤ, ◌==◌, if◌then◌else◌, is_none, is_some, option_and_then}
 use Rattle.std.proofs.lemmas.Bool.{and_from, eqb-true}
 use Rattle.std.proofs.lemmas.Bool.Decides.{Decides-int_eq}
 use Rattle.qz_grading.specs.declared.outcome.Moved.{Moved}
@@ -12,7 +12,7 @@ use Rattle.qz_grading.specs.declared.refusal.Refusal.TheVariants as refusal
 use Rattle.qz_grading.specs.declared.refusal.Thing.TheVariants as thing
 use Rattle.qz_grading.specs.declared.response.Step.{Step}
 use Rattle.qz_grading.specs.declared.response.Step.TheVariants as step
-use Rattle.qz_grading.specs.Behaviours.{first_some, moved, when}
+use Rattle.qz_grading.specs.Behaviours.{moved, when}
 use Rattle.qz_grading.specs.Grading.{is_place}
 use Rattle.qz_grading.specs.Slots.{step_cause}
 use Rattle.qz_terms.specs.declared.access.Settings.{Settings}
@@ -34,9 +34,8 @@ use Rattle.qz_terms.specs.Legal.{IsPut, is_plan_for}
 use Rattle.qz_terms.specs.History.{Slot, next_attempt, slot, slot_count, start, steps}
 use Rattle.qz_terms.specs.History as history
 use Rattle.qz_terms.proofs.Standing.{unmapped}
-use Rattle.qz_shard.specs.Allowed.{answer_moves, can_act, can_answer, can_end, can_end_by, can_finish, can_mark, can_note, can_put, can_put_under, can_settle, can_start, has_asker, is_further, is_in_time, is_overdue, is_own, is_same, same_how, slot_refusal, starting_cause, takes}
+use Rattle.qz_shard.specs.Allowed.{answer_moves, can_act, can_answer, can_end_by, can_finish, can_mark, can_note, can_put, can_put_under, can_settle, can_start, has_asker, is_further, is_in_time, is_overdue, is_own, is_same, same_how, slot_refusal, starting_cause}
 use Rattle.qz_lives.proofs.Effects.{first-two, slot-max}
-use Rattle.qz_lives.proofs.Keeping.{and-left, and-right}
 use Rattle.qz_lives.proofs.Legality.{IsFree, event-put, free-put, told-pair, told_event}
 
 -- ---- tests

@@ -1,5 +1,5 @@
 -- What is kept of a list's records, told of what is read of them.
-use Rattle.std.proofs.Common.{◌≡◌, ℕ, ◌≤◌, Bool, true, List, Option, Some, None, refl, sym, ap, subst, ◌*◌, option_map, All}
+use Rattle.std.proofs.Common.{◌≡◌, ℕ, Bool, true, List, Option, Some, None, refl, sym, ap, subst, ◌*◌, option_map, All}
 use lib.Signed.{le_z_yes}
 use lib.Dec.{T}
 use Rattle.std.specs.Prelude.{IfSome, int_le, is_none, option_and_then, pos, ◌≤ℤ◌, ℤ}

@@ -1,8 +1,8 @@
 -- The tests of a record decide whether it is allowed.
-use Rattle.std.proofs.Common.{◌≡◌, ℕ, eqb, Bool, true, false, not, ◌&&◌, ◌||◌, List, [], ◌∷◌, ◌++◌, Option, Some, None, length, map, refl, sym, ap, subst, ◌∙◌, eq-eqb, option_map}
+use Rattle.std.proofs.Common.{◌≡◌, ℕ, Bool, true, false, not, ◌&&◌, List, [], ◌∷◌, ◌++◌, Option, Some, None, map, refl, sym, ap, subst, ◌∙◌, eq-eqb, option_map}
 use Rattle.std.specs.Bool.{Decides}
 use Rattle.std.specs.List.{list_all}
-use Rattle.std.specs.Prelude.{◌==◌, filter, if◌then◌else◌, is_none, is_some, option_and_then, unwrap_or, zip}
+use Rattle.std.specs.Prelude.{◌==◌, unwrap_or, zip}
 use Rattle.std.proofs.lemmas.Bool.{and_from, and_parts, eqb-true, not-true}
 use Rattle.qz_grading.specs.declared.outcome.Behaviour.{Behaviour}
 use Rattle.qz_grading.specs.declared.question.Question.{Question}
@@ -10,7 +10,6 @@ use Rattle.qz_grading.specs.declared.question.Shape.{Shape}
 use Rattle.qz_grading.specs.declared.refusal.AttemptId.{AttemptId}
 use Rattle.qz_grading.specs.declared.refusal.Refusal.TheVariants as refusal
 use Rattle.qz_grading.specs.Shapes.{same_shape, shape}
-use Rattle.qz_terms.specs.declared.access.Settings.{Settings}
 use Rattle.qz_terms.specs.declared.people.Role.TheVariants as role
 use Rattle.qz_terms.specs.declared.plan.Bound.{Bound}
 use Rattle.qz_terms.specs.declared.plan.Plan.{Plan}
@@ -29,7 +28,7 @@ use Rattle.qz_shard.specs.Holdings.{is_asked, is_asked_event}
 use Rattle.qz_shard.proofs.BeginLemmas.{bounds-again, learned-again, questions_of, slot_of}
 use Rattle.qz_lives.proofs.Legality.{told_event}
 use Rattle.qz_shard.proofs.PutMade.{IsOn, act-put, asked-put, end-put, note-put, owner-of, plan_by, student-may}
-use Rattle.qz_shard.proofs.PutTold.{is-none, none-of, put-told}
+use Rattle.qz_shard.proofs.PutTold.{none-of, put-told}
 use Rattle.qz_shard.proofs.TargetLemmas.{none-left, self-same}
 
 -- ---- what a test tells

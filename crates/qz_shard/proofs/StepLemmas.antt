@@ -1,6 +1,6 @@
 -- What a step on a slot comes to.
 use Rattle.std.proofs.Common.{◌≡◌, ℕ, true, List, Option, Some, None, Ok, Err, refl, sym, ap, subst, ◌∙◌, option_map}
-use Rattle.std.specs.Prelude.{IfSome, ℤ, is_some, option_and_then}
+use Rattle.std.specs.Prelude.{ℤ, is_some, option_and_then}
 use Rattle.qz_grading.specs.declared.outcome.Moved.{Moved}
 use Rattle.qz_grading.specs.declared.question.Question.{Question}
 use Rattle.qz_grading.specs.declared.refusal.AttemptId.{AttemptId}
@@ -9,7 +9,6 @@ use Rattle.qz_grading.specs.declared.response.Step.{Step}
 use Rattle.qz_grading.specs.declared.response.Step.TheVariants as step
 use Rattle.qz_grading.specs.Behaviours.{moved}
 use Rattle.qz_grading.specs.Slots.{step_cause}
-use Rattle.qz_grading.specs.Steps.{given}
 use Rattle.qz_terms.specs.declared.people.User.{User}
 use Rattle.qz_terms.specs.declared.plan.Bound.{Bound}
 use Rattle.qz_terms.specs.declared.plan.Plan.{Plan}

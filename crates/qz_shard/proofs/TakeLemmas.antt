@@ -1,8 +1,8 @@
 -- What the tests of a record read: a slot that a place names, what a step is to it, and a key that no record has.
-use Rattle.std.proofs.Common.{◌≡◌, ℕ, ◌<◌, Bool, true, false, not, ◌&&◌, List, Option, Some, None, Result, Ok, Err, Bor, length, ◌≤◌, inl, inr, refl, sym, ap, ◌∙◌, All, arith, option_map}
+use Rattle.std.proofs.Common.{◌≡◌, ℕ, Bool, true, false, not, List, Option, Some, None, Ok, Err, Bor, length, ◌≤◌, inl, inr, refl, sym, ap, ◌∙◌, All, arith, option_map}
 use Rattle.std.specs.List.{list_any}
 use Rattle.std.specs.Option.{option_copied}
-use Rattle.std.specs.Prelude.{IfSome, filter, if◌then◌else◌, is_none, is_some, option_and_then, position, slice_get}
+use Rattle.std.specs.Prelude.{IfSome, filter, if◌then◌else◌, is_none, is_some, position}
 use Rattle.std.proofs.lemmas.Option.{slice_get_cases}
 use Rattle.qz_grading.specs.declared.outcome.Moved.{Moved}
 use Rattle.qz_grading.specs.declared.question.Question.{Question}
@@ -12,7 +12,6 @@ use Rattle.qz_grading.specs.declared.response.Step.{Step}
 use Rattle.qz_grading.specs.Behaviours.{moved}
 use Rattle.qz_grading.specs.Grading.{is_place}
 use Rattle.qz_grading.specs.Questions.{IsQuestion}
-use Rattle.qz_grading.specs.Slots.{step_cause}
 use Rattle.qz_terms.specs.declared.people.Role.TheVariants as role
 use Rattle.qz_terms.specs.declared.record.Record.{Record}
 use Rattle.qz_terms.specs.Kept.{IsKept}
@@ -20,7 +19,7 @@ use Rattle.qz_terms.specs.Lists.{first_of}
 use Rattle.qz_terms.specs.History.{Slot, slot, slot_count, start, steps, version}
 use Rattle.qz_terms.proofs.Standing.{none-passes}
 use Rattle.qz_terms.proofs.Walks.{found_nowhere, found_up_to}
-use Rattle.qz_shard.specs.Allowed.{slot_refusal, takes}
+use Rattle.qz_shard.specs.Allowed.{takes}
 use Rattle.qz_shard.specs.Decisions.{IsSound}
 use Rattle.qz_shard.specs.Plays.{IsMove}
 use Rattle.qz_lives.proofs.Keeping.{version-kept}

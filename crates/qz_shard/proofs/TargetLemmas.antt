@@ -1,7 +1,7 @@
 -- The first slot that a job has left, found attempt by attempt, and what is known of it.
-use Rattle.std.proofs.Common.{◌≡◌, ℕ, ◌+◌, Bool, true, false, not, ◌&&◌, List, [], ◌∷◌, ◌++◌, Option, Some, None, append-nil, map, refl, sym, ap, subst, ◌∙◌, option_map, eq-eqb, All}
+use Rattle.std.proofs.Common.{◌≡◌, ℕ, ◌+◌, Bool, true, false, not, List, [], ◌∷◌, ◌++◌, Option, Some, None, append-nil, refl, sym, ap, subst, ◌∙◌, option_map, eq-eqb, All}
 use Rattle.std.specs.Option.{option_or}
-use Rattle.std.specs.Prelude.{◌==◌, filter, filter_map, flat_map, if◌then◌else◌, is_some, nat_lt, option_and_then, option_to_list, unwrap_or}
+use Rattle.std.specs.Prelude.{◌==◌, filter, filter_map, flat_map, if◌then◌else◌, nat_lt, option_and_then, option_to_list, unwrap_or}
 use Rattle.std.proofs.lemmas.Bool.{eqb-true, not-true}
 use Rattle.std.proofs.lemmas.List.Elements.{All-cons, All-head, All-nil, All-push, All-tail, All-weaker}
 use Rattle.qz_grading.specs.declared.question.Question.{Question}

@@ -1,9 +1,7 @@
 -- The record that a worker's request puts may stand next, and what is then answered.
-use Rattle.std.proofs.Common.{◌≡◌, ℕ, ◌+◌, ◌-◌, ◌<◌, ◌^◌, Bool, true, false, not, List, [], ◌∷◌, ◌++◌, Option, Some, None, length, append-nil, refl, sym, ap, subst, ◌∙◌, option_map, arith, eq-eqb, All}
-use Rattle.std.specs.List.{list_all, list_any}
-use Rattle.std.specs.Option.{option_or}
-use Rattle.std.specs.Prelude.{◌-◌, ◌==◌, filter, if◌then◌else◌, is_none, is_some, option_and_then, option_to_list, position, slice_get}
-use Rattle.std.proofs.lemmas.List.{length-take-le}
+use Rattle.std.proofs.Common.{◌≡◌, ℕ, ◌-◌, Bool, true, false, List, [], ◌∷◌, ◌++◌, Option, Some, None, append-nil, refl, sym, ap, subst, ◌∙◌, option_map, eq-eqb, All}
+use Rattle.std.specs.List.{list_all}
+use Rattle.std.specs.Prelude.{◌-◌, ◌==◌, if◌then◌else◌, option_and_then, slice_get}
 use Rattle.std.proofs.lemmas.List.Elements.{All-cons, All-nil}
 use Rattle.std.proofs.lemmas.Option.{get_or_from_slice_get, slice_get_within}
 use Rattle.qz_grading.specs.declared.question.Question.{Question}
@@ -21,11 +19,10 @@ use Rattle.qz_terms.specs.declared.record.Record.{Record}
 use Rattle.qz_terms.specs.declared.reply.Done.TheVariants as done
 use Rattle.qz_terms.specs.declared.reply.Reply.{Reply}
 use Rattle.qz_terms.specs.declared.reply.Reply.TheVariants as reply
-use Rattle.qz_terms.specs.Answer.{bind, done_place, first_target, learned_as, new_versions, put_by_job, put_target, rebound_or_skipped, record_of_job, target_event}
+use Rattle.qz_terms.specs.Answer.{bind, done_place, first_target, learned_as, new_versions, put_target, rebound_or_skipped, record_of_job, target_event}
 use Rattle.qz_terms.specs.Kept.{is_planned}
 use Rattle.qz_terms.specs.Legal.{is_here}
-use Rattle.qz_terms.specs.Lists.{first_of, up_to_first}
-use Rattle.qz_terms.specs.History.{is_done, is_done_in, learns, question, targets, time, version}
+use Rattle.qz_terms.specs.History.{is_done, learns, question, targets, time, version}
 use Rattle.qz_terms.proofs.Walks.{first_of-push}
 use Rattle.qz_index.specs.Jobs.{done_in}
 use Rattle.qz_shard.specs.declared.working.Work.TheVariants as work

@@ -1,6 +1,4 @@
-use Rattle.std.proofs.Common.{◌≡◌, None, Option, Some, sym, ◌∙◌}
-use Rattle.qz_grading.specs.declared.refusal.Refusal.{Refusal}
-use Rattle.qz_lives.specs.declared.live.Begun.{Begun}
+use Rattle.std.proofs.Common.{None, sym, ◌∙◌}
 use Rattle.qz_terms.specs.Access.{finish_cause}
 use Rattle.qz_terms.specs.History.{ended_at, start}
 use Rattle.qz_shard.proofs.ReadingLemmas.{begun-cause}

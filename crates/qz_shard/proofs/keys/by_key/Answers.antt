@@ -1,9 +1,7 @@
-use Rattle.std.proofs.Common.{◌≡◌, List, Some, get_or, sym, ap, subst, ◌∙◌}
+use Rattle.std.proofs.Common.{◌≡◌, List, get_or, sym, subst, ◌∙◌}
 use Rattle.qz_terms.specs.declared.record.Record.{Record}
-use Rattle.qz_terms.specs.declared.reply.Reply.{Reply}
-use Rattle.qz_index.specs.Keys.{said_under}
 use Rattle.qz_terms.specs.Cause.{spells}
-use Rattle.qz_shard.proofs.DecisionLemmas.{key-other, key-same, never-refused}
+use Rattle.qz_shard.proofs.DecisionLemmas.{key-other, key-same}
 use Rattle.qz_shard.proofs.keys.by_key.Goals as goal
 
 pub returns-then-spells : goal.returns-then-spells

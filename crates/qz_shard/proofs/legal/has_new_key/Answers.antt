@@ -1,4 +1,4 @@
-use Rattle.std.proofs.Common.{◌≡◌, sym, ◌∙◌}
+use Rattle.std.proofs.Common.{◌∙◌}
 use Rattle.qz_index.specs.declared.keys.Replied.{Replied}
 use Rattle.qz_terms.specs.Cause.{has_key}
 use Rattle.qz_shard.proofs.TakeLemmas.{is-none-by, new-by}

@@ -1,4 +1,4 @@
-use Rattle.std.proofs.Common.{◌≡◌, Bool, ◌&&◌, length, sym, ap, ◌∙◌}
+use Rattle.std.proofs.Common.{Bool, ◌&&◌, length, sym, ap, ◌∙◌}
 use Rattle.std.specs.Prelude.{◌==◌}
 use Rattle.qz_shard.proofs.LearnTests.{matched-new, matched-old, matched-whole}
 use Rattle.qz_shard.proofs.new_versions.learns_new.Goals.{then-is_new, else-is_new}

@@ -1,4 +1,4 @@
-use Rattle.std.proofs.Common.{◌≡◌, ◌+◌, ◌++◌, ◌∷◌, [], Option, Some, None, subst}
+use Rattle.std.proofs.Common.{◌≡◌, ◌+◌, ◌++◌, ◌∷◌, [], Some, None}
 use Rattle.qz_terms.specs.History.{slot}
 use Rattle.qz_terms.specs.Parts.{part}
 use Rattle.qz_lives.specs.Attempts.{slot_of}

@@ -1,4 +1,4 @@
-use Rattle.std.proofs.Common.{◌≡◌, Some, Result, Ok, sym, subst, ◌∙◌}
+use Rattle.std.proofs.Common.{Some, Result, Ok, sym, subst, ◌∙◌}
 use Rattle.qz_grading.specs.declared.outcome.Moved.{Moved}
 use Rattle.qz_grading.specs.declared.refusal.Refusal.{Refusal}
 use Rattle.qz_lives.specs.Attempts.{slot_of}

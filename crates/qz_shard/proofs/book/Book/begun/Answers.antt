@@ -1,4 +1,4 @@
-use Rattle.std.proofs.Common.{◌≡◌, List, All, sym, ap, subst, option_map, ◌∙◌}
+use Rattle.std.proofs.Common.{List, All, sym, ap, subst, option_map, ◌∙◌}
 use Rattle.qz_lives.specs.Attempts.{begun_of}
 use Rattle.qz_terms.specs.declared.record.Record.{Record}
 use Rattle.qz_terms.specs.History.{start}

@@ -1,4 +1,4 @@
-use Rattle.std.proofs.Common.{◌≡◌, List, Bool, ℕ, subst}
+use Rattle.std.proofs.Common.{List, Bool, ℕ, subst}
 use Rattle.qz_shard.specs.Holdings.{Holding, IsHeld}
 use Rattle.qz_shard.specs.Loads.{IsTaken}
 use Rattle.qz_shard.proofs.LoadLemmas.{read-illegal, read-more, read-none, read-whole}

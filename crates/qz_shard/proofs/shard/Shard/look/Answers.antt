@@ -1,4 +1,4 @@
-use Rattle.std.proofs.Common.{ap, ◌∙◌}
+use Rattle.std.proofs.Common.{ap}
 use Rattle.qz_shard.specs.Holdings.{Holding}
 use Rattle.qz_shard.proofs.Alone.{answered_alone, wanting_alone}
 use Rattle.qz_shard.proofs.shard.Shard.look.Goals.{in-Ok, in-Err}
