@@ -6,7 +6,6 @@ mod book;
 mod catalog;
 mod causes;
 mod decision;
-mod fronts;
 mod jobs;
 mod keys;
 mod missing;

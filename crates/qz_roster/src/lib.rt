@@ -17,10 +17,7 @@ pub use overrides::Overrides;
 pub use people::{Owner, People};
 pub use quizzes::{Quiz, Quizzes, Slot};
 pub use roster::Roster;
-pub use told::{
-    Named, import_count, makes_group, policy_by, quiz_by, readies, regrade_by, remax_by, slot_by,
-    times_by,
-};
+pub use told::{Named, regrade_by};
 
 #[cfg(test)]
 mod tests;

@@ -1,7 +1,7 @@
 //! What one record tells.
 
 ghost use Rattle.std.specs.Prelude.{◌≡◌, ◌<◌, ◌^◌, is_some, length, option_copied, option_map};
-ghost use Rattle.qz_terms.specs.Catalog.{Person, asked, group_by, imports_by, made_user, policy_by, quiz_by, readies, regrade_by, remax_by, slot_by, times_by};
+ghost use Rattle.qz_terms.specs.Catalog.{Person, asked, group_by, imports_by, made_user, policy_by, quiz_by, readies, regrade_by, slot_by, times_by};
 ghost use Rattle.qz_roster.specs.Members.{joined};
 ghost use Rattle.qz_roster.specs.Overrides.{set_otherwise};
 ghost use Rattle.qz_roster.specs.Quizzes.{quiz_told};
@@ -33,7 +33,7 @@ pub struct Named<'a> {
 }
 
 /// The quiz that a record makes.
-pub fn quiz_by(record: &Record) -> Option<Named>
+pub(crate) fn quiz_by(record: &Record) -> Option<Named>
     ensures { option_map named_in result ≡ quiz_by (asked «record».now) }
 {
     match &record.event {
@@ -48,7 +48,7 @@ pub fn quiz_by(record: &Record) -> Option<Named>
 }
 
 /// The entry and the first max mark (in 10^-7) of the slot that a record makes, if it is the quiz's.
-pub fn slot_by(quiz: u32, record: &Record) -> Option<(u32, Mark)>
+pub(crate) fn slot_by(quiz: u32, record: &Record) -> Option<(u32, Mark)>
     ensures { result ≡ slot_by quiz (asked «record».now) }
 {
     match &record.event {
@@ -63,24 +63,8 @@ pub fn slot_by(quiz: u32, record: &Record) -> Option<(u32, Mark)>
     }
 }
 
-/// The max mark (in 10^-7) that a record gives anew to a slot, if it does.
-pub fn remax_by(quiz: u32, slot: u16, record: &Record) -> Option<Mark>
-    ensures { result ≡ remax_by quiz slot (asked «record».now) }
-{
-    match &record.event {
-        Event::Asked {
-            request: Request::Remax {
-                quiz: other,
-                slot: place,
-                max,
-            },
-        } if *other == quiz && *place == slot => Some(*max),
-        _ => None,
-    }
-}
-
 /// Whether a record makes a quiz ready.
-pub fn readies(quiz: u32, record: &Record) -> bool
+pub(crate) fn readies(quiz: u32, record: &Record) -> bool
     ensures { result ≡ readies quiz «record».now }
 {
     match &record.event {
@@ -92,7 +76,7 @@ pub fn readies(quiz: u32, record: &Record) -> bool
 }
 
 /// The settings that a record gives to a quiz, if it does.
-pub fn times_by(quiz: u32, record: &Record) -> Option<Settings>
+pub(crate) fn times_by(quiz: u32, record: &Record) -> Option<Settings>
     ensures { result ≡ times_by quiz (asked «record».now) }
 {
     match &record.event {
@@ -121,7 +105,7 @@ pub fn times_by(quiz: u32, record: &Record) -> Option<Settings>
 }
 
 /// How a record says that a quiz is graded, if it does.
-pub fn policy_by(quiz: u32, record: &Record) -> Option<(Method, Grade)>
+pub(crate) fn policy_by(quiz: u32, record: &Record) -> Option<(Method, Grade)>
     ensures { result ≡ policy_by quiz (asked «record».now) }
 {
     match &record.event {
@@ -137,7 +121,7 @@ pub fn policy_by(quiz: u32, record: &Record) -> Option<(Method, Grade)>
 }
 
 /// How many entries a record imports.
-pub fn import_count(record: &Record) -> usize
+pub(crate) fn import_count(record: &Record) -> usize
     ensures value { result ≡ length (imports_by (asked «record».now)) }
     ensures few { result < 2 ^ 63 }
 {
@@ -150,7 +134,7 @@ pub fn import_count(record: &Record) -> usize
 }
 
 /// Whether a record makes a group.
-pub fn makes_group(record: &Record) -> bool
+pub(crate) fn makes_group(record: &Record) -> bool
     ensures { result ≡ is_some (group_by (asked «record».now)) }
 {
     matches!(
