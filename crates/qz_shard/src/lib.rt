@@ -33,6 +33,4 @@ mod working;
 pub use shard::{Older, Shard};
 
 #[cfg(test)]
-mod load_tests;
-#[cfg(test)]
 mod tests;

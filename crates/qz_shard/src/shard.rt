@@ -1,12 +1,12 @@
 //! A shard and what is asked of it.
 
-ghost use Rattle.std.specs.Prelude.{◌≡◌, ◌⊎◌, ◌+◌, ◌<◌, ◌≤◌, List, [], length, map, true, false, Ok, Some, None, option_map, option_copied, IfOk, IfErr, OnOk, OnErr, MatchResult};
+ghost use Rattle.std.specs.Prelude.{◌≡◌, ◌⊎◌, ◌+◌, ◌<◌, ◌≤◌, List, [], length, map, true, false, Ok, Some, None, option_map, IfOk, IfErr, OnOk, OnErr, MatchResult};
 ghost use Rattle.qz_decimal.specs.Numbers.{IsMaxSum, IsQuizGrade};
 ghost use Rattle.qz_grading.specs.declared.refusal.Refusal.TheVariants as refusal;
 ghost use Rattle.qz_terms.specs.declared.reply.Done.TheVariants as done;
 ghost use Rattle.qz_terms.specs.declared.reply.Reply.TheVariants as reply;
 ghost use Rattle.qz_terms.specs.Answer.{named_user};
-ghost use Rattle.qz_terms.specs.History.{live_after, place, quiz, takers, version};
+ghost use Rattle.qz_terms.specs.History.{live_after, place, quiz, takers};
 ghost use Rattle.qz_terms.specs.Legal.{IsLegal};
 ghost use Rattle.qz_shard.specs.Answering.{IsAnswered, IsPosed};
 ghost use Rattle.qz_shard.specs.Grades.{graded};
@@ -26,7 +26,7 @@ use crate::putting::{moment_of, record_of, tell};
 use crate::rows::rows;
 use crate::working::{Work, work_on};
 use qz_decimal::Grade;
-use qz_grading::{AttemptId, Question, Refusal, Steps, Thing};
+use qz_grading::{AttemptId, Refusal, Steps, Thing};
 use qz_index::Keys;
 use qz_record::{ListFault, RecordFault, parse};
 use qz_terms::{Ask, Done, Job, Plan, Policy, Record, Reply, Request, User, named_user};
@@ -382,15 +382,5 @@ impl Shard {
         };
         let floor = self.book.floor(plan.quiz);
         (plan.at < floor).then_some(floor)
-    }
-}
-
-#[cfg(test)]
-impl Shard {
-    /// The question of a version, if the shard has learned it.
-    pub(crate) fn version(&self, entry: u32, number: u32) -> Option<&Question>
-        ensures { option_copied result ≡ version self.now.records entry number }
-    {
-        self.book.version(entry, number)
     }
 }
