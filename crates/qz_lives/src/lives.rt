@@ -105,13 +105,6 @@ impl Lives {
         self.ended(attempt).is_some()
     }
 
-    /// Whether an attempt ended by a finish.
-    pub fn is_finished(&self, attempt: AttemptId) -> bool
-        ensures { (h : List Record) → AreLives self.now h → result ≡ history.is_finished h attempt }
-    {
-        matches!(self.ended(attempt), Some(How::Finished))
-    }
-
     /// The quiz of an attempt, if it is there.
     pub fn quiz(&self, attempt: AttemptId) -> Option<u32>
         ensures { (h : List Record) → AreLives self.now h → result ≡ history.quiz h attempt }

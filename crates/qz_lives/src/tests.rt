@@ -66,6 +66,6 @@ fn an_attempt_goes_on_until_it_ends(rt: HostRuntime) -> Result<(), Fail> {
     };
     lives.abandon(attempt, ending);
     assert!(rt; lives.live_after(first).is_none() && lives.ended(attempt) == Some(How::Abandoned));
-    assert!(rt; lives.ended_at(attempt) == Some(4) && !lives.is_finished(attempt));
+    assert!(rt; lives.ended_at(attempt) == Some(4));
     Ok(())
 }

@@ -53,13 +53,6 @@ impl Counts {
         self.jobs.len()
     }
 
-    /// The position, from 1, and the quiz of a job.
-    pub fn job(&self, number: u32) -> Option<(u64, u32)>
-        ensures { (c : List Record) → AreCountsOf c self.now → result ≡ at_place (jobs c) number }
-    {
-        self.jobs.get((number as usize).checked_sub(1)?).copied()
-    }
-
     /// Makes room for what a record tells.
     pub(crate) fn make_room(&mut self, record: &Record) -> Result<(), NoMemory>
         ensures room { OnOk result (HasJobRoom self.new «record».now) }

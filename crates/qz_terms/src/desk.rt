@@ -13,14 +13,17 @@ pub trait Desk {
     /// The records of its catalogue and of its shards, so far as it has seen them.
     ghost lists: { Self → Lists };
 
+    /// How many requests were refused because a keeper of its lists failed: a count that never falls.
+    ghost faults: { Self → ℕ };
+
     // What it may be asked at a moment.
     ghost takes: { ℕ → Ask → Type 0 };
 
-    // How it answers: the lists before and after a request at a moment, and the reply.
-    ghost answers: { Lists → Lists → ℕ → Ask → Reply → Type 0 };
+    // How it answers: the desk before and after a request at a moment, and the reply.
+    ghost answers: { Self → Self → ℕ → Ask → Reply → Type 0 };
 
     /// Answers a request at this moment by the clock, in seconds since 1970.
     fn ask(&mut self, alloc: Global, ask: &Ask, moment: u64) -> Reply
         requires { takes moment ask.now }
-        ensures { answers (lists self.old) (lists self.new) moment ask.now result };
+        ensures { answers self.old self.new moment ask.now result };
 }
