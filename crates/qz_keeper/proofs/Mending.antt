@@ -1,5 +1,5 @@
 -- What a keeper that was opened again found, by how long it is and what it ends with.
-use Rattle.std.proofs.Common.{◌≡◌, ⊎_elim, ℕ, List, [], ◌∷◌, ◌++◌, length, Option, Some, None, IfSome, sym, ◌∙◌, ap, subst}
+use Rattle.std.proofs.Common.{◌≡◌, ⊎_elim, ℕ, List, [], ◌∷◌, ◌++◌, length, Option, Some, None, IfSome, refl, sym, ◌∙◌, ap, subst}
 use Rattle.std.proofs.Math.Seq.{drop-append_seam}
 use Rattle.std.specs.Prelude.{drop}
 use Rattle.qz_disks.specs.Keepers.{with_one_more, MayStand, Reopens}
@@ -15,3 +15,8 @@ pub dropped_kept : (old new : Option (List (List ℕ))) (payload : List ℕ) (be
 dropped_kept None new payload before now found count long was r none = r.kept
 dropped_kept (Some told) new payload before now found count long was r none =
     r.kept ∙ ap (λ l. Some l) (⊎_elim (λ same. same) (λ longer. absurd (none told long longer)) (subst (λ d. MayStand told d found) was r.stands))
+
+-- none was found beside one in doubt
+pub none_beside : {A : Type 0} (P : A → Type 0) (found doubt : Option A) (r : A) → IfSome found (λ x. P x × (doubt ≡ None)) → doubt ≡ Some r → found ≡ None
+none_beside P None doubt r one is = refl
+none_beside P (Some x) doubt r one is = let none : doubt ≡ None = one.1 in absurd cc

@@ -1,2 +1,3 @@
 pub mod Custody
+pub mod Recording
 pub mod Lists

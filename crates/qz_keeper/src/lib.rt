@@ -3,8 +3,12 @@
 
 pub mod laws;
 mod record_keeper;
+mod recorder;
+mod refusals;
 
 pub use record_keeper::RecordKeeper;
+pub use recorder::{Recorder, Unrecorded};
+pub use refusals::{refusal_of, reply_of};
 
 #[cfg(test)]
 mod tests;

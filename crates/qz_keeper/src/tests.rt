@@ -1,4 +1,5 @@
 ghost use Rattle.std.specs.Prelude.{◌≡◌, ◌≤◌, length, None};
+ghost use Rattle.qz_keeper.specs.Custody.{IsReady};
 ghost use Rattle.qz_terms.specs.Kept.{IsKept};
 ghost use Rattle.qz_terms.specs.Spelling.{spelling};
 
@@ -94,27 +95,26 @@ fn a_record_is_kept_and_given_back(rt: HostRuntime) -> Result<(), Fail> {
     Ok(())
 }
 
-// The moment of the record that is given where one append and one reopening failed.
-fn mended(
+// The moment of the record that is found where one append and one reopening failed.
+fn found(
     rt: &impl Abort,
     alloc: Global,
     records: &mut RecordKeeper<Failing>,
     count: u64,
 ) -> Option<u64>
-    requires { records.old.doubt ≡ None }
+    requires { IsReady records.old }
 {
     assert_eq!(rt; records.append(alloc, done()).err(), Some(KeepErr::Fault));
-    assert_eq!(rt; records.mend(alloc, count).err(), Some(KeepErr::Fault));
-    assert!(rt; records.doubt().is_some());
-    let given = moment_of(records.mend(alloc, count).ok().flatten());
-    assert!(rt; records.doubt().is_none());
-    given
+    assert_eq!(rt; records.find(alloc, count).err(), Some(KeepErr::Fault));
+    assert!(rt; records.found().is_none());
+    assert!(rt; records.find(alloc, count).is_ok());
+    records.found().map(|record| record.moment)
 }
 
 #[test]
-fn what_is_in_doubt_is_adopted_or_dropped(rt: HostRuntime) -> Result<(), Fail> {
+fn what_is_in_doubt_is_found_or_dropped(rt: HostRuntime) -> Result<(), Fail> {
     let alloc = rt.alloc();
-    // Whether the keeper keeps what it failed to append, how many records the list has, and the moment of what is given.
+    // Whether the keeper keeps what it failed to append, how many records the list has, and the moment of what is found.
     let rows = [(true, 0, Some(100)), (true, 1, None), (false, 0, None)];
     for (keeps, count, moment) in rows {
         let mut records = RecordKeeper::new(Failing {
@@ -124,9 +124,12 @@ fn what_is_in_doubt_is_adopted_or_dropped(rt: HostRuntime) -> Result<(), Fail> {
             failures: 1,
             faults: 0,
         });
-        let given = mended(&rt, alloc, &mut records, count);
+        let found = found(&rt, alloc, &mut records, count);
+        records.settle();
+        let is_settled = records.found().is_none();
         drop(records);
-        assert_eq!(rt; given, moment);
+        assert_eq!(rt; found, moment);
+        assert!(rt; is_settled);
     }
     Ok(())
 }
