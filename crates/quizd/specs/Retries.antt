@@ -13,8 +13,8 @@ pub record TakesLines (takes : ℕ → Ask → Type 0) : Type 0 where
   pub taken : (now : ℕ) (ask : Ask) → CanBeAsked ask now → takes now ask
 
 -- each request is answered so
-pub record AnswersOnce (answers : Lists → Lists → ℕ → Ask → Reply → Type 0) : Type 0 where
-  pub once : (a b : Lists) (now : ℕ) (ask : Ask) (r : Reply) → answers a b now ask r → IsAskedOnce a b now ask r
+pub record AnswersOnce {D : Type 0} (lists : D → Lists) (answers : D → D → ℕ → Ask → Reply → Type 0) : Type 0 where
+  pub once : (a b : D) (now : ℕ) (ask : Ask) (r : Reply) → answers a b now ask r → IsAskedOnce (lists a) (lists b) now ask r
 
 -- so a line is answered
 abbrev pub GoesOnce : Lists → Lists → Line → Reply → Type 0

@@ -13,7 +13,7 @@ use Rattle.quizd.specs.Solo.{first_lists}
 
 -- what serving a door means: the door, then what answers, before and after, and how it ended
 abbrev pub Serving : Type 0 → Type 0 → Type 1
-Serving D C = D → D → Answerer C → Answerer C → DoorEnd → Type 0
+Serving D C = D → D → Answerer Lists C → Answerer Lists C → DoorEnd → Type 0
 
 -- the first door and its clock, over a school just founded; no other door changes
 pub record ServesFirst {D C : Type 0} (serves : Serving D C) (old new : List (D × C)) (end : DoorEnd) : Type 0 where
@@ -24,7 +24,7 @@ pub record ServesFirst {D C : Type 0} (serves : Serving D C) (old new : List (D 
   pub lists : Lists
   pub before : slice_get old 0 ≡ Some (door, clock)
   pub after : new ≡ slice_set old 0 (served, told)
-  pub going : serves door served (record { lists = first_lists; clock = clock }) (record { lists = lists; clock = told }) end
+  pub going : serves door served (record { desk = first_lists; clock = clock }) (record { desk = lists; clock = told }) end
 
 -- so many links were taken
 abbrev pub served_line : ℕ → List ℕ

@@ -60,7 +60,7 @@ pub fn serve<D: Desk, S: Source, O: Sink>(
 ) -> u8
     requires limit { limit < 2 ^ 32 }
     requires takes { TakesLines D.takes }
-    requires answers { AnswersOnce D.answers }
+    requires answers { AnswersOnce D.lists D.answers }
     ensures ended { Ended
         (ServeEnds limit (D.lists desk.old)
         (record { left = S.left source.old; source_faults = S.faults source.old; holds = O.holds sink.old; sink_faults = O.faults sink.old })
@@ -86,7 +86,7 @@ fn serve_or_stop<D: Desk, S: Source, O: Sink>(
 ) -> Result<(), Stop>
     requires limit { limit < 2 ^ 32 }
     requires takes { TakesLines D.takes }
-    requires answers { AnswersOnce D.answers }
+    requires answers { AnswersOnce D.lists D.answers }
     ensures { let ends = ServeEnds limit (D.lists desk.old)
         (record { left = S.left source.old; source_faults = S.faults source.old; holds = O.holds sink.old; sink_faults = O.faults sink.old })
         (record { left = S.left source.new; source_faults = S.faults source.new; holds = O.holds sink.new; sink_faults = O.faults sink.new })
@@ -109,7 +109,7 @@ fn serve_through<D: Desk, S: Source, O: Sink>(
 ) -> Result<(), Stop>
     requires limit { limit < 2 ^ 32 }
     requires takes { TakesLines D.takes }
-    requires answers { AnswersOnce D.answers }
+    requires answers { AnswersOnce D.lists D.answers }
     requires room { 0 < length room.old }
     ensures { let ends = ServeEnds limit (D.lists desk.old)
         (record { left = S.left source.old; source_faults = S.faults source.old; holds = O.holds sink.old; sink_faults = O.faults sink.old })
@@ -134,7 +134,7 @@ fn answer<D: Desk, O: Sink>(
     line: &ScriptLine,
 ) -> Result<(), Stop>
     requires takes { TakesLines D.takes }
-    requires answers { AnswersOnce D.answers }
+    requires answers { AnswersOnce D.lists D.answers }
     ensures { MatchResult result
         (λ _. AnswersLine (D.lists desk.old) (D.lists desk.new) (O.holds sink.old) (O.holds sink.new) (O.faults sink.old) (O.faults sink.new) line.now)
         (AnswerStops (D.lists desk.old) (D.lists desk.new) (O.holds sink.old) (O.holds sink.new) (O.faults sink.old) (O.faults sink.new) line.now) }
@@ -148,7 +148,7 @@ fn answer<D: Desk, O: Sink>(
 /// The reply to a line.
 fn reply_to<D: Desk>(alloc: Global, desk: &mut D, line: &ScriptLine) -> Result<Reply, NoMemory>
     requires takes { TakesLines D.takes }
-    requires answers { AnswersOnce D.answers }
+    requires answers { AnswersOnce D.lists D.answers }
     ensures { MatchResult result (GoesOnce (D.lists desk.old) (D.lists desk.new) (kept_item line.now))
         (λ _. D.lists desk.new ≡ D.lists desk.old) }
 {

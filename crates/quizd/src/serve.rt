@@ -59,8 +59,8 @@ fn serve_at<R: Door, C: Clock>(
         links
         (record { left = R.left at.old.0; returned = R.returned at.old.0; returns = R.returns at.old.0; out = R.out at.old.0; faults = R.faults at.old.0 })
         (record { left = R.left at.new.0; returned = R.returned at.new.0; returns = R.returns at.new.0; out = R.out at.new.0; faults = R.faults at.new.0 })
-        (record { lists = desk.old; clock = at.old.1 })
-        (record { lists = desk.new; clock = at.new.1 })
+        (record { desk = desk.old; clock = at.old.1 })
+        (record { desk = desk.new; clock = at.new.1 })
         result }
 {
     serve_door(alloc, desk, &mut at.0, &mut at.1, links)

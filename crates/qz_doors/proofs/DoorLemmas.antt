@@ -11,7 +11,6 @@ use Rattle.std.specs.Prelude.{IfSome}
 use Rattle.qz_doors.specs.declared.door.DoorEnd.{DoorEnd}
 use Rattle.qz_doors.specs.Doors.{Entrance, ServesDoor, ServesInTurn, ServesNext, TakesNoLink, is_short, shorter}
 use Rattle.qz_doors.specs.Doors as turns
-use Rattle.qz_terms.specs.Serial.{Lists}
 use Rattle.qz_doors.specs.Answers.{Answerer}
 use Rattle.qz_doors.specs.Links.{LinkEnds, Peer}
 
@@ -141,6 +140,6 @@ pub ends_failed : {L S : Type 0} (asks : S → S → Ask → Reply → Type 0) (
 ends_failed asks peer most old mid new a b c result d failed within same none risen =
     ends_at_door asks peer most old mid new a b c result d none same within (λ below. inr failed) (λ is below. omega (arith, d.later, risen below))
 
-pub same_answerer : {C : Type 0} (lists now : Lists) (clock later : C) → now ≡ lists → later ≡ clock
-    → ◌≡◌ {A = Answerer C} (record { lists = now; clock = later }) (record { lists = lists; clock = clock })
-same_answerer {C = C} lists now clock later same steady = rw (same, steady) refl
+pub same_answerer : {D C : Type 0} (desk now : D) (clock later : C) → now ≡ desk → later ≡ clock
+    → ◌≡◌ {A = Answerer D C} (record { desk = now; clock = later }) (record { desk = desk; clock = clock })
+same_answerer desk now clock later same steady = rw (same, steady) refl

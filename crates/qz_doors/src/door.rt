@@ -41,8 +41,8 @@ pub fn serve_door<D: Desk, R: Door, C: Clock>(
         links
         (record { left = R.left door.old; returned = R.returned door.old; returns = R.returns door.old; out = R.out door.old; faults = R.faults door.old })
         (record { left = R.left door.new; returned = R.returned door.new; returns = R.returns door.new; out = R.out door.new; faults = R.faults door.new })
-        (record { lists = D.lists desk.old; clock = clock.old })
-        (record { lists = D.lists desk.new; clock = clock.new })
+        (record { desk = desk.old; clock = clock.old })
+        (record { desk = desk.new; clock = clock.new })
         result }
 {
     let mut end = DoorEnd {
@@ -89,15 +89,15 @@ fn serve_next<D: Desk, R: Door, C: Clock>(
     ensures { MatchResult result
         (λ ended. MatchOption ended
         (TakesNoLink (record { left = R.left door.old; returned = R.returned door.old; returns = R.returns door.old; out = R.out door.old; faults = R.faults door.old })
-        (record { left = R.left door.new; returned = R.returned door.new; returns = R.returns door.new; out = R.out door.new; faults = R.faults door.new }) × (D.lists desk.new ≡ D.lists desk.old) × (clock.new ≡ clock.old) × IfSome (R.left door.new) (λ left. left ≡ []))
+        (record { left = R.left door.new; returned = R.returned door.new; returns = R.returns door.new; out = R.out door.new; faults = R.faults door.new }) × (desk.new ≡ desk.old) × (clock.new ≡ clock.old) × IfSome (R.left door.new) (λ left. left ≡ []))
         (ServesNext (Asks C.tells D.answers)
         (λ link. record { left = R.Link.left link; holds = R.Link.holds link; faults = R.Link.faults link })
         (record { left = R.left door.old; returned = R.returned door.old; returns = R.returns door.old; out = R.out door.old; faults = R.faults door.old })
         (record { left = R.left door.new; returned = R.returned door.new; returns = R.returns door.new; out = R.out door.new; faults = R.faults door.new })
-        (record { lists = D.lists desk.old; clock = clock.old })
-        (record { lists = D.lists desk.new; clock = clock.new })))
+        (record { desk = desk.old; clock = clock.old })
+        (record { desk = desk.new; clock = clock.new })))
         (λ _. TakesNoLink (record { left = R.left door.old; returned = R.returned door.old; returns = R.returns door.old; out = R.out door.old; faults = R.faults door.old })
-        (record { left = R.left door.new; returned = R.returned door.new; returns = R.returns door.new; out = R.out door.new; faults = R.faults door.new }) × (D.lists desk.new ≡ D.lists desk.old) × (clock.new ≡ clock.old) × HasRisen (R.faults door.old) (R.faults door.new)) }
+        (record { left = R.left door.new; returned = R.returned door.new; returns = R.returns door.new; out = R.out door.new; faults = R.faults door.new }) × (desk.new ≡ desk.old) × (clock.new ≡ clock.old) × HasRisen (R.faults door.old) (R.faults door.new)) }
 {
     let Ok(next) = door.next() else {
         return Err(Failed);

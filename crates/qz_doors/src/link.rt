@@ -40,8 +40,8 @@ pub fn serve_link<D: Desk, L: Link, C: Clock>(
     ensures ends { LinkEnds (Asks C.tells D.answers)
         (record { left = L.left link.old; holds = L.holds link.old; faults = L.faults link.old })
         (record { left = L.left link.new; holds = L.holds link.new; faults = L.faults link.new })
-        (record { lists = D.lists desk.old; clock = clock.old })
-        (record { lists = D.lists desk.new; clock = clock.new })
+        (record { desk = desk.old; clock = clock.old })
+        (record { desk = desk.new; clock = clock.new })
         result }
 {
     match serve_or_halt(alloc, desk, link, clock) {
@@ -60,8 +60,8 @@ fn serve_or_halt<D: Desk, L: Link, C: Clock>(
     ensures { let ends = LinkEnds (Asks C.tells D.answers)
         (record { left = L.left link.old; holds = L.holds link.old; faults = L.faults link.old })
         (record { left = L.left link.new; holds = L.holds link.new; faults = L.faults link.new })
-        (record { lists = D.lists desk.old; clock = clock.old })
-        (record { lists = D.lists desk.new; clock = clock.new })
+        (record { desk = desk.old; clock = clock.old })
+        (record { desk = desk.new; clock = clock.new })
         in MatchResult result ends (λ halt. ends (halt_end halt)) }
 {
     let Ok(mut room) = vec![in alloc; 0u8; PIECE] else {
@@ -88,8 +88,8 @@ fn serve_through<D: Desk, L: Link, C: Clock>(
     ensures { let ends = LinkEnds (Asks C.tells D.answers)
         (record { left = L.left link.old; holds = L.holds link.old; faults = L.faults link.old })
         (record { left = L.left link.new; holds = L.holds link.new; faults = L.faults link.new })
-        (record { lists = D.lists desk.old; clock = clock.old })
-        (record { lists = D.lists desk.new; clock = clock.new })
+        (record { desk = desk.old; clock = clock.old })
+        (record { desk = desk.new; clock = clock.new })
         in MatchResult result ends (λ halt. ends (halt_end halt)) }
 {
     loop {
@@ -117,20 +117,20 @@ fn step<D: Desk, L: Link, C: Clock>(
         (λ ended. MatchOption ended (StepsOn (Asks C.tells D.answers)
         (record { left = L.left link.old; holds = L.holds link.old; faults = L.faults link.old })
         (record { left = L.left link.new; holds = L.holds link.new; faults = L.faults link.new })
-        (record { lists = D.lists desk.old; clock = clock.old })
-        (record { lists = D.lists desk.new; clock = clock.new })
+        (record { desk = desk.old; clock = clock.old })
+        (record { desk = desk.new; clock = clock.new })
         core.old core.new)
         (StepEnds (Asks C.tells D.answers)
         (record { left = L.left link.old; holds = L.holds link.old; faults = L.faults link.old })
         (record { left = L.left link.new; holds = L.holds link.new; faults = L.faults link.new })
-        (record { lists = D.lists desk.old; clock = clock.old })
-        (record { lists = D.lists desk.new; clock = clock.new })
+        (record { desk = desk.old; clock = clock.old })
+        (record { desk = desk.new; clock = clock.new })
         core.old))
         (StepStops (Asks C.tells D.answers)
         (record { left = L.left link.old; holds = L.holds link.old; faults = L.faults link.old })
         (record { left = L.left link.new; holds = L.holds link.new; faults = L.faults link.new })
-        (record { lists = D.lists desk.old; clock = clock.old })
-        (record { lists = D.lists desk.new; clock = clock.new })
+        (record { desk = desk.old; clock = clock.old })
+        (record { desk = desk.new; clock = clock.new })
         core.old) }
 {
     let Ok(item) = core.next(alloc) else {
@@ -168,20 +168,20 @@ fn act<D: Desk, L: Link, C: Clock>(
         (λ ended. MatchOption ended (GoesOn (Asks C.tells D.answers)
         (record { left = L.left link.old; holds = L.holds link.old; faults = L.faults link.old })
         (record { left = L.left link.new; holds = L.holds link.new; faults = L.faults link.new })
-        (record { lists = D.lists desk.old; clock = clock.old })
-        (record { lists = D.lists desk.new; clock = clock.new })
+        (record { desk = desk.old; clock = clock.old })
+        (record { desk = desk.new; clock = clock.new })
         core.old core.new item.now)
         (IsDone (Asks C.tells D.answers)
         (record { left = L.left link.old; holds = L.holds link.old; faults = L.faults link.old })
         (record { left = L.left link.new; holds = L.holds link.new; faults = L.faults link.new })
-        (record { lists = D.lists desk.old; clock = clock.old })
-        (record { lists = D.lists desk.new; clock = clock.new })
+        (record { desk = desk.old; clock = clock.old })
+        (record { desk = desk.new; clock = clock.new })
         core.old item.now))
         (ItemStops (Asks C.tells D.answers)
         (record { left = L.left link.old; holds = L.holds link.old; faults = L.faults link.old })
         (record { left = L.left link.new; holds = L.holds link.new; faults = L.faults link.new })
-        (record { lists = D.lists desk.old; clock = clock.old })
-        (record { lists = D.lists desk.new; clock = clock.new })
+        (record { desk = desk.old; clock = clock.old })
+        (record { desk = desk.new; clock = clock.new })
         core.old item.now) }
 {
     if has_response(item) {
@@ -239,14 +239,14 @@ fn answer<D: Desk, L: Link, C: Clock>(
         (λ _. AnswersItem (Asks C.tells D.answers)
         (record { left = L.left link.old; holds = L.holds link.old; faults = L.faults link.old })
         (record { left = L.left link.new; holds = L.holds link.new; faults = L.faults link.new })
-        (record { lists = D.lists desk.old; clock = clock.old })
-        (record { lists = D.lists desk.new; clock = clock.new })
+        (record { desk = desk.old; clock = clock.old })
+        (record { desk = desk.new; clock = clock.new })
         core.now item.now)
         (AnswerStops (Asks C.tells D.answers)
         (record { left = L.left link.old; holds = L.holds link.old; faults = L.faults link.old })
         (record { left = L.left link.new; holds = L.holds link.new; faults = L.faults link.new })
-        (record { lists = D.lists desk.old; clock = clock.old })
-        (record { lists = D.lists desk.new; clock = clock.new })
+        (record { desk = desk.old; clock = clock.old })
+        (record { desk = desk.new; clock = clock.new })
         core.now item.now) }
 {
     let reply = reply_to(alloc, desk, clock, item);
@@ -264,8 +264,8 @@ fn reply_to<D: Desk, C: Clock>(alloc: Global, desk: &mut D, clock: &mut C, item:
     requires takes { (moment : ℕ) (ask : Ask) → is_moment moment ≡ true → IsAskable ask → D.takes moment ask }
     requires asked { AsksAskable item.now }
     ensures { RepliesTo (Asks C.tells D.answers) item.now
-        (record { lists = D.lists desk.old; clock = clock.old })
-        (record { lists = D.lists desk.new; clock = clock.new })
+        (record { desk = desk.old; clock = clock.old })
+        (record { desk = desk.new; clock = clock.new })
         result }
 {
     match item {

@@ -19,6 +19,8 @@ struct Counting {
 impl Desk for Counting {
     ghost lists = { λ _. record { records = record { list = []; doubt = None }; parts = [] } };
 
+    ghost faults = { λ _. 0 };
+
     ghost takes = { λ _ _. ⊤ };
 
     ghost answers = { λ _ _ _ _ _. ⊤ };

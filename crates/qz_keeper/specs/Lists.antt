@@ -23,10 +23,12 @@ abbrev pub with_next : Option Record → List Record → List Record
 with_next None list = list
 with_next (Some r) list = list ++ r ∷ []
 
--- A list and its keeper: the payloads spell it, and behind it the record that was found. What isn't in the list yet may stand next.
+-- A list and its keeper: the payloads spell it, and behind it the record that was found. What isn't in the list yet may stand next, and
+-- is in doubt or found.
 pub record IsKeptList {K : Type 0} (kept : K → Option (List (List ℕ))) (MayFollow : List Record → Record → Type 0) (list : List Record) (c : Custody K) : Type 0 where
   pub keeps : KeepsList (kept c.keeper) (with_next c.found list)
   pub next : IfSome (pending c) (MayFollow list)
+  pub one : IfSome c.found (λ _. c.doubt ≡ None)
 
 -- a list as it is seen: what isn't in it yet is in doubt
 abbrev pub held_in : {K : Type 0} → List Record → Custody K → Held
@@ -43,18 +45,19 @@ told_of refused (Ok told) = told
 told_of refused (Err e) = refused (refusal_of e)
 
 -- What a call at a list that was mended comes to. Answers is what is said over a list, and the list afterwards. The call is
--- answered; or the record that its answer puts is in doubt; or one is in doubt already and stays so; or memory was wanting.
-pub data CallEnds {A : Type 0} (refused : Refusal → A) (Answers : List Record → A → List Record → Type 0) (mended new : Held) (told : A) : Type 0 where
-  answered : mended.doubt ≡ None → new.doubt ≡ None → Answers mended.list told new.list → CallEnds refused Answers mended new told
-  put_in_doubt : (answer : A) (r : Record) → mended.doubt ≡ None → Answers mended.list answer (mended.list ++ r ∷ []) → new ≡ record { list = mended.list; doubt = Some r } → told ≡ refused refusal.KeepFault → CallEnds refused Answers mended new told
-  stayed_in_doubt : is_some mended.doubt ≡ true → new ≡ mended → told ≡ refused refusal.KeepFault → CallEnds refused Answers mended new told
-  no_memory : new ≡ mended → told ≡ refused refusal.Memory → CallEnds refused Answers mended new told
+-- answered; or its keeper failed, and the record that its answer puts is in doubt, or one is in doubt already and stays so; or memory
+-- was wanting.
+pub data CallEnds {A : Type 0} (failed : Type 0) (refused : Refusal → A) (Answers : List Record → A → List Record → Type 0) (mended new : Held) (told : A) : Type 0 where
+  answered : mended.doubt ≡ None → new.doubt ≡ None → Answers mended.list told new.list → CallEnds failed refused Answers mended new told
+  put_in_doubt : failed → (answer : A) (r : Record) → mended.doubt ≡ None → Answers mended.list answer (mended.list ++ r ∷ []) → new ≡ record { list = mended.list; doubt = Some r } → told ≡ refused refusal.KeepFault → CallEnds failed refused Answers mended new told
+  stayed_in_doubt : failed → is_some mended.doubt ≡ true → new ≡ mended → told ≡ refused refusal.KeepFault → CallEnds failed refused Answers mended new told
+  no_memory : new ≡ mended → told ≡ refused refusal.Memory → CallEnds failed refused Answers mended new told
 
 -- One call at a list of which a record may be in doubt: the list is mended first.
-pub record OneCall {A : Type 0} (refused : Refusal → A) (Answers : List Record → A → List Record → Type 0) (old new : Held) (told : A) : Type 0 where
+pub record OneCall {A : Type 0} (failed : Type 0) (refused : Refusal → A) (Answers : List Record → A → List Record → Type 0) (old new : Held) (told : A) : Type 0 where
   pub mended : Held
   pub mends : Mended old mended
-  pub ends : CallEnds refused Answers mended new told
+  pub ends : CallEnds failed refused Answers mended new told
 
 -- Such a call that looks only: what is said over a list, which stays as it is.
 abbrev pub Looks : {A : Type 0} → (List Record → A → Type 0) → List Record → A → List Record → Type 0
@@ -72,13 +75,14 @@ pub record IsSettled (old new : Held) : Type 0 where
   pub mends : Mended old new
   pub no_doubt : new.doubt ≡ None
 
--- all is as it was; a keeper is asked only of a record in doubt
-pub record IsUnsettled (old new : Held) (e : KeepErr) : Type 0 where
+-- all is as it was; a keeper fails only where it is asked, of a record in doubt
+pub record IsUnsettled (failed : Type 0) (old new : Held) (e : KeepErr) : Type 0 where
   pub same : new ≡ old
   pub in_doubt : e ≡ Fault → is_some old.doubt ≡ true
+  pub cause : e ≡ Fault → failed
 
-abbrev pub Settles : Held → Held → Result (Unit {0}) KeepErr → Type 0
-Settles old new result = MatchResult result (λ _. IsSettled old new) (IsUnsettled old new)
+abbrev pub Settles : Type 0 → Held → Held → Result (Unit {0}) KeepErr → Type 0
+Settles failed old new result = MatchResult result (λ _. IsSettled old new) (IsUnsettled failed old new)
 
 -- ---- what follows for a list from its payloads
 

@@ -16,6 +16,17 @@ pub record Serves (was is : Type 0) (before now : ℕ) (failed : Type 0) : Type 
   pub steady : was → now ≡ before
   pub still : was → is
 
+-- A keeper failed in a call: its count of faults rose, and it isn't sound.
+pub record HasFailed (sound : Type 0) (before now : ℕ) : Type 0 where
+  pub rose : HasRisen before now
+  pub unsound : sound → ⊥
+
+-- Whatever became of a call: the count never falls, and that of a sound keeper stays, which is sound from then on.
+pub record GoesOn (was is : Type 0) (before now : ℕ) : Type 0 where
+  pub later : before ≤ now
+  pub steady : was → now ≡ before
+  pub still : was → is
+
 -- why it failed, if it did
 abbrev pub failure : {T : Type 0} → Result T KeepErr → Option KeepErr
 failure (Ok t) = None
@@ -44,6 +55,6 @@ pub data IsRecorded {R : Type 0} (records : R → R → Record → Option KeepEr
 -- Of a call that answers over a list, and leaves this list behind it: none was recorded, since it leaves the same; or the record that
 -- it leaves more, which may stand there, was, or failed to be; or memory was wanting before.
 pub data Recorded {R : Type 0} (records : R → R → Record → Option KeepErr → Type 0) (MayFollow : Record → Type 0) (h after : List Record) (old new : R) (e : Option KeepErr) : Type 0 where
-  none : after ≡ h → new ≡ old → e ≡ None → Recorded records MayFollow h after old new e
-  one : (r : Record) → MayFollow r → after ≡ h ++ r ∷ [] → IsRecorded records r old new e → Recorded records MayFollow h after old new e
+  nothing_put : after ≡ h → new ≡ old → e ≡ None → Recorded records MayFollow h after old new e
+  one_put : (r : Record) → MayFollow r → after ≡ h ++ r ∷ [] → IsRecorded records r old new e → Recorded records MayFollow h after old new e
   wanting : new ≡ old → e ≡ Some Memory → Recorded records MayFollow h after old new e

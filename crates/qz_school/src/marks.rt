@@ -16,7 +16,7 @@ ghost use Rattle.qz_school.specs.Marks.{marks_of, shown_by, shown_mark};
 use qz_catalog::Catalog;
 use qz_decimal::Mark;
 use qz_grading::{AttemptId, Refusal, Steps};
-use qz_shard::Shard;
+use qz_shard::ShardCore;
 use qz_terms::{Ask, Caller, Done, Part, Plan, Reply, Request, Role, Shown, User};
 use qz_text::{Listed, NoMemory, Text};
 use std::alloc::Global;
@@ -38,7 +38,7 @@ fn manager(alloc: Global) -> Result<User, NoMemory>
 /// What a manager is shown of the slots of an attempt.
 fn parts<L: Ledger>(
     blank: Blank,
-    shard: &mut Shard,
+    shard: &mut ShardCore,
     alloc: Global,
     plan: &Plan,
     attempt: AttemptId,
@@ -105,7 +105,7 @@ fn plan_of(catalog: &Catalog, alloc: Global, quiz: u32, user: u32) -> Result<Pla
 /// Adds the marks of an attempt's slots to others, in order. An attempt that isn't there has none.
 pub(crate) fn marks_onto(
     catalog: &Catalog,
-    shard: &mut Shard,
+    shard: &mut ShardCore,
     alloc: Global,
     attempt: AttemptId,
     marks: &mut Listed<Mark>,

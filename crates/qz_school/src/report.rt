@@ -11,7 +11,7 @@ ghost use Rattle.qz_school.specs.Solo.{IsSolo, records_of};
 use qz_catalog::Catalog;
 use qz_decimal::Grade;
 use qz_grading::{Refusal, Steps};
-use qz_shard::Shard;
+use qz_shard::ShardCore;
 use qz_terms::{Done, Policy, Reply, Row};
 use qz_text::{Listed, NoMemory, Text, TryCopy};
 use std::alloc::Global;
@@ -22,7 +22,7 @@ use std::sync::ledger::{Blank, Ledger};
 /// The users of a shard with an attempt of a quiz, in order of number, and the grade of each.
 fn rows<L: Ledger>(
     blank: Blank,
-    shard: &mut Shard,
+    shard: &mut ShardCore,
     alloc: Global,
     quiz: u32,
     policy: &Policy,
@@ -55,7 +55,7 @@ fn added(
 
 /// The rows of all shards, one shard after the other.
 fn rows_of_all(
-    shards: &mut Vec<Shard>,
+    shards: &mut Vec<ShardCore>,
     alloc: Global,
     quiz: u32,
     policy: &Policy,
@@ -126,7 +126,7 @@ fn named(
 /// The reply to a request for the grades of a quiz. A quiz that isn't there is `Unknown`.
 pub(crate) fn report(
     catalog: &Catalog,
-    shards: &mut Vec<Shard>,
+    shards: &mut Vec<ShardCore>,
     alloc: Global,
     quiz: u32,
 ) -> Result<Reply, Refusal>

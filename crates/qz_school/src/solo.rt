@@ -23,7 +23,7 @@ use crate::telling::{told, work};
 use qz_catalog::Catalog;
 use qz_decimal::Mark;
 use qz_grading::{AttemptId, Refusal, Thing};
-use qz_shard::Shard;
+use qz_shard::ShardCore;
 use qz_terms::{Ask, Desk, Done, Reply, Request, User, asks_catalog, forbidden, named_user};
 use qz_text::{Listed, NoMemory, Text};
 use std::alloc::Global;
@@ -34,7 +34,7 @@ use std::marker::Model;
 #[derive(Drop)]
 pub struct Solo {
     catalog: Catalog,
-    shards: Vec<Shard>,
+    shards: Vec<ShardCore>,
 }
 
 impl Model for Solo {
@@ -49,14 +49,14 @@ impl Model for Solo {
 }
 
 /// So many shards without a record, from 1 to 64.
-fn fresh(alloc: Global, count: u8) -> Result<Vec<Shard>, NoMemory>
+fn fresh(alloc: Global, count: u8) -> Result<Vec<ShardCore>, NoMemory>
     requires some { 1 ≤ count }
     requires few { count ≤ 64 }
     ensures { IfOk result (λ shards. shards.items ≡ fresh_shards count count) }
 {
     let mut shards = Vec::new(alloc);
     for index in 0..count {
-        shards.push(Shard::new(alloc, index, count))?;
+        shards.push(ShardCore::new(alloc, index, count))?;
     }
     Ok(shards)
 }
@@ -99,7 +99,7 @@ fn index_of(number: u8, count: usize) -> Result<usize, Refusal>
 }
 
 /// Which attempt of a shard, after this one, hasn't ended.
-fn live(shard: &mut Shard, after: AttemptId) -> Result<Reply, Refusal>
+fn live(shard: &mut ShardCore, after: AttemptId) -> Result<Reply, Refusal>
     ensures told { IfOk result (λ told. told ≡ live_answer shard.old.records after) }
     ensures wants { IfErr result (λ r. r ≡ refusal.Memory) }
     ensures unchanged { shard.new ≡ shard.old }
@@ -254,6 +254,8 @@ impl Solo {
 
 impl Desk for Solo {
     ghost lists = { λ s. s };
+
+    ghost faults = { λ _. 0 };
 
     ghost takes = { λ moment ask. MayBeAsked ask moment };
 

@@ -12,7 +12,7 @@ ghost use Rattle.qz_school.specs.Solo.{IsKeptUnder, IsPlanned, IsSameShard, IsUn
 
 use qz_catalog::Catalog;
 use qz_grading::{Refusal, Steps};
-use qz_shard::{Older, Shard};
+use qz_shard::{Older, ShardCore};
 use qz_terms::{Ask, Job, Plan, Reply, Request, User, attempt_named};
 use std::alloc::Global;
 use std::marker::Brand;
@@ -31,7 +31,7 @@ fn looks(request: &Request) -> bool
 /// The shard's reply to a request under its plan, which isn't older than a job that is done there.
 fn answered<L: Ledger>(
     blank: Blank,
-    shard: &mut Shard,
+    shard: &mut ShardCore,
     alloc: Global,
     user: &User,
     plan: &Plan,
@@ -61,7 +61,7 @@ fn answered<L: Ledger>(
 /// The plan of a request to the shard of the user whom it names, without its questions but for a start, or why there is none.
 fn plan_for(
     catalog: &Catalog,
-    shard: &mut Shard,
+    shard: &mut ShardCore,
     alloc: Global,
     user: &User,
     ask: &Ask,
@@ -89,7 +89,7 @@ fn plan_for(
 /// The reply of a shard to a request that it answers under a plan, where the rules of callers allow it.
 pub(crate) fn told(
     catalog: &Catalog,
-    shard: &mut Shard,
+    shard: &mut ShardCore,
     alloc: Global,
     user: &User,
     ask: &Ask,
@@ -118,7 +118,7 @@ pub(crate) fn told(
 /// The shard's reply to a step of a job.
 fn worked<L: Ledger>(
     blank: Blank,
-    shard: &mut Shard,
+    shard: &mut ShardCore,
     alloc: Global,
     caller: u32,
     job: &Job,
@@ -136,7 +136,7 @@ fn worked<L: Ledger>(
 }
 
 /// The reply of a shard to a step of a job that the catalogue has.
-pub(crate) fn work(shard: &mut Shard, alloc: Global, caller: u32, job: &Job, moment: u64) -> Reply
+pub(crate) fn work(shard: &mut ShardCore, alloc: Global, caller: u32, job: &Job, moment: u64) -> Reply
     requires { IsWorkable shard.old.records job.now moment }
     ensures answer { Works shard.old.records moment caller job.now result shard.new.records }
     ensures legal { IsLegal shard.new.index shard.new.count shard.new.records }

@@ -25,3 +25,5 @@ pub mod StandLemmas
 pub mod LearnTests
 pub mod TakeLemmas
 pub mod LoadLemmas
+pub mod Shortness
+pub mod KeptCalls

@@ -218,3 +218,18 @@ pub worked-put : (h g : List Record) (now caller : ℕ) (job : Job) (r : Record)
 worked-put h g now caller job r told w put =
     let made : put_target h now caller job (first_target h job) ≡ Some r = rw w.0 at w.1 in
     record { reply = put.said_so ∙ rw (w.0, made) refl; list = put.put ∙ rw w.1 refl }
+
+-- ---- a record of a job has no key
+
+keyless-map : (m caller u : ℕ) (o : Option Event) (r : Record) → option_map (λ e. record_of_job m caller u e) o ≡ Some r → r.key ≡ None
+keyless-map m caller u None r is = absurd cc
+keyless-map m caller u (Some e) r is = let same : record_of_job m caller u e ≡ r = cc in ap (λ (x : Record). x.key) (sym same)
+
+keyless-target : (h : List Record) (now caller : ℕ) (job : Job) (o : Option (AttemptId × ℕ)) (r : Record) → put_target h now caller job o ≡ Some r → r.key ≡ None
+keyless-target h now caller job None r is = keyless-map (time h 0 now) caller 0 (Some (event.JobDone job.number job.plan.quiz job.position)) r is
+keyless-target h now caller job (Some t) r is = keyless-map (time h t.0.user now) caller t.0.user (target_event h job t) r is
+
+pub keyless-work : (h : List Record) (now caller : ℕ) (job : Job) (r : Record) → IsWork h now caller job (work.Put r) → r.key ≡ None
+keyless-work h now caller job r told =
+    let undone : is_done h job.number ≡ false = told.0 in
+    keyless-target h now caller job (first_target h job) r (subst (λ (b : Bool). (if b then None else put_target h now caller job (first_target h job)) ≡ Some r) undone told.1)

@@ -12,3 +12,4 @@ pub mod Cursors
 pub mod Pages
 pub mod Allowed
 pub mod Loads
+pub mod Keeping

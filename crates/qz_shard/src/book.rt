@@ -9,6 +9,7 @@ ghost use Rattle.qz_lives.specs.Attempts.{begun_of};
 ghost use Rattle.qz_lives.specs.Changes.{gradings_by};
 ghost use Rattle.qz_terms.specs.History.{bound, ended, ended_at, floor, is_ended, is_skipped, mark, next_attempt, place, row, slot_count, start, state, takers, time, total, version};
 ghost use Rattle.qz_terms.specs.History as history;
+ghost use Rattle.qz_keeper.specs.Recording.{IsRecorded, failure};
 ghost use Rattle.qz_terms.specs.Kept.{IsKept, is_moment};
 ghost use Rattle.qz_usage.specs.Usages.{IsTotal};
 ghost use Rattle.qz_shard.specs.Decisions.{IsSound};
@@ -18,7 +19,9 @@ ghost use Rattle.qz_shard.specs.Plays.{IsSlot};
 use crate::known::Known;
 use crate::listing::Listing;
 use qz_decimal::{Grade, Mark};
+use qz_disks::KeepErr;
 use qz_grading::{AttemptId, Question, State, Steps};
+use qz_keeper::Recorder;
 use qz_lives::Begun;
 use qz_terms::{Bound, How, Policy, Record};
 use qz_text::NoMemory;
@@ -259,23 +262,27 @@ impl Book {
         self.listing.lives.row(quiz, policy, user)
     }
 
-    /// Puts a record at the end. All that takes memory is made first, and where memory is wanting the book is as before. Only the
-    /// slots that the record is about are graded: a Save never, any other step once at most, a finish once for each slot; where
-    /// a version is bound, once for each step that is read again and once more.
-    pub(crate) fn put<L: Ledger>(
+    /// Puts a record at the end, once it is recorded. All that takes memory is made first, and where it is wanting or the record can't
+    /// be recorded the book is as before. Only the slots that the record is about are graded: a Save never, any other step once at
+    /// most, a finish once for each slot; where a version is bound, once for each step that is read again and once more.
+    pub(crate) fn put<R: Recorder, L: Ledger>(
         &mut self,
         alloc: Global,
         made: Record,
+        recorder: &mut R,
         steps: &mut Steps<L>,
-    ) -> Result<(), NoMemory>
-        requires { CanGrow self.old made }
+    ) -> Result<(), KeepErr>
+        requires grows { CanGrow self.old made }
+        requires ready { R.ready recorder.old made }
         ensures put { OnOk result (IsPut self.old self.new made) }
+        ensures recorded { IsRecorded R.records made recorder.old recorder.new (failure result) }
         ensures unchanged { OnErr result (self.new ≡ self.old) }
         ensures count { steps.new ≤ steps.old + gradings_by self.old made.event }
         ensures still { OnErr result (steps.new ≡ steps.old) }
     {
         let prepared = self.listing.grow(alloc, &made)?;
-        // Here a keeper's journal will take the record. What follows takes no memory.
+        let made = recorder.take(alloc, made)?;
+        // What follows takes no memory.
         self.listing.put(made, prepared, steps);
         Ok(())
     }

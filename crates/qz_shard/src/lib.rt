@@ -23,6 +23,7 @@ mod request_puts;
 mod review;
 mod rows;
 mod shard;
+mod shard_core;
 mod slots;
 mod starting;
 mod stepping;
@@ -31,6 +32,9 @@ mod viewing;
 mod working;
 
 pub use shard::{Older, Shard};
+pub use shard_core::ShardCore;
 
+#[cfg(test)]
+mod kept_tests;
 #[cfg(test)]
 mod tests;

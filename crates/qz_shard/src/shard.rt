@@ -1,36 +1,26 @@
-//! A shard and what is asked of it.
+//! A shard whose list a keeper keeps, and what is asked of it.
 
-ghost use Rattle.std.specs.Prelude.{◌≡◌, ◌⊎◌, ◌+◌, ◌<◌, ◌≤◌, List, [], length, map, true, false, Ok, Some, None, option_map, IfOk, IfErr, OnOk, OnErr, MatchResult};
+ghost use Rattle.std.specs.Prelude.{◌≡◌, ◌+◌, ◌≤◌, length, [], true, Ok, Err, Some, None, option_map, unwrap_or, IfOk, IfErr, IfSome, IsErrOf};
 ghost use Rattle.qz_decimal.specs.Numbers.{IsMaxSum, IsQuizGrade};
-ghost use Rattle.qz_grading.specs.declared.refusal.Refusal.TheVariants as refusal;
-ghost use Rattle.qz_terms.specs.declared.reply.Done.TheVariants as done;
+ghost use Rattle.qz_keeper.specs.Lists.{CallEnds, EachMayStand, IsStored, Settles};
+ghost use Rattle.qz_keeper.specs.Recording.{GoesOn, HasFailed};
+ghost use Rattle.qz_terms.specs.History.{live_after};
 ghost use Rattle.qz_terms.specs.declared.reply.Reply.TheVariants as reply;
-ghost use Rattle.qz_terms.specs.Answer.{named_user};
-ghost use Rattle.qz_terms.specs.History.{live_after, place, quiz, takers};
-ghost use Rattle.qz_terms.specs.Legal.{IsLegal};
-ghost use Rattle.qz_shard.specs.Answering.{IsAnswered, IsPosed};
-ghost use Rattle.qz_shard.specs.Grades.{graded};
-ghost use Rattle.qz_shard.specs.Holdings.{is_shard, is_change, is_look, IsAsked, StartsHere, older, Answers, IsAlone, IsAnsweredAgain, IsWorkable, Works};
-ghost use Rattle.qz_lives.specs.Changes.{gradings_by};
+ghost use Rattle.qz_shard.specs.Answering.{IsPosed};
+ghost use Rattle.qz_shard.specs.Holdings.{is_shard, is_change, is_look, IsAsked, IsWorkable, StartsHere};
+ghost use Rattle.qz_shard.specs.Keeping.{CallsFor, CountsFew, IsOlder, IsOpened, IsSamePart, IsSeen, IsTold, Replies, TellsQuiz, TellsRows, shard_over};
 ghost use Rattle.qz_shard.specs.Gradings.{most_gradings, most_of_work};
-ghost use Rattle.qz_shard.specs.Loads.{IsListFault, IsLoaded, IsTaken};
-ghost use Rattle.qz_shard.specs.Nexts.{IsNext, IsPutWith};
+ghost use Rattle.qz_shard.specs.Loads.{IsListFault};
 ghost use Rattle.qz_shard.specs.Works.{IsWorked};
 
-use crate::book::Book;
-use crate::cursors::Cursors;
-use crate::decision::{Decision, decide};
-use crate::legal::is_allowed;
-use crate::looking::seen;
-use crate::putting::{moment_of, record_of, tell};
-use crate::rows::rows;
-use crate::working::{Work, work_on};
+use crate::shard_core::ShardCore;
 use qz_decimal::Grade;
-use qz_grading::{AttemptId, Refusal, Steps, Thing};
-use qz_index::Keys;
-use qz_record::{ListFault, RecordFault, parse};
-use qz_terms::{Ask, Done, Job, Plan, Policy, Record, Reply, Request, User, named_user};
-use qz_text::{Bytes, Listed, NoMemory};
+use qz_disks::{KeepErr, Keeper};
+use qz_grading::{AttemptId, Refusal, Steps};
+use qz_keeper::{RecordKeeper, refusal_of, reply_of};
+use qz_record::ListFault;
+use qz_terms::{Ask, Job, Plan, Policy, Reply, Request, User};
+use qz_text::{Bytes, Listed, TryCopy};
 use std::alloc::Global;
 use std::marker::{Brand, Model};
 use std::sync::ledger::{Blank, Ledger};
@@ -42,146 +32,148 @@ pub struct Older {
     pub floor: u64,
 }
 
-/// What is said of a request that had nothing to do.
-fn idle(book: &Book, user: &User, request: &Request) -> Reply
-    ensures { result ≡ reply.Ok (place book.now (named_user user.now request.now)) done.Idle }
-{
-    Reply::Ok {
-        place: book.place(named_user(user, request)),
-        done: Done::Idle,
-    }
-}
-
-/// The records of the attempts of a part of the users: those whose number, modulo the number of shards, is the shard's index.
+/// The records of the attempts of a part of the users, and their keeper: those whose number, modulo the number of shards, is the shard's
+/// index.
 ///
-/// Beside them it keeps an index of them, what each attempt has come to, what was said under each key, and how far the jobs at work
-/// have come. So a request walks no list of records, and only a step that is put is graded.
+/// A record is kept before anything is changed, and after all that takes memory. Where keeping it failed it is in doubt: whether it is
+/// kept isn't known. The next call finds that out and mends the list: it takes the record where it is kept, and else drops it. A call
+/// answers `KeepFault` only where the keeper failed in that call, and then puts nothing.
 #[derive(Drop)]
-pub struct Shard {
-    index: u8,
-    count: u8,
-    book: Book,
-    keys: Keys,
-    cursors: Cursors,
+pub struct Shard<K: Keeper> {
+    core: ShardCore,
+    keeper: RecordKeeper<K>,
 }
 
-impl Model for Shard {
-    ghost use Rattle.qz_shard.specs.Holdings.{Holding};
+impl<K: Keeper> Model for Shard<K> {
+    ghost use Rattle.qz_keeper.specs.Lists.{IsKeptList, held_in};
+    ghost use Rattle.qz_shard.specs.Keeping.{Keeping};
+    ghost use Rattle.qz_shard.specs.Nexts.{IsNext};
 
-    ghost Value = { Holding };
+    ghost Value = { Keeping K };
 
-    ghost use Rattle.qz_shard.specs.Books.{IsAnswering};
+    ghost view = { λ s. record {
+      index = s.core.index;
+      count = s.core.count;
+      held = held_in s.core.records s.keeper;
+      keeper = s.keeper.keeper;
+    } };
 
-    ghost view = { λ s. record { index = s.index; count = s.count; records = s.book } };
-
-    ghost invariant = { λ s. IsAnswering s.index s.count s.book s.keys s.cursors };
+    ghost invariant = { λ s.
+        IsKeptList K.kept (IsNext s.core.index s.core.count) s.core.records s.keeper };
 }
 
-impl Shard {
-    /// A shard without a record: one of `count` shards, which are from 1 to 64.
-    pub fn new(alloc: Global, index: u8, count: u8) -> Shard
-        requires { is_shard index count ≡ true }
-        ensures { result ≡ record { index = index; count = count; records = [] } }
-    {
-        Shard {
-            index,
-            count,
-            book: Book::new(alloc),
-            keys: Keys::new(alloc),
-            cursors: Cursors::new(alloc),
-        }
-    }
-
-    /// Reads a shard's list: one of `count` shards, which are from 1 to 64, whose records these payloads spell, in order.
+impl<K: Keeper> Shard<K> {
+    /// Reads a shard's list: one of `count` shards, which are from 1 to 64, whose records these payloads spell, in order. They are those
+    /// that the keeper keeps.
     ///
     /// Each record has to be one that may stand behind those before it. `Illegal` names the first payload, from 1, that spells no such
-    /// record. What was said of a record with a key is kept again, so that a request that is asked again has the reply that it had.
-    pub fn load(alloc: Global, index: u8, count: u8, payloads: &[Bytes]) -> Result<Shard, ListFault>
-        requires { is_shard index count ≡ true }
-        ensures loaded { IfOk result (IsLoaded index count payloads.now) }
-        ensures illegal { IfErr result (IsListFault index count payloads.now) }
-    {
-        let mut shard = Shard::new(alloc, index, count);
-        for (place, payload) in payloads.iter().enumerate() {
-            if !shard.take::<Brand>(Blank::new(1), alloc, payload.as_slice())? {
-                return Err(ListFault::Illegal {
-                    nth: place as u64 + 1,
-                });
-            }
-        }
-        Ok(shard)
-    }
-
-    /// Takes the record that a payload spells, where it may stand at the end. Its gradings aren't counted.
-    fn take<L: Ledger>(
-        &mut self,
-        blank: Blank,
+    /// record. The keeper is given back with it.
+    pub fn load(
         alloc: Global,
-        payload: &[u8],
-    ) -> Result<bool, NoMemory>
-        requires name { blank.name ≡ L.name }
-        requires parts { blank.parts ≡ L.parts }
-        requires some_part { 0 < blank.parts }
-        ensures taken { IfOk result (IsTaken self.old self.new payload.now) }
-        ensures shard { (self.new.index ≡ self.old.index) × (self.new.count ≡ self.old.count) }
+        index: u8,
+        count: u8,
+        keeper: K,
+        payloads: &[Bytes],
+    ) -> Result<Shard<K>, (K, ListFault)>
+        requires shard { is_shard index count ≡ true }
+        requires settled { K.doubt keeper ≡ None }
+        requires kept { IfSome (K.kept keeper) (λ told. told ≡ payloads.now) }
+        ensures opened { IfOk result (IsOpened index count payloads.now keeper) }
+        ensures illegal { IfErr result (λ f. IsListFault index count payloads.now f.1) }
+        ensures back { IfErr result (λ f. f.0 ≡ keeper) }
     {
-        let made = match parse(alloc, payload) {
-            Ok(made) => made,
-            Err(RecordFault::NotOne) => return Ok(false),
-            Err(RecordFault::Memory) => return Err(NoMemory),
-        };
-        if !is_allowed(
-            alloc,
-            &self.book,
-            &self.keys,
-            &mut self.cursors,
-            self.index,
-            self.count,
-            &made,
-        )? {
-            return Ok(false);
-        }
-        self.put(alloc, made, &mut Steps::<L>::open(blank))?;
-        Ok(true)
-    }
-
-    /// The number of records.
-    pub fn len(&self) -> u64
-        ensures count { result ≡ length self.now.records }
-        ensures legal { IsLegal self.now.index self.now.count self.now.records }
-    {
-        self.book.len()
-    }
-
-    /// The quiz of an attempt. Where there is no such attempt it is `Unknown`.
-    pub fn quiz_of(&mut self, attempt: AttemptId) -> Result<u32, Refusal>
-        ensures there { IfOk result (λ q. quiz self.old.records attempt ≡ Some q) }
-        ensures missing { IfErr result (λ r. (quiz self.old.records attempt ≡ None) × (r ≡ Refusal.Unknown Thing.Attempt)) }
-        ensures unchanged { self.new ≡ self.old }
-    {
-        match self.book.begun(attempt) {
-            Some(begun) => Ok(begun.quiz),
-            None => Err(Refusal::Unknown {
-                what: Thing::Attempt,
+        match ShardCore::load(alloc, index, count, payloads) {
+            Ok(core) => Ok(Shard {
+                core,
+                keeper: RecordKeeper::new(keeper),
             }),
+            Err(fault) => Err((keeper, fault)),
         }
+    }
+
+    /// The number of records, without one in doubt.
+    pub fn len(&self) -> u64
+        ensures { result ≡ length self.now.held.list }
+    {
+        self.core.len()
+    }
+
+    /// The keeper, as it keeps the list.
+    pub fn into_keeper(self) -> K
+        ensures keeper { result ≡ self.keeper }
+        ensures stored { IsStored (K.kept result) (K.doubt result) self.held }
+    {
+        self.keeper.into_keeper()
+    }
+
+    /// Finds out what became of the record in doubt, and takes it where it is kept. After an error all is as it was.
+    fn settle(&mut self, alloc: Global) -> Result<(), KeepErr>
+        ensures settles { Settles (HasFailed (K.sound self.old.keeper)
+            (K.faults self.old.keeper) (K.faults self.new.keeper))
+            self.old.held self.new.held result }
+        ensures shard { IsSamePart self.old self.new }
+        ensures goes_on { GoesOn (K.sound self.old.keeper) (K.sound self.new.keeper)
+            (K.faults self.old.keeper) (K.faults self.new.keeper) }
+    {
+        self.keeper.find(alloc, self.core.len())?;
+        let Some(found) = self.keeper.found() else {
+            return Ok(());
+        };
+        let made = found.try_copy(alloc)?;
+        self.core.adopt::<Brand>(Blank::new(1), alloc, made)?;
+        self.keeper.settle();
+        Ok(())
+    }
+
+    /// Mends the list: finds out what became of the record in doubt, takes it where it is kept, and else drops it. Its gradings aren't
+    /// counted. After an error all is as it was.
+    pub fn mend(&mut self, alloc: Global) -> Result<(), Refusal>
+        ensures mended { CallsFor (HasFailed (K.sound self.old.keeper)
+            (K.faults self.old.keeper) (K.faults self.new.keeper))
+            (λ _ told. told ≡ Ok tt) self.old.held self.new.held result }
+        ensures shard { IsSamePart self.old self.new }
+        ensures goes_on { GoesOn (K.sound self.old.keeper) (K.sound self.new.keeper)
+            (K.faults self.old.keeper) (K.faults self.new.keeper) }
+    {
+        match self.settle(alloc) {
+            Ok(()) => Ok(()),
+            Err(why) => Err(refusal_of(why)),
+        }
+    }
+
+    /// The quiz of an attempt. Where there is no such attempt it is `Unknown`. The list is mended first.
+    pub fn quiz_of(&mut self, alloc: Global, attempt: AttemptId) -> Result<u32, Refusal>
+        ensures told { CallsFor (HasFailed (K.sound self.old.keeper)
+            (K.faults self.old.keeper) (K.faults self.new.keeper))
+            (TellsQuiz attempt) self.old.held self.new.held result }
+        ensures shard { IsSamePart self.old self.new }
+        ensures goes_on { GoesOn (K.sound self.old.keeper) (K.sound self.new.keeper)
+            (K.faults self.old.keeper) (K.faults self.new.keeper) }
+    {
+        self.mend(alloc)?;
+        self.core.quiz_of(attempt)
     }
 
     /// The first attempt after this one that hasn't ended, in order of user and then of number, over all quizzes. An attempt that
-    /// is overdue and isn't settled yet is among them.
+    /// is overdue and isn't settled yet is among them. The list is mended first.
     ///
     /// `after` is only a bound and needn't be there: 0 and 0 come before all. Where each attempt after it has ended the answer is
-    /// `None`. A walk over a list that is kept in memory has no error.
-    pub fn live(&mut self, after: AttemptId) -> Result<Option<AttemptId>, Refusal>
-        ensures there { result ≡ Ok (live_after self.old.records after) }
-        ensures unchanged { self.new ≡ self.old }
+    /// `None`.
+    pub fn live(&mut self, alloc: Global, after: AttemptId) -> Result<Option<AttemptId>, Refusal>
+        ensures told { CallsFor (HasFailed (K.sound self.old.keeper)
+            (K.faults self.old.keeper) (K.faults self.new.keeper))
+            (λ h told. told ≡ Ok (live_after h after)) self.old.held self.new.held result }
+        ensures shard { IsSamePart self.old self.new }
+        ensures goes_on { GoesOn (K.sound self.old.keeper) (K.sound self.new.keeper)
+            (K.faults self.old.keeper) (K.faults self.new.keeper) }
     {
-        Ok(self.book.live_after(after))
+        self.mend(alloc)?;
+        self.core.live(after)
     }
 
     /// The grade (in 10^-5) at a quiz of each user who has an attempt of it here, in order of user, each once. A user of whom no
-    /// total is taken has none. The policy's grade is from 0 to 10,000, and its sum of max marks from 0 to 2,000,000. `Memory` is
-    /// the only error.
+    /// total is taken has none. The policy's grade is from 0 to 10,000, and its sum of max marks from 0 to 2,000,000. The list is
+    /// mended first.
     pub fn rows<L: Ledger>(
         &mut self,
         alloc: Global,
@@ -191,23 +183,28 @@ impl Shard {
     ) -> Result<Listed<(u32, Option<Grade>)>, Refusal>
         requires grade { IsQuizGrade policy.now.grade }
         requires sum { IsMaxSum policy.now.sum }
-        ensures rows { IfOk result (λ rows. rows ≡ map (graded self.old.records quiz policy.now) (takers self.old.records quiz)) }
-        ensures wants { IfErr result (λ r. r ≡ refusal.Memory) }
-        ensures unchanged { self.new ≡ self.old }
+        ensures told { CallsFor (HasFailed (K.sound self.old.keeper)
+            (K.faults self.old.keeper) (K.faults self.new.keeper))
+            (TellsRows quiz policy.now) self.old.held self.new.held result }
+        ensures shard { IsSamePart self.old self.new }
+        ensures goes_on { GoesOn (K.sound self.old.keeper) (K.sound self.new.keeper)
+            (K.faults self.old.keeper) (K.faults self.new.keeper) }
         ensures count { steps.new ≡ steps.old }
     {
-        Ok(rows(alloc, &self.book, quiz, policy)?)
+        self.mend(alloc)?;
+        self.core.rows(alloc, quiz, policy, steps)
     }
 
     /// Answers a request that may change the list: a start, a save, a submit, an again, a finish, a mark or a settling, at this
-    /// moment by the clock, in seconds since 1970.
+    /// moment by the clock, in seconds since 1970. The list is mended first. The request's key has at most 64 bytes.
     ///
     /// The plan is of the quiz that the request names, or of that of the attempt that it names, where it is there. The reply is
-    /// the answer over the list before, and the list afterwards has the answer's record at its end where the answer puts one. A
+    /// the answer over the mended list, and the list afterwards has the answer's record at its end where the answer puts one. A
     /// refusal adds nothing, and neither does a request whose caller and key stand with the same request already: it gets the
-    /// reply of that one. Where memory is wanting the reply is `Memory` and the list is as before. A start whose plan is older
-    /// than a job that is done here is `Older`, and changes nothing. What a student is told depends on nobody else: it is
-    /// the answer over each list that is alike for this student.
+    /// reply of that one. Where memory is wanting the reply is `Memory` and nothing is put. Where the keeper fails it is `KeepFault`,
+    /// nothing is put, and one record is in doubt: that of the answer, or the one that was. A start whose plan is older than a job that
+    /// is done here is `Older`, and puts nothing. What a student is told depends on nobody else: it is the answer over each list
+    /// that is alike for this student.
     pub fn apply<L: Ledger>(
         &mut self,
         alloc: Global,
@@ -218,28 +215,65 @@ impl Shard {
         steps: &mut Steps<L>,
     ) -> Result<Reply, Older>
         requires change { is_change ask.now.request ≡ true }
-        requires asked { IsAsked self.old.records plan.now ask.now moment }
-        requires here { StartsHere self.old user.now plan.now ask.now.request }
-        ensures answer { IfOk result (λ told. Answers self.old.records moment user.now plan.now ask.now told self.new.records) }
-        ensures alone { IfOk result (λ told. IsAlone self.old moment user.now plan.now ask.now told) }
-        ensures newer { OnOk result (older self.old.records plan.now ask.now.request ≡ None) }
-        ensures older { IfErr result (λ o. older self.old.records plan.now ask.now.request ≡ Some o.floor) }
-        ensures unchanged { OnErr result (self.new ≡ self.old) }
-        ensures shard { (self.new.index ≡ self.old.index) × (self.new.count ≡ self.old.count) }
-        ensures count { steps.new ≤ steps.old + most_gradings self.old.records ask.now.request }
-        ensures still { self.new.records ≡ self.old.records → steps.new ≡ steps.old }
+        requires asked { EachMayStand (λ h. IsAsked h plan.now ask.now moment) self.old.held }
+        requires here { StartsHere (shard_over self.old []) user.now plan.now ask.now.request }
+        requires brief { length (unwrap_or ask.now.key []) ≤ 64 }
+        ensures answer { IfOk result (Replies (HasFailed (K.sound self.old.keeper)
+            (K.faults self.old.keeper) (K.faults self.new.keeper))
+            (IsTold self.old.index self.old.count
+            moment user.now plan.now ask.now) self.old.held self.new.held) }
+        ensures older { IfErr result (λ o. IsOlder plan.now ask.now.request
+            self.old.held self.new.held o.floor) }
+        ensures shard { IsSamePart self.old self.new }
+        ensures goes_on { GoesOn (K.sound self.old.keeper) (K.sound self.new.keeper)
+            (K.faults self.old.keeper) (K.faults self.new.keeper) }
+        ensures count { CountsFew (λ h. most_gradings h ask.now.request)
+            self.old.held self.new.held steps.old steps.new }
     {
-        if let Some(floor) = self.older(plan, &ask.request) {
+        if let Err(why) = self.settle(alloc) {
+            return Ok(Reply::Refused(refusal_of(why)));
+        }
+        if let Some(floor) = self.core.older(plan, &ask.request) {
             return Err(Older { floor });
         }
-        match self.answer(alloc, user, plan, ask, moment, steps) {
-            Ok(reply) => Ok(reply),
-            Err(NoMemory) => Ok(Reply::Refused(Refusal::Memory)),
-        }
+        Ok(self.answer(alloc, user, plan, ask, moment, steps))
     }
 
-    /// Answers a request that only looks: a view, a total, a page or a grade. The list stays as it is, and where memory is wanting
-    /// the reply is `Memory`. What a student is told depends on nobody else here too.
+    /// Answers a request over a list that was mended.
+    fn answer<L: Ledger>(
+        &mut self,
+        alloc: Global,
+        user: &User,
+        plan: &Plan,
+        ask: &Ask,
+        moment: u64,
+        steps: &mut Steps<L>,
+    ) -> Reply
+        requires settled { self.old.held.doubt ≡ None }
+        requires posed { IsPosed (shard_over self.old self.old.held.list)
+            moment user.now plan.now ask.now }
+        requires brief { length (unwrap_or ask.now.key []) ≤ 64 }
+        ensures ends { CallEnds (HasFailed (K.sound self.old.keeper)
+            (K.faults self.old.keeper) (K.faults self.new.keeper))
+            reply.Refused (IsTold self.old.index self.old.count
+            moment user.now plan.now ask.now) self.old.held self.new.held result }
+        ensures shard { IsSamePart self.old self.new }
+        ensures goes_on { GoesOn (K.sound self.old.keeper) (K.sound self.new.keeper)
+            (K.faults self.old.keeper) (K.faults self.new.keeper) }
+        ensures count { steps.new ≤ steps.old + most_gradings self.old.held.list ask.now.request }
+        ensures still { self.new.held.list ≡ self.old.held.list → steps.new ≡ steps.old }
+    {
+        // Whatever a shard holds is that of a shard.
+        let _length = self.core.len();
+        let told = self
+            .core
+            .answer(alloc, user, plan, ask, moment, &mut self.keeper, steps);
+        reply_of(told)
+    }
+
+    /// Answers a request that only looks: a view, a total, a page or a grade. The list is mended first, and then stays as it is. Where
+    /// memory is wanting the reply is `Memory`, and where the keeper fails `KeepFault`. What a student is told depends on nobody else
+    /// here too.
     pub fn look<L: Ledger>(
         &mut self,
         alloc: Global,
@@ -250,30 +284,31 @@ impl Shard {
         steps: &mut Steps<L>,
     ) -> Reply
         requires look { is_look ask.now.request ≡ true }
-        requires asked { IsAsked self.old.records plan.now ask.now moment }
-        ensures answer { Answers self.old.records moment user.now plan.now ask.now result self.old.records }
-        ensures alone { IsAlone self.old moment user.now plan.now ask.now result }
-        ensures unchanged { self.new ≡ self.old }
+        requires asked { EachMayStand (λ h. IsAsked h plan.now ask.now moment) self.old.held }
+        ensures answer { Replies (HasFailed (K.sound self.old.keeper)
+            (K.faults self.old.keeper) (K.faults self.new.keeper))
+            (IsSeen self.old.index self.old.count
+            moment user.now plan.now ask.now) self.old.held self.new.held result }
+        ensures shard { IsSamePart self.old self.new }
+        ensures goes_on { GoesOn (K.sound self.old.keeper) (K.sound self.new.keeper)
+            (K.faults self.old.keeper) (K.faults self.new.keeper) }
         ensures count { steps.new ≡ steps.old }
     {
-        match seen(alloc, &self.book, user, plan, ask, moment) {
-            Ok(reply) => reply,
-            Err(NoMemory) => Reply::Refused(Refusal::Memory),
+        if let Err(why) = self.settle(alloc) {
+            return Reply::Refused(refusal_of(why));
         }
+        self.core.look(alloc, user, plan, ask, moment, steps)
     }
 
     /// Takes a job's first target here, or says that the job is done, at this moment by the clock, in seconds since 1970. The caller
-    /// is the user who asks, or 0 for a worker.
+    /// is the user who asks, or 0 for a worker. The list is mended first.
     ///
     /// A target is a slot of an attempt of the job's quiz, live or ended, that was bound before the job's position and that the job
     /// hasn't skipped; the first is that in order of user, attempt and slot. Where the plan's version of its slot has the same
     /// shape, that version is bound and the slot's steps are read again under it; else the slot is skipped. Where no target is
-    /// left the job is done here, and where it was done before nothing is put. The reply is the answer over the list before, and the
-    /// list afterwards has the answer's record at its end where the answer puts one. A target for which the plan has no slot
-    /// is `Unknown`, and nothing is put. Where memory is wanting the reply is `Memory` and the list is as before.
-    ///
-    /// A target is looked for behind the attempts that the job has passed, so that the cost of a whole job grows with its targets and
-    /// the attempts of its quiz, and not with their product.
+    /// left the job is done here, and where it was done before nothing is put. A target for which the plan has no slot is `Unknown`,
+    /// and nothing is put. Where memory is wanting the reply is `Memory` and nothing is put. Where the keeper fails it is `KeepFault`,
+    /// nothing is put, and one record is in doubt.
     pub fn work<L: Ledger>(
         &mut self,
         alloc: Global,
@@ -282,105 +317,49 @@ impl Shard {
         moment: u64,
         steps: &mut Steps<L>,
     ) -> Reply
-        requires { IsWorkable self.old.records job.now moment }
-        ensures answer { Works self.old.records moment caller job.now result self.new.records }
-        ensures shard { (self.new.index ≡ self.old.index) × (self.new.count ≡ self.old.count) }
-        ensures count { steps.new ≤ steps.old + most_of_work self.old.records job.now }
-        ensures still { self.new.records ≡ self.old.records → steps.new ≡ steps.old }
+        requires { EachMayStand (λ h. IsWorkable h job.now moment) self.old.held }
+        ensures answer { Replies (HasFailed (K.sound self.old.keeper)
+            (K.faults self.old.keeper) (K.faults self.new.keeper))
+            (λ h told g. IsWorked h moment caller job.now told g)
+            self.old.held self.new.held result }
+        ensures shard { IsSamePart self.old self.new }
+        ensures goes_on { GoesOn (K.sound self.old.keeper) (K.sound self.new.keeper)
+            (K.faults self.old.keeper) (K.faults self.new.keeper) }
+        ensures count { CountsFew (λ h. most_of_work h job.now)
+            self.old.held self.new.held steps.old steps.new }
     {
-        match self.worked(alloc, caller, job, moment, steps) {
-            Ok(reply) => reply,
-            Err(NoMemory) => Reply::Refused(Refusal::Memory),
+        if let Err(why) = self.settle(alloc) {
+            return Reply::Refused(refusal_of(why));
         }
+        self.worked(alloc, caller, job, moment, steps)
     }
 
-    /// Answers a worker's request, and puts the record that it makes. Where memory is wanting the list is as before.
+    /// Takes a target over a list that was mended.
     fn worked<L: Ledger>(
         &mut self,
         alloc: Global,
         caller: u32,
         job: &Job,
-        now: u64,
+        moment: u64,
         steps: &mut Steps<L>,
-    ) -> Result<Reply, NoMemory>
-        requires { IsWorkable self.old.records job.now now }
-        ensures worked { IfOk result (λ told. IsWorked self.old.records now caller job.now told self.new.records) }
-        ensures unchanged { OnErr result (self.new ≡ self.old) }
-        ensures shard { (self.new.index ≡ self.old.index) × (self.new.count ≡ self.old.count) }
-        ensures count { steps.new ≤ steps.old + most_of_work self.old.records job.now }
-        ensures still { self.new.records ≡ self.old.records → steps.new ≡ steps.old }
+    ) -> Reply
+        requires settled { self.old.held.doubt ≡ None }
+        requires workable { IsWorkable self.old.held.list job.now moment }
+        ensures ends { CallEnds (HasFailed (K.sound self.old.keeper)
+            (K.faults self.old.keeper) (K.faults self.new.keeper))
+            reply.Refused (λ h told g. IsWorked h moment caller job.now told g)
+            self.old.held self.new.held result }
+        ensures shard { IsSamePart self.old self.new }
+        ensures goes_on { GoesOn (K.sound self.old.keeper) (K.sound self.new.keeper)
+            (K.faults self.old.keeper) (K.faults self.new.keeper) }
+        ensures count { steps.new ≤ steps.old + most_of_work self.old.held.list job.now }
+        ensures still { self.new.held.list ≡ self.old.held.list → steps.new ≡ steps.old }
     {
-        let made = match work_on(alloc, &self.book, &mut self.cursors, now, caller, job)? {
-            Work::AlreadyDone(place) => {
-                return Ok(Reply::Ok {
-                    place,
-                    done: Done::AlreadyDone { job: job.number },
-                });
-            }
-            Work::NoSlot => return Ok(Reply::Refused(Refusal::Unknown { what: Thing::Slot })),
-            Work::Put(made) => made,
-        };
-        self.put(alloc, made, steps)
-    }
-
-    /// Answers a request, and puts the record that it makes. Where memory is wanting the list is as before.
-    fn answer<L: Ledger>(
-        &mut self,
-        alloc: Global,
-        user: &User,
-        plan: &Plan,
-        ask: &Ask,
-        now: u64,
-        steps: &mut Steps<L>,
-    ) -> Result<Reply, NoMemory>
-        requires { IsPosed self.old now user.now plan.now ask.now }
-        ensures answered { IfOk result (λ told. IsAnswered self.old.records now user.now plan.now ask.now told self.new.records) }
-        ensures unchanged { OnErr result (self.new ≡ self.old) }
-        ensures shard { (self.new.index ≡ self.old.index) × (self.new.count ≡ self.old.count) }
-        ensures count { steps.new ≤ steps.old + most_gradings self.old.records ask.now.request }
-        ensures still { self.new.records ≡ self.old.records → steps.new ≡ steps.old }
-    {
-        let moment = moment_of(&self.book, now, user, &ask.request);
-        let event = match decide(alloc, &self.book, &self.keys, moment, user, plan, ask)? {
-            Decision::Refused(refusal) => return Ok(Reply::Refused(refusal)),
-            Decision::Repeated(reply) => return Ok(reply),
-            Decision::Idle => return Ok(idle(&self.book, user, &ask.request)),
-            Decision::Made(event) => event,
-        };
-        let made = record_of(alloc, moment, user, plan, ask, event)?;
-        self.put(alloc, made, steps)
-    }
-
-    /// Puts a record and gives what is said of it, which is kept with its key. All that takes memory is made first, and where it is
-    /// wanting the shard is as before.
-    fn put<L: Ledger>(
-        &mut self,
-        alloc: Global,
-        made: Record,
-        steps: &mut Steps<L>,
-    ) -> Result<Reply, NoMemory>
-        requires { IsNext self.old.index self.old.count self.old.records made }
-        ensures put { IfOk result (λ reply. IsPutWith self.old.records self.new.records made reply) }
-        ensures unchanged { OnErr result (self.new ≡ self.old) }
-        ensures shard { (self.new.index ≡ self.old.index) × (self.new.count ≡ self.old.count) }
-        ensures count { steps.new ≤ steps.old + gradings_by self.old.records made.event }
-        ensures still { OnErr result (steps.new ≡ steps.old) }
-    {
-        self.keys.grow(alloc, &made)?;
-        let place = self.book.as_slice().len();
-        self.book.put(alloc, made, steps)?;
-        self.cursors.follow(&self.book.as_slice()[place]);
-        Ok(tell(&self.book, &mut self.keys, place))
-    }
-
-    /// The floor of the quiz, where the plan of a start is older.
-    fn older(&self, plan: &Plan, request: &Request) -> Option<u64>
-        ensures { result ≡ older self.now.records plan.now request.now }
-    {
-        let Request::Start { .. } = request else {
-            return None;
-        };
-        let floor = self.book.floor(plan.quiz);
-        (plan.at < floor).then_some(floor)
+        // Whatever a shard holds is that of a shard.
+        let _length = self.core.len();
+        let told = self
+            .core
+            .worked(alloc, caller, job, moment, &mut self.keeper, steps);
+        reply_of(told)
     }
 }

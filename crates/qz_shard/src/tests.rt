@@ -29,7 +29,7 @@ fn empty(alloc: Global) -> Text {
     }
 }
 
-fn user(alloc: Global, number: u32, role: Role) -> User
+pub(crate) fn user(alloc: Global, number: u32, role: Role) -> User
     ensures { result.number ≡ number }
 {
     User {
@@ -41,7 +41,7 @@ fn user(alloc: Global, number: u32, role: Role) -> User
 }
 
 /// One slot of max mark 3 with three tries, of which true is right. An attempt takes 60 seconds.
-fn plan(alloc: Global) -> Result<Plan, NoMemory>
+pub(crate) fn plan(alloc: Global) -> Result<Plan, NoMemory>
     ensures kept { IfOk result IsKeptPlan }
     ensures quiz { IfOk result (λ p. p.quiz ≡ 1) }
     ensures whole { IfOk result (λ p. length p.questions ≡ length p.slots) }
@@ -89,7 +89,7 @@ fn plan_of(alloc: Global, at: u64, version: u32) -> Result<Plan, NoMemory>
     })
 }
 
-fn ask(alloc: Global, key: Option<Text>, request: Request) -> Ask
+pub(crate) fn ask(alloc: Global, key: Option<Text>, request: Request) -> Ask
     ensures key { result.key ≡ «key» }
     ensures request { result.request ≡ «request» }
 {
@@ -103,7 +103,7 @@ fn ask(alloc: Global, key: Option<Text>, request: Request) -> Ask
 // ---- what is answered
 
 /// Whether a plan is of the quiz that a request means, where that is known.
-fn is_of_quiz(shard: &mut Shard, plan: &Plan, request: &Request) -> bool
+fn is_of_quiz(shard: &mut ShardCore, plan: &Plan, request: &Request) -> bool
     ensures of_quiz { IsTrue result → is_plan_for shard.old.records plan.now request.now ≡ true }
     ensures unchanged { shard.new ≡ shard.old }
 {
@@ -128,7 +128,7 @@ fn is_of_quiz(shard: &mut Shard, plan: &Plan, request: &Request) -> bool
 /// What comes of a change, whose gradings are counted by nobody.
 fn applied<L: Ledger>(
     blank: Blank,
-    shard: &mut Shard,
+    shard: &mut ShardCore,
     alloc: Global,
     user: &User,
     plan: &Plan,
@@ -148,7 +148,7 @@ fn applied<L: Ledger>(
 }
 
 fn apply(
-    shard: &mut Shard,
+    shard: &mut ShardCore,
     alloc: Global,
     user: &User,
     plan: &Plan,
@@ -164,7 +164,7 @@ fn apply(
 
 /// What is answered to a request that has a key.
 fn change(
-    shard: &mut Shard,
+    shard: &mut ShardCore,
     alloc: Global,
     user: &User,
     plan: &Plan,
@@ -187,7 +187,7 @@ fn change(
 }
 
 /// What is answered to a settling, which has no key.
-fn settle(shard: &mut Shard, alloc: Global, user: &User, plan: &Plan, now: u64) -> Option<Reply>
+fn settle(shard: &mut ShardCore, alloc: Global, user: &User, plan: &Plan, now: u64) -> Option<Reply>
     requires plan { IsKeptPlan plan.now }
     requires moment { is_moment now ≡ true }
 {
@@ -201,7 +201,7 @@ fn settle(shard: &mut Shard, alloc: Global, user: &User, plan: &Plan, now: u64) 
 /// What a look shows, whose gradings are counted by nobody.
 fn seen<L: Ledger>(
     blank: Blank,
-    shard: &mut Shard,
+    shard: &mut ShardCore,
     alloc: Global,
     user: &User,
     plan: &Plan,
@@ -217,7 +217,7 @@ fn seen<L: Ledger>(
     shard.look(alloc, user, plan, ask, now, &mut Steps::<L>::open(blank))
 }
 
-fn see(shard: &mut Shard, alloc: Global, user: &User, plan: &Plan, ask: &Ask, now: u64) -> Reply
+fn see(shard: &mut ShardCore, alloc: Global, user: &User, plan: &Plan, ask: &Ask, now: u64) -> Reply
     requires look { is_look ask.now.request ≡ true }
     requires asked { IsAsked shard.old.records plan.now ask.now now }
 {
@@ -226,7 +226,7 @@ fn see(shard: &mut Shard, alloc: Global, user: &User, plan: &Plan, ask: &Ask, no
 
 /// What is answered to a request that only looks.
 fn look(
-    shard: &mut Shard,
+    shard: &mut ShardCore,
     alloc: Global,
     user: &User,
     plan: &Plan,
@@ -245,11 +245,11 @@ fn look(
 }
 
 /// A shard in which a student has started at the moment 100.
-fn begun(alloc: Global, ann: &User, plan: &Plan) -> Result<(Shard, Option<Reply>), NoMemory>
+fn begun(alloc: Global, ann: &User, plan: &Plan) -> Result<(ShardCore, Option<Reply>), NoMemory>
     requires plan { IsKeptPlan plan.now }
     requires whole { length plan.now.questions ≡ length plan.now.slots }
 {
-    let mut shard = Shard::new(alloc, 0, 1);
+    let mut shard = ShardCore::new(alloc, 0, 1);
     let start = Request::Start { quiz: 1 };
     let told = change(&mut shard, alloc, ann, plan, "k1", start, 100)?;
     Ok((shard, told))
@@ -257,7 +257,7 @@ fn begun(alloc: Global, ann: &User, plan: &Plan) -> Result<(Shard, Option<Reply>
 
 /// What a save, a submit and a step after it are answered, of which the first says true and the second false.
 fn save(
-    shard: &mut Shard,
+    shard: &mut ShardCore,
     alloc: Global,
     ann: &User,
     plan: &Plan,
@@ -274,7 +274,7 @@ fn save(
 }
 
 fn submit(
-    shard: &mut Shard,
+    shard: &mut ShardCore,
     alloc: Global,
     ann: &User,
     plan: &Plan,
@@ -291,7 +291,7 @@ fn submit(
 }
 
 fn again(
-    shard: &mut Shard,
+    shard: &mut ShardCore,
     alloc: Global,
     ann: &User,
     plan: &Plan,
@@ -306,7 +306,7 @@ fn again(
 }
 
 fn finish(
-    shard: &mut Shard,
+    shard: &mut ShardCore,
     alloc: Global,
     ann: &User,
     plan: &Plan,
@@ -318,7 +318,7 @@ fn finish(
 }
 
 fn mark(
-    shard: &mut Shard,
+    shard: &mut ShardCore,
     alloc: Global,
     root: &User,
     plan: &Plan,
@@ -336,7 +336,7 @@ fn mark(
 // ---- tests
 
 /// A start whose attempt has 60 seconds.
-fn is_started(told: Option<Reply>) -> bool {
+pub(crate) fn is_started(told: Option<Reply>) -> bool {
     match told {
         Some(
             Reply::Ok {
@@ -522,7 +522,7 @@ fn looks_are_shown(rt: HostRuntime) -> Result<(), Fail> {
 
 /// The same slot is marked again, with 1 of 3.
 fn mark_lower(
-    shard: &mut Shard,
+    shard: &mut ShardCore,
     alloc: Global,
     root: &User,
     plan: &Plan,
@@ -538,7 +538,7 @@ fn mark_lower(
 }
 
 /// The grade that the student is shown, if one is taken.
-fn grade(shard: &mut Shard, alloc: Global, ann: &User, plan: &Plan) -> Option<Grade>
+fn grade(shard: &mut ShardCore, alloc: Global, ann: &User, plan: &Plan) -> Option<Grade>
     requires { IsKeptPlan plan.now }
 {
     let look = look(shard, alloc, ann, plan, Request::Grade { quiz: 1, user: 2 });
@@ -600,7 +600,7 @@ fn is_abandoned(told: Option<Reply>) -> bool {
 }
 
 /// The first attempt that hasn't ended.
-fn live(shard: &mut Shard) -> Option<AttemptId> {
+fn live(shard: &mut ShardCore) -> Option<AttemptId> {
     shard.live(AttemptId { user: 0, nth: 0 }).ok()?
 }
 

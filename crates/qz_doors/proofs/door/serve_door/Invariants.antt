@@ -9,8 +9,8 @@ invariant-loop-end g l = record {
       (λ link. record { left = g.R.Link.Link.left link; holds = g.R.Link.Link.holds link; faults = g.R.Link.Link.faults link })
       (record { left = g.R.Door.left l.fn.door; returned = g.R.Door.returned l.fn.door; returns = g.R.Door.returns l.fn.door; out = g.R.Door.out l.fn.door; faults = g.R.Door.faults l.fn.door })
       (record { left = g.R.Door.left l.door; returned = g.R.Door.returned l.door; returns = g.R.Door.returns l.door; out = g.R.Door.out l.door; faults = g.R.Door.faults l.door })
-      (record { lists = g.D.Desk.lists l.fn.desk; clock = l.fn.clock })
-      (record { lists = g.D.Desk.lists l.desk; clock = l.clock })
+      (record { desk = l.fn.desk; clock = l.fn.clock })
+      (record { desk = l.desk; clock = l.clock })
       l.end.taken l.end.short;
   fine : l.end.fault ≡ false;
   within : l.end.taken ≤ l.links;

@@ -8,8 +8,8 @@ invariant-loop-end g l = record {
   serving : IsServing (Asks g.C.Clock.tells g.D.Desk.answers)
       (record { left = g.L.Link.left l.fn.link; holds = g.L.Link.holds l.fn.link; faults = g.L.Link.faults l.fn.link })
       (record { left = g.L.Link.left l.link; holds = g.L.Link.holds l.link; faults = g.L.Link.faults l.link })
-      (record { lists = g.D.Desk.lists l.fn.desk; clock = l.fn.clock })
-      (record { lists = g.D.Desk.lists l.desk; clock = l.clock })
+      (record { desk = l.fn.desk; clock = l.fn.clock })
+      (record { desk = l.desk; clock = l.clock })
       l.core;
   room : 0 < length l.room;
 }

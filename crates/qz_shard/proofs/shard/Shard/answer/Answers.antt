@@ -1,49 +1,43 @@
-use Rattle.std.proofs.Common.{◌≡◌, List, refl, sym, ap, subst}
-use Rattle.qz_terms.specs.declared.record.Record.{Record}
-use Rattle.qz_terms.specs.Cause.{verdict_here}
-use Rattle.qz_shard.specs.declared.decision.Decision.{Decision}
-use Rattle.qz_shard.specs.declared.decision.Decision.TheVariants as decision
-use Rattle.qz_shard.specs.Answering.{IsAnswered, IsPosed}
-use Rattle.qz_shard.specs.Decisions.{IsDecision, IsRepeated}
-use Rattle.qz_shard.specs.Holdings.{Holding}
+use Rattle.std.proofs.Common.{ap, subst, sym, ◌∙◌}
+use Rattle.qz_keeper.proofs.Calls.{recorded_call}
+use Rattle.qz_keeper.proofs.Settling.{call_kept, list_ends, ready_of}
+use Rattle.qz_terms.specs.declared.reply.Reply.TheVariants as reply
+use Rattle.qz_terms.specs.Answer.{answer_here, list_after}
+use Rattle.qz_shard.specs.Answering.{IsPosed}
+use Rattle.qz_shard.specs.Keeping.{IsTold, Keeping, shard_over}
 use Rattle.qz_shard.specs.Nexts.{IsNext}
-use Rattle.qz_shard.proofs.Counting.{few-made}
-use Rattle.qz_shard.proofs.Making.{decided-next, idle-answer, repeated-answer}
+use Rattle.qz_shard.proofs.KeptCalls.{answer_ends, answer_told, kept_there, ready_for}
 use Rattle.qz_shard.proofs.shard.Shard.answer.Goals as goal
 
-pub returns-in-Repeated-clause-answered : goal.returns-in-Repeated-clause-answered
-returns-in-Repeated-clause-answered g c =
-    let list = c.self.inside.book in
-    let view : list ≡ c.args.self.now.records = ap (λ (s : Holding). s.records) c.self.view_is in
-    let repeated : IsRepeated c.in-Repeated.reply (verdict_here list c.moment_of-moment.result c.args.user.now c.args.plan.now c.args.ask.now) =
-    subst (λ (d : Decision). IsDecision list c.moment_of-moment.result c.args.user.now c.args.plan.now c.args.ask.now d) c.in-Repeated.is c.in_ok-refusal.ensures in
-    subst (λ (h : List Record). IsAnswered h c.args.now c.args.user.now c.args.plan.now c.args.ask.now c.in-Repeated.reply h) view
-    (repeated-answer list c.args.now c.moment_of-moment.result c.args.user.now c.args.plan.now c.args.ask.now c.in-Repeated.reply c.moment_of-moment.ensures repeated)
+pub answer-told-requires-clause-ready : goal.answer-told-requires-clause-ready
+answer-told-requires-clause-ready g c =
+    let settled = rw (← c.self.view_is) at c.requires.settled in
+    ready_for g.K.Keeper.kept c.self.inside.core.index c.self.inside.core.count c.self.inside.core.records c.self.inside.keeper c.args.ask.now.key c.self.invariant settled c.len-length.ensures.held c.requires.brief
 
-pub returns-in-Idle-clause-answered : goal.returns-in-Idle-clause-answered
-returns-in-Idle-clause-answered g c =
-    let list = c.self.inside.book in
-    let idle : IsDecision list c.moment_of-moment.result c.args.user.now c.args.plan.now c.args.ask.now decision.Idle =
-    subst (λ (d : Decision). IsDecision list c.moment_of-moment.result c.args.user.now c.args.plan.now c.args.ask.now d) c.in-Idle.is c.in_ok-refusal.ensures in
-    let same : list ≡ c.args.self.now.records = ap (λ (s : Holding). s.records) c.self.view_is in
-    idle-answer list c.args.self.now.records c.args.now c.moment_of-moment.result c.args.user.now c.args.plan.now c.args.ask.now c.idle.result same c.moment_of-moment.ensures c.requires.change idle c.idle.ensures
+pub invariant_of-self : goal.invariant_of-self
+invariant_of-self g c =
+    let old = c.self.inside.core in
+    let new = c.answer-told.new.self in
+    let settled = rw (← c.self.view_is) at c.requires.settled in
+    let may = IsNext old.index old.count in
+    let ready = ready_of g.K.Keeper.kept may old.records c.self.inside.keeper c.self.invariant settled in
+    let after = list_after old.records c.args.moment c.args.user.now c.args.plan.now c.args.ask.now in
+    let ends = answer_ends old new c.args.moment c.args.user.now c.args.plan.now c.args.ask.now c.answer-told.result c.answer-told.ensures.answered c.answer-told.ensures.unchanged in
+    kept_there g.K.Keeper.kept old.index old.count new.index new.count new.records c.answer-told.new.recorder c.answer-told.ensures.shard.0 c.answer-told.ensures.shard.1
+    (call_kept g.K.Keeper.kept g.K.Keeper.sound g.K.Keeper.faults may old.records after new.records c.self.inside.keeper c.answer-told.new.recorder c.answer-told.result c.self.invariant ready c.answer-told.ensures.recorded
+    (list_ends old.records after new.records _ c.answer-told.result ends))
 
-pub put-requires : goal.put-requires
-put-requires g c =
-    let list = c.self.inside.book in
-    let s : Holding = record { index = c.self.inside.index; count = c.self.inside.count; records = c.self.inside.book } in
-    let posed : IsPosed s c.args.now c.args.user.now c.args.plan.now c.args.ask.now = subst (λ (t : Holding). IsPosed t c.args.now c.args.user.now c.args.plan.now c.args.ask.now) (sym c.self.view_is) c.requires in
-    let made : IsDecision list c.moment_of-moment.result c.args.user.now c.args.plan.now c.args.ask.now (decision.Made c.in-Made.event) =
-    subst (λ (d : Decision). IsDecision list c.moment_of-moment.result c.args.user.now c.args.plan.now c.args.ask.now d) c.in-Made.is c.in_ok-refusal.ensures in
-    subst (λ (t : Holding). IsNext t.index t.count t.records c.in_ok-made.made) c.self.view_is
-    (decided-next s list c.args.now c.moment_of-moment.result c.args.user.now c.args.plan.now c.args.ask.now c.in-Made.event c.in_ok-made.made c.self.invariant.held posed refl c.moment_of-moment.ensures made c.in_ok-made.ensures)
-
-pub returns-clause-count : goal.returns-clause-count
-returns-clause-count g c =
-    let list = c.self.inside.book in
-    let view : list ≡ c.args.self.now.records = ap (λ (s : Holding). s.records) c.self.view_is in
-    let made : IsDecision list c.moment_of-moment.result c.args.user.now c.args.plan.now c.args.ask.now (decision.Made c.in-Made.event) =
-    subst (λ (d : Decision). IsDecision list c.moment_of-moment.result c.args.user.now c.args.plan.now c.args.ask.now d) c.in-Made.is c.in_ok-refusal.ensures in
-    few-made c.args.self.now.records c.moment_of-moment.result c.args.user.now c.args.plan.now c.args.ask.now c.in-Made.event c.in_ok-made.made _ _
-    (subst (λ (l : List Record). IsDecision l c.moment_of-moment.result c.args.user.now c.args.plan.now c.args.ask.now (decision.Made c.in-Made.event)) view made)
-    c.in_ok-made.ensures c.put.ensures.count
+pub returns-clause-ends : goal.returns-clause-ends
+returns-clause-ends g c =
+    let old = c.self.inside.core in
+    let new = c.answer-told.new.self in
+    let settled = rw (← c.self.view_is) at c.requires.settled in
+    let posed = rw (← c.self.view_is) at c.requires.posed in
+    let may = IsNext old.index old.count in
+    let ready = ready_of g.K.Keeper.kept may old.records c.self.inside.keeper c.self.invariant settled in
+    let ends = answer_ends old new c.args.moment c.args.user.now c.args.plan.now c.args.ask.now c.answer-told.result c.answer-told.ensures.answered c.answer-told.ensures.unchanged in
+    rw (← c.self.view_is) (rw c.reply_of.ensures
+    (recorded_call g.K.Keeper.kept g.K.Keeper.sound g.K.Keeper.faults reply.Refused (IsTold old.index old.count c.args.moment c.args.user.now c.args.plan.now c.args.ask.now) old.records
+    (list_after old.records c.args.moment c.args.user.now c.args.plan.now c.args.ask.now) new.records (may old.records) c.self.inside.keeper c.answer-told.new.recorder
+    (answer_here old.records c.args.moment c.args.user.now c.args.plan.now c.args.ask.now) c.answer-told.result ready
+    (answer_told old.index old.count c.args.moment c.args.user.now c.args.plan.now c.args.ask.now old.records posed) ends c.answer-told.ensures.recorded))

@@ -1,27 +1,41 @@
-use Rattle.std.proofs.Common.{◌≡◌, ◌+◌, ◌≤◌, List, sym, ap, subst}
-use Rattle.qz_terms.specs.declared.record.Record.{Record}
-use Rattle.qz_shard.specs.declared.working.Work.{Work}
-use Rattle.qz_shard.specs.declared.working.Work.TheVariants as work
-use Rattle.qz_shard.specs.Holdings.{Holding, IsWorkable}
-use Rattle.qz_lives.specs.Changes.{gradings_by}
-use Rattle.qz_shard.specs.Works.{IsWork}
-use Rattle.qz_shard.proofs.Counting.{few-worked}
-use Rattle.qz_shard.proofs.WorkLemmas.{work-next}
+use Rattle.std.proofs.Common.{ap, subst, sym, refl, ◌∙◌, arith}
+use Rattle.qz_keeper.proofs.Calls.{recorded_call}
+use Rattle.qz_keeper.proofs.Settling.{call_kept, list_ends, ready_of}
+use Rattle.qz_terms.specs.declared.reply.Reply.TheVariants as reply
+use Rattle.qz_terms.specs.Answer.{work_answer, work_after}
+use Rattle.qz_shard.specs.Nexts.{IsNext}
+use Rattle.qz_shard.specs.Works.{IsWorked}
+use Rattle.qz_shard.proofs.KeptCalls.{kept_there, ready_for, work_ends}
 use Rattle.qz_shard.proofs.shard.Shard.worked.Goals as goal
 
-pub put-requires : goal.put-requires
-put-requires g c =
-    let h = c.self.inside.book in
-    let view : h ≡ c.args.self.now.records = ap (λ (s : Holding). s.records) c.self.view_is in
-    let able : IsWorkable h c.args.job.now c.args.now = subst (λ (l : List Record). IsWorkable l c.args.job.now c.args.now) (sym view) c.requires in
-    let told : IsWork h c.args.now c.args.caller c.args.job.now (work.Put c.in-Put.made) = subst (λ (w : Work). IsWork h c.args.now c.args.caller c.args.job.now w) c.in-Put.is c.in_ok-place.ensures.work in
-    work-next c.self.inside.index c.self.inside.count h c.args.now c.args.caller c.args.job.now c.in-Put.made c.self.invariant.held able told
+pub worked-told-requires-clause-ready : goal.worked-told-requires-clause-ready
+worked-told-requires-clause-ready g c =
+    let settled = rw (← c.self.view_is) at c.requires.settled in
+    ready_for g.K.Keeper.kept c.self.inside.core.index c.self.inside.core.count c.self.inside.core.records c.self.inside.keeper _ c.self.invariant settled c.len-length.ensures.held (omega arith)
 
-pub returns-clause-count : goal.returns-clause-count
-returns-clause-count g c =
-    let h = c.self.inside.book in
-    let view : h ≡ c.args.self.now.records = ap (λ (s : Holding). s.records) c.self.view_is in
-    let told : IsWork h c.args.now c.args.caller c.args.job.now (work.Put c.in-Put.made) = subst (λ (w : Work). IsWork h c.args.now c.args.caller c.args.job.now w) c.in-Put.is c.in_ok-place.ensures.work in
-    few-worked c.args.self.now.records c.args.now c.args.caller c.args.job.now c.in-Put.made _ _
-    (subst (λ (l : List Record). IsWork l c.args.now c.args.caller c.args.job.now (work.Put c.in-Put.made)) view told)
-    (subst (λ (l : List Record). c.put.new.steps ≤ c.args.steps.now + gradings_by l c.in-Put.made.event) view c.put.ensures.count)
+pub invariant_of-self : goal.invariant_of-self
+invariant_of-self g c =
+    let old = c.self.inside.core in
+    let new = c.worked-told.new.self in
+    let settled = rw (← c.self.view_is) at c.requires.settled in
+    let may = IsNext old.index old.count in
+    let ready = ready_of g.K.Keeper.kept may old.records c.self.inside.keeper c.self.invariant settled in
+    let after = work_after old.records c.args.moment c.args.caller c.args.job.now in
+    let ends = work_ends old new c.args.moment c.args.caller c.args.job.now c.worked-told.result c.worked-told.ensures.worked c.worked-told.ensures.unchanged in
+    kept_there g.K.Keeper.kept old.index old.count new.index new.count new.records c.worked-told.new.recorder c.worked-told.ensures.shard.0 c.worked-told.ensures.shard.1
+    (call_kept g.K.Keeper.kept g.K.Keeper.sound g.K.Keeper.faults may old.records after new.records c.self.inside.keeper c.worked-told.new.recorder c.worked-told.result c.self.invariant ready c.worked-told.ensures.recorded
+    (list_ends old.records after new.records _ c.worked-told.result ends))
+
+pub returns-clause-ends : goal.returns-clause-ends
+returns-clause-ends g c =
+    let old = c.self.inside.core in
+    let new = c.worked-told.new.self in
+    let settled = rw (← c.self.view_is) at c.requires.settled in
+    let may = IsNext old.index old.count in
+    let ready = ready_of g.K.Keeper.kept may old.records c.self.inside.keeper c.self.invariant settled in
+    let ends = work_ends old new c.args.moment c.args.caller c.args.job.now c.worked-told.result c.worked-told.ensures.worked c.worked-told.ensures.unchanged in
+    rw (← c.self.view_is) (rw c.reply_of.ensures
+    (recorded_call g.K.Keeper.kept g.K.Keeper.sound g.K.Keeper.faults reply.Refused (λ h told g. IsWorked h c.args.moment c.args.caller c.args.job.now told g) old.records
+    (work_after old.records c.args.moment c.args.caller c.args.job.now) new.records (may old.records) c.self.inside.keeper c.worked-told.new.recorder
+    (work_answer old.records c.args.moment c.args.caller c.args.job.now) c.worked-told.result ready
+    (record { reply = refl; list = refl }) ends c.worked-told.ensures.recorded))

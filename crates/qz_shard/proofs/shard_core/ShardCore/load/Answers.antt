@@ -2,7 +2,7 @@ use Rattle.std.proofs.Common.{List, Bool, ℕ, subst}
 use Rattle.qz_shard.specs.Holdings.{Holding, IsHeld}
 use Rattle.qz_shard.specs.Loads.{IsTaken}
 use Rattle.qz_shard.proofs.LoadLemmas.{read-illegal, read-more, read-none, read-whole}
-use Rattle.qz_shard.proofs.shard.Shard.load.Goals as goal
+use Rattle.qz_shard.proofs.shard_core.ShardCore.load.Goals as goal
 
 pub loop-place-init : goal.loop-place-init
 loop-place-init c = read-none c.args.index c.args.count c.args.payloads.now c.new-shard.result c.requires c.new-shard.ensures

@@ -1,10 +1,10 @@
 use Rattle.std.proofs.Common.{◌∷◌, ◌++◌, [], refl, ap, ◌∙◌}
 use Rattle.qz_shard.specs.Holdings.{Holding}
 use Rattle.qz_shard.proofs.LoadLemmas.{next-read, none-behind}
-use Rattle.qz_shard.proofs.shard.Shard.take.Goals as goal
+use Rattle.qz_shard.proofs.shard_core.ShardCore.take.Goals as goal
 
-pub put-requires : goal.put-requires
-put-requires g c = next-read (record { index = c.self.inside.index; count = c.self.inside.count; records = c.self.inside.book }) c.self.inside.index c.self.inside.count c.self.inside.book c.in-Ok.made c.in_ok-is_allowed.field-0 refl c.in_ok-is_allowed.ensures.allowed c.if-not-branch.false c.in-Ok.ensures.found.0
+pub adopt-requires-clause-next : goal.adopt-requires-clause-next
+adopt-requires-clause-next g c = next-read (record { index = c.self.inside.index; count = c.self.inside.count; records = c.self.inside.book }) c.self.inside.index c.self.inside.count c.self.inside.book c.in-Ok.made c.in_ok-is_allowed.field-0 refl c.in_ok-is_allowed.ensures.allowed c.if-not-branch.false c.in-Ok.ensures.found.0
 
 pub returns-then-not-branch-clause-taken : goal.returns-then-not-branch-clause-taken
 returns-then-not-branch-clause-taken g c =
@@ -16,5 +16,5 @@ returns-clause-taken g c = record {
   next = next-read c.args.self.now c.self.inside.index c.self.inside.count c.self.inside.book c.in-Ok.made c.in_ok-is_allowed.field-0 c.self.view_is c.in_ok-is_allowed.ensures.allowed c.if-not-branch.false c.in-Ok.ensures.found.0;
   keeps = c.in-Ok.ensures.found.0;
   spelled = c.in-Ok.ensures.found.1;
-  put = c.in_ok-put.ensures.put.put ∙ ap (λ (s : Holding). s.records ++ c.in-Ok.made ∷ []) c.self.view_is;
+  put = c.in_ok-adopt.ensures.put ∙ ap (λ (s : Holding). s.records ++ c.in-Ok.made ∷ []) c.self.view_is;
 }

@@ -8,16 +8,16 @@ use Rattle.qz_shard.specs.Nexts.{IsNext}
 use Rattle.qz_shard.proofs.CursorLemmas.{cursors-follow}
 use Rattle.qz_shard.proofs.Making.{held-push}
 use Rattle.qz_shard.proofs.PutLemmas.{stands-at, untold}
-use Rattle.qz_shard.proofs.shard.Shard.put.Goals as goal
+use Rattle.qz_shard.proofs.shard_core.ShardCore.put.Goals as goal
 
 pub tell-requires : goal.tell-requires
 tell-requires g c =
     untold c.grow.new.self c.self.inside.book c.put.new.self c.args.made (length c.as_slice-place.result.now) c.in_ok-put.ensures.put.put
-    (ap (λ (l : List Record). length l) c.as_slice-place.ensures) (c.grow.ensures.kept c.self.inside.book c.self.invariant.keyed) c.in_ok-grow.ensures.room c.requires.kept c.requires.asked
+    (ap (λ (l : List Record). length l) c.as_slice-place.ensures) (c.grow.ensures.kept c.self.inside.book c.self.invariant.keyed) c.in_ok-grow.ensures.room c.requires.next.kept c.requires.next.asked
 
 pub invariant_of-self-2 : goal.invariant_of-self-2
 invariant_of-self-2 g c =
-    let next : IsNext c.self.inside.index c.self.inside.count c.self.inside.book c.args.made = subst (λ (s : Holding). IsNext s.index s.count s.records c.args.made) (sym c.self.view_is) c.requires in
+    let next : IsNext c.self.inside.index c.self.inside.count c.self.inside.book c.args.made = subst (λ (s : Holding). IsNext s.index s.count s.records c.args.made) (sym c.self.view_is) c.requires.next in
     let at = stands-at c.self.inside.book c.put.new.self c.args.made (length c.as_slice-place.result.now) c.in_ok-put.ensures.put.put (ap (λ (l : List Record). length l) c.as_slice-place.ensures) in
     let r = c.index-as_slice-place.result in
     let place = length c.as_slice-place.result.now in

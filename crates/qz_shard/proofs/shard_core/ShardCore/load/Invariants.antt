@@ -1,5 +1,5 @@
 use Rattle.qz_shard.proofs.LoadLemmas.{IsReadTo}
-use Rattle.qz_shard.proofs.shard.Shard.load.Given as goal
+use Rattle.qz_shard.proofs.shard_core.ShardCore.load.Given as goal
 
 abbrev pub ghosts-take : goal.ghosts-take
 ghosts-take a = record { name = a.blank.name; parts = a.blank.parts }
