@@ -1,15 +1,14 @@
--- What the parser makes of words that are no flags.
-use Rattle.std.proofs.Common.{◌≡◌, ◌∙◌, ℕ, Bool, true, false, refl, ap, ap₂, codes, List, [], ◌∷◌, Option, Some, None}
-use Rattle.clap.specs.Walk.{Held, Row, Rule, Step, Text, Walk, arg_by_index, first_of, idle, nothing_held, to_positional, value, walk, walk_from, walked, word_met}
-use Rattle.std.proofs.lemmas.Cmp.{nat_list_eq_equiv}
+-- What the parser makes of words that are no flags, where each argument takes one word.
+use Rattle.std.proofs.Common.{◌≡◌, ◌∙◌, ℕ, ◌&&◌, Bool, true, false, not, refl, sym, ap, List, [], ◌∷◌, Option, Some, None}
+use Rattle.std.proofs.lemmas.Bool.{and_parts, or_parts}
+use Rattle.std.proofs.Math.Bool.{or-true}
+use Rattle.std.specs.List.{find, fold, list_all}
+use Rattle.std.specs.Option.{option_map_or}
+use Rattle.clap.specs.Walk.{Held, Row, Rule, Text, Walk, arg_by_index, finished, idle, is_empty, is_multiple, next_position, nothing_held, positional_held, rows_after, to_positional, value, walked, with_default, word_met}
 use Rattle.clap.specs.Kinds.{Kinds, or_else}
-use Rattle.clap.specs.declared.error.kind.ErrorKind.TheVariants.{MissingRequiredArgument, UnknownArgument}
-use Rattle.clap.specs.Simple.{App, Shape, built, matches_of}
-use Rattle.clap.specs.Faults.{defaults_fault, fault_of, step_fault, turn_fault, walk_fault, word_fault}
-use Rattle.qz_command.specs.Flags.{is_flag}
-use Rattle.clap.specs.declared.builder.value_parser.Reading.TheVariants.{AsWritten}
-use Rattle.clap.specs.declared.parser.matches.ValueSource.TheVariants.{CommandLine}
-use Rattle.qz_command.specs.Leaves.{words_app}
+use Rattle.clap.specs.Simple.{App, Shape}
+use Rattle.clap.specs.Faults.{built_fault, check_fault, default_fault, defaults_fault, settle_fault, step_fault, walk_fault, word_fault}
+use Rattle.qz_command.specs.Flags.{has_flag, is_flag}
 
 -- the walk stands before the positional with number k
 abbrev standing : ℕ → Held → Walk
@@ -23,154 +22,99 @@ unfaulty : (s : Shape) (w : Text) (h : Held) → is_flag w ≡ false → word_fa
 unfaulty s [] h plain = refl
 unfaulty s (x ∷ xs) h plain = rw (plain, plain) refl
 
-abbrev next : List Rule → ℕ → Held → Text → Walk
-next c k h w = to_positional c (arg_by_index c k) w (standing k h) h
+-- an argument takes one word and has no other value, and flags may stand behind it
+abbrev pub takes_one : Rule → Bool
+takes_one a = is_empty a.defaults && (not (is_multiple a) && not a.trailing_var_arg)
 
-pub walk_step : (c : List Rule) (k : ℕ) (h : Held) (w : Text) → is_flag w ≡ false → walked c [] (standing k h) w ≡ next c k h w
-unfolding walked
-walk_step c k h w plain = rw (met c k w h plain) refl
+-- where the walk stands behind one more word, and what is held then
+abbrev place_after : List Rule → ℕ → ℕ
+place_after c k = option_map_or (λ a. next_position a k) (arg_by_index c k) k
 
-pub fault_step : (s : Shape) (k : ℕ) (h : Held) (w : Text) (ws : List Text) → is_flag w ≡ false
-    → walk_fault s [] (standing k h) (w ∷ ws) ≡ or_else (step_fault s k h value) (walk_fault s [] (next s.rules k h w) ws)
+abbrev held_after : List Rule → ℕ → Held → Text → Held
+held_after c k h w = option_map_or (λ a. positional_held c a w h) (arg_by_index c k) h
+
+-- the same behind all words, and the faults on the way
+abbrev pub end_of : List Rule → ℕ → Held → List Text → Walk
+end_of c k h [] = standing k h
+end_of c k h (w ∷ ws) = end_of c (place_after c k) (held_after c k h w) ws
+
+abbrev pub faults_on : Shape → ℕ → Held → List Text → Kinds
+faults_on s k h [] = []
+faults_on s k h (w ∷ ws) = or_else (step_fault s k h value) (faults_on s (place_after s.rules k) (held_after s.rules k h w) ws)
+
+not_true : (b : Bool) → not b ≡ true → b ≡ false
+not_true true is = sym is
+not_true false is = refl
+
+here_or_later : {A : Type 0} (p q : A → Bool) (y : A) (ys : List A) (x : A) (b : Bool) → p y ≡ b → q y ≡ true → (find p ys ≡ Some x → q x ≡ true)
+    → find p (y ∷ ys) ≡ Some x → q x ≡ true
+here_or_later p q y ys x true here passes later found = let first = rw here at found in cc
+here_or_later p q y ys x false other passes later found = later (rw other at found)
+
+-- what is found in a list of which each passes a test passes it
+found_passes : {A : Type 0} (p q : A → Bool) (xs : List A) (x : A) → list_all q xs ≡ true → find p xs ≡ Some x → q x ≡ true
+found_passes p q [] x all found = absurd cc
+found_passes p q (y ∷ ys) x all found =
+    let parts = and_parts (q y) (list_all q ys) all in
+    here_or_later p q y ys x (p y) refl parts.0 (found_passes p q ys x parts.1) found
+
+module _ (c : List Rule) (single : list_all takes_one c ≡ true) where
+  taken_by : (o : Option Rule) (k : ℕ) (h : Held) (w : Text) → arg_by_index c k ≡ o
+      → to_positional c o w (standing k h) h ≡ standing (option_map_or (λ a. next_position a k) o k) (option_map_or (λ a. positional_held c a w h) o h)
+  taken_by None k h w is = refl
+  taken_by (Some a) k h w is =
+      let parts = and_parts (not (is_multiple a)) (not a.trailing_var_arg) (and_parts (is_empty a.defaults) _ (found_passes _ takes_one c a single is)).1 in
+      rw (not_true _ parts.0, not_true _ parts.1) refl
+
+  one_taken : (k : ℕ) (h : Held) (w : Text) → to_positional c (arg_by_index c k) w (standing k h) h ≡ standing (place_after c k) (held_after c k h w)
+  one_taken k h w = taken_by (arg_by_index c k) k h w refl
+
+  step : (k : ℕ) (h : Held) (w : Text) → is_flag w ≡ false → walked c [] (standing k h) w ≡ standing (place_after c k) (held_after c k h w)
+  unfolding walked
+  step k h w plain = rw (met c k w h plain) (one_taken k h w)
+
+  pub walks : (k : ℕ) (h : Held) (ws : List Text) → has_flag ws ≡ false → fold (walked c []) (standing k h) ws ≡ end_of c k h ws
+  walks k h [] plain = refl
+  walks k h (w ∷ ws) plain =
+      let parts = or_parts (is_flag w) (has_flag ws) plain in
+      ap (λ (s : Walk). fold (walked c []) s ws) (step k h w parts.0) ∙ walks (place_after c k) (held_after c k h w) ws parts.1
+
+pub faults : (s : Shape) → list_all takes_one s.rules ≡ true → (k : ℕ) (h : Held) (ws : List Text) → has_flag ws ≡ false → walk_fault s [] (standing k h) ws ≡ faults_on s k h ws
 unfolding walk_fault
-fault_step s k h w ws plain = rw (walk_step s.rules k h w plain, met s.rules k w h plain, unfaulty s w h plain) refl
+faults s single k h [] plain = refl
+faults s single k h (w ∷ ws) plain =
+    let parts = or_parts (is_flag w) (has_flag ws) plain in
+    let later = faults s single (place_after s.rules k) (held_after s.rules k h w) ws parts.1 in
+    rw (step s.rules single k h w parts.0, met s.rules k w h parts.0, unfaulty s w h parts.0, later) refl
 
-pub fault_end : (s : Shape) (w : Walk) → walk_fault s [] w [] ≡ []
-unfolding walk_fault
-fault_end s w = refl
+-- ---- a command without commands below it
 
--- words as a parser keeps them under the names of what they are
-abbrev pub rows : List Text → List Text → List Row
-rows [] words = []
-rows (id ∷ ids) [] = []
-rows (id ∷ ids) (word ∷ words) =
-    record { id = id; values = word ∷ []; count = None; source = Some CommandLine; reading = AsWritten } ∷ rows ids words
+end-stopped : (c : List Rule) (k : ℕ) (h : Held) (ws : List Text) → (end_of c k h ws).stopped ≡ None
+end-stopped c k h [] = refl
+end-stopped c k h (w ∷ ws) = end-stopped c (place_after c k) (held_after c k h w) ws
 
--- ---- no word
-
-pub none_fits : (name : Text) → fault_of (words_app name []) [] ≡ []
-unfolding walk_fault defaults_fault
-none_fits name = refl
-
-pub none_stray : (name w : Text) (ws : List Text) → is_flag w ≡ false → fault_of (words_app name []) (w ∷ ws) ≡ UnknownArgument ∷ []
+no_default : (rows : List Row) (c : List Rule) → list_all takes_one c ≡ true → defaults_fault rows c ≡ []
 unfolding defaults_fault
-none_stray name w ws p = rw (fault_step _ 1 nothing_held w ws p) refl
+no_default rows [] single = refl
+no_default rows (a ∷ c) single =
+    let parts = and_parts (takes_one a) (list_all takes_one c) single in
+    let bare = (and_parts (is_empty a.defaults) (not (is_multiple a) && not a.trailing_var_arg) parts.0).0 in
+    let here : default_fault rows a ≡ [] = rw (bare, or-true) refl in
+    rw (here, no_default (with_default rows a) c parts.1) refl
 
--- ---- one word
+-- the faults of all words, and of what they leave
+abbrev pub faults_in : Shape → List Text → Kinds
+faults_in s ws =
+    let end = (end_of s.rules 1 nothing_held ws).held in
+    or_else (faults_on s 1 nothing_held ws) (or_else (settle_fault s.rules s.args_override_self end) (check_fault s (finished s.rules end) false))
 
-abbrev pub one_app : Text → App
-one_app name = words_app name (codes "word" ∷ [])
+abbrev pub lone : Shape → App
+lone s = record { top = s; subs = [] }
 
-module _ (name : Text) where
-  pub one_missing : fault_of (one_app name) [] ≡ MissingRequiredArgument ∷ []
-  unfolding walk_fault defaults_fault
-  one_missing = refl
+module _ (s : Shape) (single : list_all takes_one s.rules ≡ true) (ws : List Text) (plain : has_flag ws ≡ false) where
+  pub fault_is : built_fault (lone s) nothing_held ws ≡ faults_in s ws
+  fault_is =
+      rw (faults s single 1 nothing_held ws plain, walks s.rules single 1 nothing_held ws plain, end-stopped s.rules 1 nothing_held ws, no_default _ s.rules single) refl
 
-  pub one_fits : (w : Text) → is_flag w ≡ false → fault_of (one_app name) (w ∷ []) ≡ []
-  unfolding defaults_fault
-  one_fits w p = rw (fault_step _ 1 nothing_held w [] p, fault_end, walk_step _ 1 nothing_held w p) refl
-
-  pub one_row : (w : Text) → is_flag w ≡ false → first_of (codes "word") (matches_of (one_app name) (w ∷ [])) ≡ Some w
-  one_row w p = rw (walk_step _ 1 nothing_held w p) refl
-
-  pub one_stray : (w x : Text) (ws : List Text) → is_flag w ≡ false → is_flag x ≡ false → fault_of (one_app name) (w ∷ x ∷ ws) ≡ UnknownArgument ∷ []
-  unfolding defaults_fault
-  one_stray w x ws p q = rw (fault_step _ 1 nothing_held w (x ∷ ws) p, fault_step _ 2 _ x ws q) refl
-
--- ---- three words
-
-abbrev pub found_ids : List Text
-found_ids = codes "folder" ∷ codes "shards" ∷ codes "token" ∷ []
-
-abbrev pub found_app : App
-found_app = words_app (codes "found") found_ids
-
-pub three_missing : fault_of found_app [] ≡ MissingRequiredArgument ∷ []
-unfolding walk_fault defaults_fault
-three_missing = refl
-
-module _ (a : Text) (p : is_flag a ≡ false) where
-  pub three_missing-1 : fault_of found_app (a ∷ []) ≡ MissingRequiredArgument ∷ []
-  unfolding defaults_fault
-  three_missing-1 =
-      rw (fault_step _ 1 nothing_held a [] p, fault_end,
-          walk_step _ 1 nothing_held a p) refl
-
-  module _ (b : Text) (q : is_flag b ≡ false) where
-    pub three_missing-2 : fault_of found_app (a ∷ b ∷ []) ≡ MissingRequiredArgument ∷ []
-    unfolding defaults_fault
-    three_missing-2 =
-        rw (fault_step _ 1 nothing_held a (b ∷ []) p, fault_step _ 2 _ b [] q, fault_end,
-            walk_step _ 1 nothing_held a p, walk_step _ 2 _ b q) refl
-
-    module _ (c : Text) (r : is_flag c ≡ false) where
-      pub three_fit : fault_of found_app (a ∷ b ∷ c ∷ []) ≡ []
-      unfolding defaults_fault
-      three_fit =
-          rw (fault_step _ 1 nothing_held a (b ∷ c ∷ []) p, fault_step _ 2 _ b (c ∷ []) q, fault_step _ 3 _ c [] r, fault_end,
-              walk_step _ 1 nothing_held a p, walk_step _ 2 _ b q, walk_step _ 3 _ c r) refl
-
-      pub three_rows : matches_of found_app (a ∷ b ∷ c ∷ []) ≡ rows found_ids (a ∷ b ∷ c ∷ [])
-      three_rows = rw (walk_step _ 1 nothing_held a p, walk_step _ 2 _ b q, walk_step _ 3 _ c r) refl
-
-      pub three_stray : (x : Text) (xs : List Text) → is_flag x ≡ false → fault_of found_app (a ∷ b ∷ c ∷ x ∷ xs) ≡ UnknownArgument ∷ []
-      unfolding defaults_fault
-      three_stray x xs z =
-          rw (fault_step _ 1 nothing_held a (b ∷ c ∷ x ∷ xs) p, fault_step _ 2 _ b (c ∷ x ∷ xs) q, fault_step _ 3 _ c (x ∷ xs) r,
-              fault_step _ 4 _ x xs z) refl
-
--- ---- five words
-
-abbrev pub serve_ids : List Text
-serve_ids = codes "folder" ∷ codes "port" ∷ codes "workers" ∷ codes "regraders" ∷ codes "links" ∷ []
-
-abbrev pub serve_app : App
-serve_app = words_app (codes "serve") serve_ids
-
-pub five_missing : fault_of serve_app [] ≡ MissingRequiredArgument ∷ []
-unfolding walk_fault defaults_fault
-five_missing = refl
-
-module _ (a : Text) (p : is_flag a ≡ false) where
-  pub five_missing-1 : fault_of serve_app (a ∷ []) ≡ MissingRequiredArgument ∷ []
-  unfolding defaults_fault
-  five_missing-1 =
-      rw (fault_step _ 1 nothing_held a [] p, fault_end,
-          walk_step _ 1 nothing_held a p) refl
-
-  module _ (b : Text) (q : is_flag b ≡ false) where
-    pub five_missing-2 : fault_of serve_app (a ∷ b ∷ []) ≡ MissingRequiredArgument ∷ []
-    unfolding defaults_fault
-    five_missing-2 =
-        rw (fault_step _ 1 nothing_held a (b ∷ []) p, fault_step _ 2 _ b [] q, fault_end,
-            walk_step _ 1 nothing_held a p, walk_step _ 2 _ b q) refl
-
-    module _ (c : Text) (r : is_flag c ≡ false) where
-      pub five_missing-3 : fault_of serve_app (a ∷ b ∷ c ∷ []) ≡ MissingRequiredArgument ∷ []
-      unfolding defaults_fault
-      five_missing-3 =
-          rw (fault_step _ 1 nothing_held a (b ∷ c ∷ []) p, fault_step _ 2 _ b (c ∷ []) q, fault_step _ 3 _ c [] r, fault_end,
-              walk_step _ 1 nothing_held a p, walk_step _ 2 _ b q, walk_step _ 3 _ c r) refl
-
-      module _ (d : Text) (s : is_flag d ≡ false) where
-        pub five_missing-4 : fault_of serve_app (a ∷ b ∷ c ∷ d ∷ []) ≡ MissingRequiredArgument ∷ []
-        unfolding defaults_fault
-        five_missing-4 =
-            rw (fault_step _ 1 nothing_held a (b ∷ c ∷ d ∷ []) p, fault_step _ 2 _ b (c ∷ d ∷ []) q, fault_step _ 3 _ c (d ∷ []) r, fault_step _ 4 _ d [] s, fault_end,
-                walk_step _ 1 nothing_held a p, walk_step _ 2 _ b q, walk_step _ 3 _ c r, walk_step _ 4 _ d s) refl
-
-        module _ (e : Text) (t : is_flag e ≡ false) where
-          pub five_fit : fault_of serve_app (a ∷ b ∷ c ∷ d ∷ e ∷ []) ≡ []
-          unfolding defaults_fault
-          five_fit =
-              rw (fault_step _ 1 nothing_held a (b ∷ c ∷ d ∷ e ∷ []) p, fault_step _ 2 _ b (c ∷ d ∷ e ∷ []) q, fault_step _ 3 _ c (d ∷ e ∷ []) r, fault_step _ 4 _ d (e ∷ []) s, fault_step _ 5 _ e [] t, fault_end,
-                  walk_step _ 1 nothing_held a p, walk_step _ 2 _ b q, walk_step _ 3 _ c r, walk_step _ 4 _ d s, walk_step _ 5 _ e t) refl
-
-          pub five_rows : matches_of serve_app (a ∷ b ∷ c ∷ d ∷ e ∷ []) ≡ rows serve_ids (a ∷ b ∷ c ∷ d ∷ e ∷ [])
-          five_rows = rw (walk_step _ 1 nothing_held a p, walk_step _ 2 _ b q, walk_step _ 3 _ c r, walk_step _ 4 _ d s, walk_step _ 5 _ e t) refl
-
-          pub five_stray : (x : Text) (xs : List Text) → is_flag x ≡ false → fault_of serve_app (a ∷ b ∷ c ∷ d ∷ e ∷ x ∷ xs) ≡ UnknownArgument ∷ []
-          unfolding defaults_fault
-          five_stray x xs z =
-              rw (fault_step _ 1 nothing_held a (b ∷ c ∷ d ∷ e ∷ x ∷ xs) p, fault_step _ 2 _ b (c ∷ d ∷ e ∷ x ∷ xs) q, fault_step _ 3 _ c (d ∷ e ∷ x ∷ xs) r, fault_step _ 4 _ d (e ∷ x ∷ xs) s, fault_step _ 5 _ e (x ∷ xs) t,
-                  fault_step _ 6 _ x xs z) refl
+  pub rows_are : rows_after s.rules [] ws ≡ finished s.rules (end_of s.rules 1 nothing_held ws).held
+  rows_are = ap (λ (w : Walk). finished s.rules w.held) (walks s.rules single 1 nothing_held ws plain)

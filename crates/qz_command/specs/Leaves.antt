@@ -1,5 +1,5 @@
 -- What the parser is told of a command that only takes words.
-use Rattle.std.specs.Prelude.{◌≡◌, true, List, [], ◌∷◌, Result, Ok, Err, codes, fold}
+use Rattle.std.specs.Prelude.{◌≡◌, true, List, [], Result, Ok, Err, fold}
 use Rattle.clap.specs.Words.{App, Rule, Text, fault_of, found_of, matches_of, new_app, new_rule, rows_of, with_rule}
 use Rattle.clap.specs.declared.parser.matches.ArgMatches.{ArgMatches}
 use Rattle.qz_command.specs.declared.fault.WordsFault.{WordsFault}

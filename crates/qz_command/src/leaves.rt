@@ -99,7 +99,8 @@ pub fn words_of_found<'a>(
     words: &'a [&'a str],
 ) -> Result<(&'a str, &'a str, &'a str), WordsFault>
     requires { has_flag (texts words.now) ≡ false }
-    ensures { Reads (λ r. r.0.now ∷ r.1.now ∷ r.2.now ∷ []) result (so_many 3 (texts words.entry.now)) }
+    ensures { Reads (λ r. r.0.now ∷ r.1.now ∷ r.2.now ∷ []) result
+        (so_many 3 (texts words.entry.now)) }
 {
     match parsed(alloc, "found", &["folder", "shards", "token"], words) {
         Ok(matches) => Ok((
@@ -117,9 +118,15 @@ pub fn words_of_serve<'a>(
     words: &'a [&'a str],
 ) -> Result<(&'a str, &'a str, &'a str, &'a str, &'a str), WordsFault>
     requires { has_flag (texts words.now) ≡ false }
-    ensures { Reads (λ r. r.0.now ∷ r.1.now ∷ r.2.now ∷ r.3.now ∷ r.4.now ∷ []) result (so_many 5 (texts words.entry.now)) }
+    ensures { Reads (λ r. r.0.now ∷ r.1.now ∷ r.2.now ∷ r.3.now ∷ r.4.now ∷ []) result
+        (so_many 5 (texts words.entry.now)) }
 {
-    match parsed(alloc, "serve", &["folder", "port", "workers", "regraders", "links"], words) {
+    match parsed(
+        alloc,
+        "serve",
+        &["folder", "port", "workers", "regraders", "links"],
+        words,
+    ) {
         Ok(matches) => Ok((
             value(&matches, "folder"),
             value(&matches, "port"),

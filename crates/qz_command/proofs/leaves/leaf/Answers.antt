@@ -1,4 +1,4 @@
-use Rattle.std.proofs.Common.{◌≡◌, ◌∙◌, ap₂, sym, []}
+use Rattle.std.proofs.Common.{◌∙◌, ap₂, sym, []}
 use Rattle.clap.specs.Words.{with_rule}
 use Rattle.qz_command.proofs.ParseLemmas.{words_app-more}
 use Rattle.qz_command.proofs.leaves.leaf.Goals as goal

@@ -1,4 +1,4 @@
-use Rattle.std.proofs.Common.{◌∙◌, sym}
+use Rattle.std.proofs.Common.{◌∙◌}
 use Rattle.qz_command.proofs.ParseLemmas.{at_fault_as, fits_as}
 use Rattle.qz_command.proofs.leaves.parsed.Goals as goal
 
