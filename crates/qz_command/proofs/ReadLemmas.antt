@@ -1,0 +1,124 @@
+-- What the parser found is what stands in the words, and where it found a fault there are more of them, or fewer.
+use Rattle.std.proofs.Common.{◌≡◌, ◌∙◌, ℕ, ap, refl, false, arith, List, [], ◌∷◌, Option, Some, None, Err, codes, length}
+use Rattle.std.proofs.lemmas.Bool.{ne_eqb}
+use Rattle.clap.proofs.WalkLemmas.{first_value-rows}
+use Rattle.clap.specs.Simple.{Shape, built}
+use Rattle.clap.specs.Words.{App, Kinds, Text, first_of, first_value, found_of}
+use Rattle.clap.specs.declared.error.kind.ErrorKind.{ErrorKind}
+use Rattle.clap.specs.declared.error.kind.ErrorKind.TheVariants.{MissingRequiredArgument, UnknownArgument}
+use Rattle.clap.specs.declared.parser.matches.ArgMatches.{ArgMatches}
+use Rattle.qz_command.specs.declared.fault.WordsFault.{WordsFault}
+use Rattle.qz_command.specs.declared.fault.WordsFault.TheVariants as fault
+use Rattle.qz_command.specs.Flags.{has_flag}
+use Rattle.qz_command.specs.Leaves.{Fits, IsAtFault, Parses, words_app}
+use Rattle.qz_command.specs.Readings.{Lacks, so_many}
+use Rattle.qz_command.proofs.LeafLemmas.{fault_is, rows_are}
+
+-- a fault of the parser is told on
+pub told_on : {Y : Type 0} (app : App) (words : List Text) (f : WordsFault) (reading : Option Y) → Parses app words (Err f)
+    → (IsAtFault app words → reading ≡ None) → Lacks f reading
+told_on app words fault.BadWords reading at_fault none = none at_fault
+told_on app words fault.Memory reading at_fault none = tt
+
+unfit : (k : ErrorKind) (kinds : Kinds) → kinds ≡ k ∷ [] → kinds ≡ [] → ⊥
+unfit k kinds is none = absurd cc
+
+other_number : (n : ℕ) (ws : List Text) → ¬ (length ws ≡ n) → so_many n ws ≡ None
+other_number n ws other = rw (ne_eqb (length ws) n other) refl
+
+-- ---- no word
+
+abbrev pub replay_app : App
+replay_app = words_app (codes "replay") []
+
+abbrev replay : Shape
+replay = (built replay_app).top
+
+pub none_read : (ws : List Text) (m : ArgMatches) → has_flag ws ≡ false → Fits replay_app ws m → so_many 0 ws ≡ Some []
+none_read [] m plain fits = refl
+none_read (a ∷ ws) m plain fits = absurd (unfit UnknownArgument _ (fault_is replay refl (a ∷ ws) plain) fits.faultless)
+
+pub none_refused : (ws : List Text) → has_flag ws ≡ false → IsAtFault replay_app ws → so_many 0 ws ≡ None
+none_refused [] plain at = absurd (at.at_fault (fault_is replay refl [] plain))
+none_refused (a ∷ ws) plain at = other_number 0 (a ∷ ws) (λ e. absurd (omega arith))
+
+-- ---- one word
+
+abbrev pub one_app : Text → App
+one_app name = words_app name (codes "word" ∷ [])
+
+abbrev one : Text → Shape
+one name = (built (one_app name)).top
+
+module _ (name : Text) where
+  pub one_read : (ws : List Text) (m : ArgMatches) → has_flag ws ≡ false → Fits (one_app name) ws m
+      → (a : Text) × (ws ≡ a ∷ []) × (first_value (found_of m) (codes "word") ≡ Some a)
+  one_read [] m plain fits = absurd (unfit MissingRequiredArgument _ (fault_is (one name) refl [] plain) fits.faultless)
+  one_read (a ∷ []) m plain fits =
+      let rows = fits.rows ∙ rows_are (one name) refl (a ∷ []) plain in
+      (a, refl, first_value-rows (found_of m) (codes "word") ∙ ap (first_of (codes "word")) rows)
+  one_read (a ∷ b ∷ ws) m plain fits = absurd (unfit UnknownArgument _ (fault_is (one name) refl (a ∷ b ∷ ws) plain) fits.faultless)
+
+  pub one_refused : (ws : List Text) → has_flag ws ≡ false → IsAtFault (one_app name) ws → so_many 1 ws ≡ None
+  one_refused [] plain at = refl
+  one_refused (a ∷ []) plain at = absurd (at.at_fault (fault_is (one name) refl (a ∷ []) plain))
+  one_refused (a ∷ b ∷ ws) plain at = other_number 1 (a ∷ b ∷ ws) (λ e. absurd (omega arith))
+
+-- ---- three words
+
+abbrev pub found_app : App
+found_app = words_app (codes "found") (codes "folder" ∷ codes "shards" ∷ codes "token" ∷ [])
+
+abbrev found : Shape
+found = (built found_app).top
+
+pub three_read : (ws : List Text) (m : ArgMatches) → has_flag ws ≡ false → Fits found_app ws m
+    → (a : Text) × (b : Text) × (c : Text) × (ws ≡ a ∷ b ∷ c ∷ [])
+    × (first_value (found_of m) (codes "folder") ≡ Some a) × (first_value (found_of m) (codes "shards") ≡ Some b) × (first_value (found_of m) (codes "token") ≡ Some c)
+three_read [] m plain fits = absurd (unfit MissingRequiredArgument _ (fault_is found refl [] plain) fits.faultless)
+three_read (a ∷ []) m plain fits = absurd (unfit MissingRequiredArgument _ (fault_is found refl (a ∷ []) plain) fits.faultless)
+three_read (a ∷ b ∷ []) m plain fits = absurd (unfit MissingRequiredArgument _ (fault_is found refl (a ∷ b ∷ []) plain) fits.faultless)
+three_read (a ∷ b ∷ c ∷ []) m plain fits =
+    let rows = fits.rows ∙ rows_are found refl (a ∷ b ∷ c ∷ []) plain in
+    let value = λ (id : Text). first_value-rows (found_of m) id ∙ ap (first_of id) rows in
+    (a, b, c, refl, value (codes "folder"), value (codes "shards"), value (codes "token"))
+three_read (a ∷ b ∷ c ∷ d ∷ ws) m plain fits = absurd (unfit UnknownArgument _ (fault_is found refl (a ∷ b ∷ c ∷ d ∷ ws) plain) fits.faultless)
+
+pub three_refused : (ws : List Text) → has_flag ws ≡ false → IsAtFault found_app ws → so_many 3 ws ≡ None
+three_refused [] plain at = refl
+three_refused (a ∷ []) plain at = refl
+three_refused (a ∷ b ∷ []) plain at = refl
+three_refused (a ∷ b ∷ c ∷ []) plain at = absurd (at.at_fault (fault_is found refl (a ∷ b ∷ c ∷ []) plain))
+three_refused (a ∷ b ∷ c ∷ d ∷ ws) plain at = other_number 3 (a ∷ b ∷ c ∷ d ∷ ws) (λ e. absurd (omega arith))
+
+-- ---- five words
+
+abbrev pub serve_app : App
+serve_app = words_app (codes "serve") (codes "folder" ∷ codes "port" ∷ codes "workers" ∷ codes "regraders" ∷ codes "links" ∷ [])
+
+abbrev serve : Shape
+serve = (built serve_app).top
+
+pub five_read : (ws : List Text) (m : ArgMatches) → has_flag ws ≡ false → Fits serve_app ws m
+    → (a : Text) × (b : Text) × (c : Text) × (d : Text) × (e : Text) × (ws ≡ a ∷ b ∷ c ∷ d ∷ e ∷ [])
+    × (first_value (found_of m) (codes "folder") ≡ Some a) × (first_value (found_of m) (codes "port") ≡ Some b) × (first_value (found_of m) (codes "workers") ≡ Some c)
+    × (first_value (found_of m) (codes "regraders") ≡ Some d) × (first_value (found_of m) (codes "links") ≡ Some e)
+five_read [] m plain fits = absurd (unfit MissingRequiredArgument _ (fault_is serve refl [] plain) fits.faultless)
+five_read (a ∷ []) m plain fits = absurd (unfit MissingRequiredArgument _ (fault_is serve refl (a ∷ []) plain) fits.faultless)
+five_read (a ∷ b ∷ []) m plain fits = absurd (unfit MissingRequiredArgument _ (fault_is serve refl (a ∷ b ∷ []) plain) fits.faultless)
+five_read (a ∷ b ∷ c ∷ []) m plain fits = absurd (unfit MissingRequiredArgument _ (fault_is serve refl (a ∷ b ∷ c ∷ []) plain) fits.faultless)
+five_read (a ∷ b ∷ c ∷ d ∷ []) m plain fits = absurd (unfit MissingRequiredArgument _ (fault_is serve refl (a ∷ b ∷ c ∷ d ∷ []) plain) fits.faultless)
+five_read (a ∷ b ∷ c ∷ d ∷ e ∷ []) m plain fits =
+    let rows = fits.rows ∙ rows_are serve refl (a ∷ b ∷ c ∷ d ∷ e ∷ []) plain in
+    let value = λ (id : Text). first_value-rows (found_of m) id ∙ ap (first_of id) rows in
+    (a, b, c, d, e, refl, value (codes "folder"), value (codes "port"), value (codes "workers"), value (codes "regraders"), value (codes "links"))
+five_read (a ∷ b ∷ c ∷ d ∷ e ∷ f ∷ ws) m plain fits = absurd (unfit UnknownArgument _ (fault_is serve refl (a ∷ b ∷ c ∷ d ∷ e ∷ f ∷ ws) plain) fits.faultless)
+
+pub five_refused : (ws : List Text) → has_flag ws ≡ false → IsAtFault serve_app ws → so_many 5 ws ≡ None
+five_refused [] plain at = refl
+five_refused (a ∷ []) plain at = refl
+five_refused (a ∷ b ∷ []) plain at = refl
+five_refused (a ∷ b ∷ c ∷ []) plain at = refl
+five_refused (a ∷ b ∷ c ∷ d ∷ []) plain at = refl
+five_refused (a ∷ b ∷ c ∷ d ∷ e ∷ []) plain at = absurd (at.at_fault (fault_is serve refl (a ∷ b ∷ c ∷ d ∷ e ∷ []) plain))
+five_refused (a ∷ b ∷ c ∷ d ∷ e ∷ f ∷ ws) plain at = other_number 5 (a ∷ b ∷ c ∷ d ∷ e ∷ f ∷ ws) (λ e. absurd (omega arith))

@@ -1,0 +1,101 @@
+-- The commands that the words of the command line name.
+use Rattle.std.specs.Prelude.{ℕ, ◌≤◌, ◌&&◌, nat_le, if◌then◌else◌, List, [], ◌∷◌, length, Option, Some, None, option_map, bytes_eq, codes}
+use Rattle.qz_command.specs.declared.command.Command.{Command}
+use Rattle.qz_command.specs.declared.command.Command.TheVariants as command
+use Rattle.qz_command.specs.Flags.{has_flag}
+use Rattle.qz_decimal.specs.Decimals.{◌>>=◌}
+use Rattle.qz_wire.specs.Brief.{IsBriefToken}
+use Rattle.qz_wire.specs.Lines.{number_within}
+use Rattle.qz_wire.specs.Words.{token_of}
+
+-- ---- the command that stands behind a first word
+
+abbrev pub replay_of : List (List ℕ) → Option Command
+replay_of [] = Some command.Replay
+replay_of words = None
+
+-- what is done with a GIFT text
+abbrev pub gift_by : List ℕ → Option Command
+gift_by word =
+    if bytes_eq word (codes "check") then Some command.GiftCheck
+    else (if bytes_eq word (codes "fmt") then Some command.GiftFormat else None)
+
+abbrev pub gift_of : List (List ℕ) → Option Command
+gift_of (word ∷ []) = gift_by word
+gift_of words = None
+
+-- 1 to 4,096 bytes name a folder
+abbrev pub folder_of : List ℕ → Option (List ℕ)
+folder_of word = if nat_le 1 (length word) && nat_le (length word) 4096 then Some word else None
+
+abbrev pub script_by : List ℕ → Option Command
+script_by folder = option_map command.Script (folder_of folder)
+
+abbrev pub script_of : List (List ℕ) → Option Command
+script_of (folder ∷ []) = script_by folder
+script_of words = None
+
+-- a school of 1 to 64 shards, and the token of its manager
+abbrev pub found_by : List ℕ → List ℕ → List ℕ → Option Command
+found_by folder shards token = do
+  count ← number_within 1 64 shards
+  place ← folder_of folder
+  name ← token_of token
+  Some (command.Found place count name)
+
+abbrev pub found_of : List (List ℕ) → Option Command
+found_of (folder ∷ shards ∷ token ∷ []) = found_by folder shards token
+found_of words = None
+
+-- at a port, by 1 to 16 workers beside up to 8 regraders, until so many links were taken
+abbrev pub serve_by : List ℕ → List ℕ → List ℕ → List ℕ → List ℕ → Option Command
+serve_by folder port workers regraders links = do
+  door ← number_within 1 65535 port
+  crew ← number_within 1 16 workers
+  judges ← number_within 0 8 regraders
+  count ← number_within 1 1000000000 links
+  place ← folder_of folder
+  Some (command.Serve place door crew judges count)
+
+abbrev pub serve_of : List (List ℕ) → Option Command
+serve_of (folder ∷ port ∷ workers ∷ regraders ∷ links ∷ []) = serve_by folder port workers regraders links
+serve_of words = None
+
+-- a school of 1 to 2,000 students
+abbrev pub bulk_by : List ℕ → Option Command
+bulk_by count = option_map command.Bulk (number_within 1 2000 count)
+
+abbrev pub bulk_of : List (List ℕ) → Option Command
+bulk_of (count ∷ []) = bulk_by count
+bulk_of words = None
+
+-- ---- the command that all the words are
+
+abbrev pub command_by : List ℕ → List (List ℕ) → Option Command
+command_by first rest =
+    if bytes_eq first (codes "replay") then replay_of rest
+    else (if bytes_eq first (codes "gift") then gift_of rest
+    else (if bytes_eq first (codes "script") then script_of rest
+    else (if bytes_eq first (codes "found") then found_of rest
+    else (if bytes_eq first (codes "serve") then serve_of rest
+    else (if bytes_eq first (codes "bulk") then bulk_of rest else None)))))
+
+-- no word of a command begins with a dash
+abbrev pub command_of : List (List ℕ) → Option Command
+command_of [] = None
+command_of (first ∷ rest) = if has_flag (first ∷ rest) then None else command_by first rest
+
+-- ---- numbers in their ranges
+
+abbrev pub IsFolder : List ℕ → Type 0
+IsFolder folder = (1 ≤ length folder) × (length folder ≤ 4096)
+
+abbrev pub IsInRange : Command → Type 0
+IsInRange (command.Script folder) = IsFolder folder
+IsInRange (command.Found folder shards token) =
+    IsFolder folder × ((1 ≤ shards) × (shards ≤ 64)) × IsBriefToken token
+IsInRange (command.Serve folder port workers regraders links) =
+    IsFolder folder × ((1 ≤ port) × (port ≤ 65535)) × ((1 ≤ workers) × (workers ≤ 16))
+    × (regraders ≤ 8) × ((1 ≤ links) × (links ≤ 1000000000))
+IsInRange (command.Bulk count) = (1 ≤ count) × (count ≤ 2000)
+IsInRange c = Unit {0}

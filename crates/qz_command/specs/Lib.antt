@@ -1,0 +1,4 @@
+pub mod Commands
+pub mod Flags
+pub mod Leaves
+pub mod Readings

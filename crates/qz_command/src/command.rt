@@ -1,0 +1,230 @@
+//! The command that the words of the command line name.
+
+ghost use Rattle.clap.specs.Walk.{texts};
+ghost use Rattle.qz_command.specs.Commands.{IsInRange, bulk_by, bulk_of, command_by, command_of, found_by, found_of, gift_by, gift_of, replay_of, script_by, script_of, serve_by, serve_of};
+ghost use Rattle.qz_command.specs.Flags.{has_flag, is_flag};
+ghost use Rattle.qz_command.specs.Readings.{Reads};
+ghost use Rattle.std.specs.Prelude.{◌≡◌, IfOk, false};
+
+use crate::WordsFault;
+use crate::leaves::{one_word, words_of_found, words_of_replay, words_of_serve};
+use crate::values::{folder_in, number_in, token_text};
+use qz_text::Text;
+use std::alloc::{AllocError, Global};
+
+/// A command of the program.
+#[derive(Drop)]
+pub enum Command {
+    /// The steps of one slot are replayed.
+    Replay,
+    /// A GIFT text is read, and its questions counted.
+    GiftCheck,
+    /// A GIFT text is laid out anew.
+    GiftFormat,
+    /// The requests of a script are answered over the school in a folder, whose name has 1 to 4,096 bytes.
+    Script {
+        folder: Text,
+    },
+    /// A school is founded in a folder, with 1 to 64 shards and a manager who has this token, of 1 to 64 bytes.
+    Found {
+        folder: Text,
+        shards: u8,
+        token: Text,
+    },
+    /// Links are served over the school in a folder, at a port from 1 to 65,535, by 1 to 16 workers beside 0 to 8 regraders, until
+    /// so many links were taken, from 1 to 1,000,000,000.
+    Serve {
+        folder: Text,
+        port: u16,
+        workers: u8,
+        regraders: u8,
+        links: u32,
+    },
+    /// A school of so many students is made in memory, from 1 to 2,000.
+    Bulk {
+        count: u32,
+    },
+}
+
+/// The command that these words are.
+///
+/// # Errors
+///
+/// `BadWords` for words that are no command, and `Memory` where memory was wanting, whatever the words are.
+pub fn command_of(alloc: Global, words: &[Text]) -> Result<Command, WordsFault>
+    ensures value { Reads (λ c. c) result (command_of words.now) }
+    ensures range { IfOk result IsInRange }
+{
+    let [first, rest @ ..] = words else {
+        return Err(WordsFault::BadWords);
+    };
+    if has_flag(words) {
+        return Err(WordsFault::BadWords);
+    }
+    let rest = strs_of(alloc, rest)?;
+    command_by(alloc, first.as_str(), rest.as_slice())
+}
+
+fn is_flag(word: &Text) -> bool
+    ensures { result ≡ is_flag word.now }
+{
+    match word.as_bytes() {
+        [first, ..] => *first == b'-',
+        [] => false,
+    }
+}
+
+fn has_flag(words: &[Text]) -> bool
+    ensures { result ≡ has_flag words.now }
+{
+    words.iter().any(is_flag)
+}
+
+/// The words as the parser of command lines takes them.
+fn strs_of(alloc: Global, words: &[Text]) -> Result<Vec<&str>, AllocError>
+    ensures { IfOk result (λ strs. texts strs.items ≡ words.now) }
+{
+    let mut strs = Vec::new(alloc);
+    for word in words {
+        strs.push(word.as_str())?;
+    }
+    Ok(strs)
+}
+
+/// The command that begins with this word.
+fn command_by(alloc: Global, first: &str, rest: &[&str]) -> Result<Command, WordsFault>
+    requires { has_flag (texts rest.now) ≡ false }
+    ensures value { Reads (λ c. c) result (command_by first.now (texts rest.now)) }
+    ensures range { IfOk result IsInRange }
+{
+    match first {
+        "replay" => replay(alloc, rest),
+        "gift" => gift(alloc, rest),
+        "script" => script(alloc, rest),
+        "found" => found(alloc, rest),
+        "serve" => serve(alloc, rest),
+        "bulk" => bulk(alloc, rest),
+        _ => Err(WordsFault::BadWords),
+    }
+}
+
+fn replay(alloc: Global, words: &[&str]) -> Result<Command, WordsFault>
+    requires { has_flag (texts words.now) ≡ false }
+    ensures value { Reads (λ c. c) result (replay_of (texts words.now)) }
+    ensures range { IfOk result IsInRange }
+{
+    words_of_replay(alloc, words)?;
+    Ok(Command::Replay)
+}
+
+fn gift(alloc: Global, words: &[&str]) -> Result<Command, WordsFault>
+    requires { has_flag (texts words.now) ≡ false }
+    ensures value { Reads (λ c. c) result (gift_of (texts words.now)) }
+    ensures range { IfOk result IsInRange }
+{
+    let word = one_word(alloc, "gift", words)?;
+    gift_by(word)
+}
+
+fn gift_by(word: &str) -> Result<Command, WordsFault>
+    ensures value { Reads (λ c. c) result (gift_by word.now) }
+    ensures range { IfOk result IsInRange }
+{
+    match word {
+        "check" => Ok(Command::GiftCheck),
+        "fmt" => Ok(Command::GiftFormat),
+        _ => Err(WordsFault::BadWords),
+    }
+}
+
+fn script(alloc: Global, words: &[&str]) -> Result<Command, WordsFault>
+    requires { has_flag (texts words.now) ≡ false }
+    ensures value { Reads (λ c. c) result (script_of (texts words.now)) }
+    ensures range { IfOk result IsInRange }
+{
+    let word = one_word(alloc, "script", words)?;
+    script_by(alloc, word)
+}
+
+fn script_by(alloc: Global, word: &str) -> Result<Command, WordsFault>
+    ensures value { Reads (λ c. c) result (script_by word.now) }
+    ensures range { IfOk result IsInRange }
+{
+    let folder = folder_in(alloc, word)?;
+    Ok(Command::Script { folder })
+}
+
+fn found(alloc: Global, words: &[&str]) -> Result<Command, WordsFault>
+    requires { has_flag (texts words.now) ≡ false }
+    ensures value { Reads (λ c. c) result (found_of (texts words.now)) }
+    ensures range { IfOk result IsInRange }
+{
+    let (folder, shards, token) = words_of_found(alloc, words)?;
+    found_by(alloc, folder, shards, token)
+}
+
+fn found_by(alloc: Global, folder: &str, shards: &str, token: &str) -> Result<Command, WordsFault>
+    ensures value { Reads (λ c. c) result (found_by folder.now shards.now token.now) }
+    ensures range { IfOk result IsInRange }
+{
+    let shards = number_in(shards, 1, 64)?;
+    let folder = folder_in(alloc, folder)?;
+    let token = token_text(alloc, token)?;
+    Ok(Command::Found {
+        folder,
+        shards: shards as u8,
+        token,
+    })
+}
+
+fn serve(alloc: Global, words: &[&str]) -> Result<Command, WordsFault>
+    requires { has_flag (texts words.now) ≡ false }
+    ensures value { Reads (λ c. c) result (serve_of (texts words.now)) }
+    ensures range { IfOk result IsInRange }
+{
+    let (folder, port, workers, regraders, links) = words_of_serve(alloc, words)?;
+    serve_by(alloc, folder, port, workers, regraders, links)
+}
+
+fn serve_by(
+    alloc: Global,
+    folder: &str,
+    port: &str,
+    workers: &str,
+    regraders: &str,
+    links: &str,
+) -> Result<Command, WordsFault>
+    ensures value { Reads (λ c. c) result
+        (serve_by folder.now port.now workers.now regraders.now links.now) }
+    ensures range { IfOk result IsInRange }
+{
+    let port = number_in(port, 1, 65_535)?;
+    let workers = number_in(workers, 1, 16)?;
+    let regraders = number_in(regraders, 0, 8)?;
+    let links = number_in(links, 1, 1_000_000_000)?;
+    let folder = folder_in(alloc, folder)?;
+    Ok(Command::Serve {
+        folder,
+        port: port as u16,
+        workers: workers as u8,
+        regraders: regraders as u8,
+        links,
+    })
+}
+
+fn bulk(alloc: Global, words: &[&str]) -> Result<Command, WordsFault>
+    requires { has_flag (texts words.now) ≡ false }
+    ensures value { Reads (λ c. c) result (bulk_of (texts words.now)) }
+    ensures range { IfOk result IsInRange }
+{
+    let word = one_word(alloc, "bulk", words)?;
+    bulk_by(word)
+}
+
+fn bulk_by(word: &str) -> Result<Command, WordsFault>
+    ensures value { Reads (λ c. c) result (bulk_by word.now) }
+    ensures range { IfOk result IsInRange }
+{
+    let count = number_in(word, 1, 2000)?;
+    Ok(Command::Bulk { count })
+}

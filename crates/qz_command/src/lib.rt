@@ -1,0 +1,13 @@
+//! The commands that the words of the command line name.
+#![tactic(auto)]
+
+mod command;
+mod fault;
+mod leaves;
+mod values;
+
+pub use command::{Command, command_of};
+pub use fault::WordsFault;
+
+#[cfg(test)]
+mod tests;
