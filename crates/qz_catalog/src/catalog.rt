@@ -35,11 +35,11 @@ use std::marker::Model;
 /// what it touches, and not the whole list, but for `names`. A record is put in two moves: what may refuse it is decided and all
 /// that takes memory is made first, and what follows takes none, so that nothing is ever undone.
 #[derive(Drop)]
-pub struct Catalog {
+pub struct CatalogCore {
     book: Book,
 }
 
-impl Model for Catalog {
+impl Model for CatalogCore {
     ghost use Rattle.std.specs.Prelude.{List};
     ghost use Rattle.qz_terms.specs.declared.record.Record.{Record};
     ghost use Rattle.qz_catalog.specs.Holdings.{IsBook};
@@ -88,15 +88,15 @@ fn founded(alloc: Global, shards: u8, token: &Text) -> Result<Book, NoMemory>
     Ok(book)
 }
 
-impl Catalog {
+impl CatalogCore {
     /// The catalogue of a school that is founded with so many shards, from 1 to 64, and its manager's token. The manager is the first
     /// user.
-    pub fn new(alloc: Global, shards: u8, token: &Text) -> Result<Catalog, NoMemory>
+    pub fn new(alloc: Global, shards: u8, token: &Text) -> Result<CatalogCore, NoMemory>
         requires some { 1 ≤ shards }
         requires few { shards ≤ 64 }
         ensures { IfOk result (λ catalog. catalog ≡ founded shards token.now) }
     {
-        Ok(Catalog {
+        Ok(CatalogCore {
             book: founded(alloc, shards, token)?,
         })
     }
@@ -135,7 +135,7 @@ impl Catalog {
     }
 }
 
-impl Catalog {
+impl CatalogCore {
     /// The users' names, in order of number. `Memory` is the only error.
     pub fn names(&self, alloc: Global) -> Result<Listed<Text>, Refusal>
         ensures names { IfOk result (λ names. names ≡ map (λ (u : User). u.name) (users self.now)) }
@@ -178,7 +178,7 @@ fn is_look(request: &Request) -> bool
     matches!(request, Request::Jobs | Request::Bank { .. })
 }
 
-impl Catalog {
+impl CatalogCore {
     /// Answers a request to the catalogue, at this moment by the clock, in seconds since 1970: the fourteen that put a record, and
     /// the looks at the jobs and at a version of an entry. No description that it brings has a general feedback.
     ///

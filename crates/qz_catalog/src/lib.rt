@@ -18,7 +18,7 @@ mod replies;
 mod settings;
 mod sizes;
 
-pub use catalog::Catalog;
+pub use catalog::CatalogCore;
 
 #[cfg(test)]
 mod tests;

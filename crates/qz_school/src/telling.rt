@@ -10,7 +10,7 @@ ghost use Rattle.qz_terms.specs.declared.reply.Reply.TheVariants as reply;
 ghost use Rattle.qz_school.specs.Asked.{MayBeAsked};
 ghost use Rattle.qz_school.specs.Solo.{IsKeptUnder, IsPlanned, IsSameShard, IsUnplanned, Tells, asks_shard};
 
-use qz_catalog::Catalog;
+use qz_catalog::CatalogCore;
 use qz_grading::{Refusal, Steps};
 use qz_shard::{Older, Shard};
 use qz_terms::{Ask, Job, Plan, Reply, Request, User, attempt_named};
@@ -60,7 +60,7 @@ fn answered<L: Ledger>(
 
 /// The plan of a request to the shard of the user whom it names, without its questions but for a start, or why there is none.
 fn plan_for(
-    catalog: &Catalog,
+    catalog: &CatalogCore,
     shard: &mut Shard,
     alloc: Global,
     user: &User,
@@ -88,7 +88,7 @@ fn plan_for(
 
 /// The reply of a shard to a request that it answers under a plan, where the rules of callers allow it.
 pub(crate) fn told(
-    catalog: &Catalog,
+    catalog: &CatalogCore,
     shard: &mut Shard,
     alloc: Global,
     user: &User,
