@@ -2,6 +2,7 @@
 #![tactic(auto)]
 
 mod absent;
+mod adopting;
 mod book;
 mod catalog;
 mod causes;
