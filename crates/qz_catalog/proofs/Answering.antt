@@ -29,7 +29,7 @@ legal-more : (c : List Record) (es : List Entry) (now : ℕ) (user : User) (ask 
 legal-more c es now user ask p none =
     legal-push c (record_in c now user ask) p.held.legal (allowed c now user ask p.asked p.keeps p.free.permitted (granted c es now user ask p.held.bank p.free none))
 
-longer : (c : List Record) (r : Record) → length (c ++ r ∷ []) ≡ length c + 1
+pub longer : (c : List Record) (r : Record) → length (c ++ r ∷ []) ≡ length c + 1
 longer c r = length-append c (r ∷ [])
 
 pub put-held : (c : List Record) (es : List Entry) (now : ℕ) (user : User) (ask : Ask) → IsPosed c es now user ask → bank_cause es ask.request ≡ None → length c + 1 < 2 ^ 32 - 1 → IsHeld (c ++ record_in c now user ask ∷ []) (bank_after es ask.request)

@@ -39,7 +39,7 @@ second-some (Some x) b r none some = absurd cc
 
 -- ---- a record stands for another of the same request under the same key
 
-cause-same : (c : List Record) (moment caller : ℕ) (key : Option (List ℕ)) (x : Request) → cause_in c (record { moment = moment; caller = caller; owner = 0; key = key; terms = None; event = event.Asked x }) x ≡ cause_in c (stand_in key x) x
+pub cause-same : (c : List Record) (moment caller : ℕ) (key : Option (List ℕ)) (x : Request) → cause_in c (record { moment = moment; caller = caller; owner = 0; key = key; terms = None; event = event.Asked x }) x ≡ cause_in c (stand_in key x) x
 cause-same c moment caller key (request.Import gift) = refl
 cause-same c moment caller key x = refl
 

@@ -16,3 +16,4 @@ pub mod Staying
 pub mod Answering
 pub mod ShownLemmas
 pub mod PinLemmas
+pub mod AdoptLemmas

@@ -101,14 +101,14 @@ again-looked c user ask n told again says =
 
 -- ---- a record that may stand behind others
 
-called-by : (c : List Record) (user : User) (b : Bool) → at_place (users c) user.number ≡ Some user → b || is_place (length (users c)) user.number ≡ true
-called-by c user true at = refl
-called-by c user false at = sym (there-is (users c) user.number) ∙ ap is_some at
+pub called-by : (c : List Record) (n : ℕ) (user : User) (b : Bool) → at_place (users c) n ≡ Some user → b || is_place (length (users c)) n ≡ true
+called-by c n user true at = refl
+called-by c n user false at = sym (there-is (users c) n) ∙ ap is_some at
 
 pub posed-next : (c : List Record) (es : List Entry) (now : ℕ) (user : User) (ask : Ask) (r : Record) → IsPosed c es now user ask → r ≡ record_in c now user ask → IsNext c r
 posed-next c es now user ask r p is = subst (IsNext c) (sym is) (record {
   there = λ x asks. let same : ask.request ≡ x = some-same ask.request x asks in ap (missing_in c) (sym same) ∙ p.free.there;
-  called = called-by c user _ (asked-by c ask.caller user ask.request p.asked.by_user p.asked.of_catalog p.keeps p.free.permitted);
+  called = called-by c user.number user _ (asked-by c ask.caller user ask.request p.asked.by_user p.asked.of_catalog p.keeps p.free.permitted);
 })
 
 -- ---- what is read at a place

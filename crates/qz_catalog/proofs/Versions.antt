@@ -154,7 +154,7 @@ bank-kept es x keeps described none bank = bank
 -- ---- the bank of all the records
 
 -- a request that was accepted has no cause in the bank of the records before
-bank-free : (l : List Record) (es : List Entry) (r : Record) (x : Request) → IsBankOf l es → missing_in l x ≡ None → cause_in l r x ≡ None → bank_cause es x ≡ None
+pub bank-free : (l : List Record) (es : List Entry) (r : Record) (x : Request) → IsBankOf l es → missing_in l x ≡ None → cause_in l r x ≡ None → bank_cause es x ≡ None
 bank-free l es r (request.Import gift) bank there none = ap (λ (n : ℕ). when (nat_lt 20000 (n + length gift.items)) (refusal.TooMany 20000)) (count-follows l es bank) ∙ (first-none _ _ none).0
 bank-free l es r (request.Edit e gift) bank there none = cause-follows l es e (request.Edit e gift) bank ∙ rw (there, none) refl
 bank-free l es r (request.Tune e penalty hints) bank there none = cause-follows l es e (request.Tune e penalty hints) bank ∙ rw (there, none) refl

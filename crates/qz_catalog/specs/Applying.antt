@@ -84,6 +84,11 @@ bank_after es (request.Edit entry gift) = banks.changed es entry (request.Edit e
 bank_after es (request.Tune entry penalty hints) = banks.changed es entry (request.Tune entry penalty hints)
 bank_after es x = es
 
+-- what a record does to it, if a request made it
+abbrev pub bank_told : List Entry → Option Request → List Entry
+bank_told es None = es
+bank_told es (Some x) = bank_after es x
+
 -- the bank once a change that was prepared is put, if there is one
 abbrev pub bank_with : List Entry → Option Prepared → List Entry
 bank_with es None = es

@@ -1,6 +1,6 @@
 //! The catalogue and what is asked of it.
 
-ghost use Rattle.std.specs.Prelude.{◌≡◌, ◌⊎◌, ◌≤◌, [], ◌∷◌, true, false, length, map, Some, None, option_map, IfOk, IfErr, OnErr, OnOk};
+ghost use Rattle.std.specs.Prelude.{◌≡◌, ◌⊎◌, ◌≤◌, [], ◌∷◌, ◌++◌, true, false, length, map, Some, None, option_map, IfOk, IfErr, OnErr, OnOk};
 ghost use Rattle.qz_decimal.specs.Numbers.{IsMaxSum, IsQuizGrade};
 ghost use Rattle.qz_grading.specs.declared.refusal.Refusal.TheVariants as refusal;
 ghost use Rattle.qz_grading.specs.Behaviours.{first_some};
@@ -8,22 +8,21 @@ ghost use Rattle.qz_terms.specs.declared.people.User.{User};
 ghost use Rattle.qz_terms.specs.Catalog.{job, plan, policy, user_of_token, users};
 ghost use Rattle.qz_terms.specs.CatalogAnswer.{asks_catalog, catalog_after, catalog_answer, catalog_verdict, is_look_in};
 ghost use Rattle.qz_terms.specs.Cause.{Denied, missing_quiz, missing_user};
-ghost use Rattle.qz_terms.specs.Kept.{IsKeptPlan};
-ghost use Rattle.qz_terms.specs.Legal.{IsLegalCatalog};
+ghost use Rattle.qz_terms.specs.Kept.{IsKept, IsKeptPlan};
+ghost use Rattle.qz_terms.specs.Legal.{IsAllowedInCatalog, IsLegalCatalog};
 ghost use Rattle.qz_catalog.specs.Applying.{Answers, IsAsked, IsDecision, IsFree, IsLooked};
 ghost use Rattle.qz_catalog.specs.declared.decision.Decision.TheVariants as decision;
-ghost use Rattle.qz_catalog.specs.Holdings.{IsBook, founded, lean};
+ghost use Rattle.qz_catalog.specs.Holdings.{founded, keeps_described, lean};
 
+use crate::adopting::{adopt, begin};
 use crate::book::Book;
 use crate::decision::{Decision, decide};
 use crate::jobs::job;
 use crate::people::{names, user, user_of_token};
 use crate::planning::{plan, policy_of};
-use crate::putting::{append, make_book_room, put};
+use crate::putting::put;
 use crate::replies::{look, said};
-use qz_bank::Entries;
 use qz_grading::{Refusal, Thing};
-use qz_roster::Roster;
 use qz_terms::{Ask, Event, Job, Plan, Policy, Record, Reply, Request, User};
 use qz_text::{Listed, NoMemory, Text, TryCopy};
 use std::alloc::Global;
@@ -35,11 +34,11 @@ use std::marker::Model;
 /// what it touches, and not the whole list, but for `names`. A record is put in two moves: what may refuse it is decided and all
 /// that takes memory is made first, and what follows takes none, so that nothing is ever undone.
 #[derive(Drop)]
-pub struct Catalog {
+pub struct CatalogCore {
     book: Book,
 }
 
-impl Model for Catalog {
+impl Model for CatalogCore {
     ghost use Rattle.std.specs.Prelude.{List};
     ghost use Rattle.qz_terms.specs.declared.record.Record.{Record};
     ghost use Rattle.qz_catalog.specs.Holdings.{IsBook};
@@ -68,37 +67,38 @@ fn founding(alloc: Global, shards: u8, token: &Text) -> Result<Record, NoMemory>
     })
 }
 
-/// The book of a school that is founded.
-fn founded(alloc: Global, shards: u8, token: &Text) -> Result<Book, NoMemory>
-    requires some { 1 ≤ shards }
-    requires few { shards ≤ 64 }
-    ensures records { IfOk result (λ book. book.records.items ≡ founded shards token.now) }
-    ensures book { IfOk result IsBook }
-{
-    let record = founding(alloc, shards, token)?;
-    let mut book = Book {
-        records: Vec::new(alloc),
-        entries: Entries::new(alloc),
-        roster: Roster::new(alloc),
-        shown: Vec::new(alloc),
-        pinned: Vec::new(alloc),
-    };
-    make_book_room(alloc, &mut book, &record)?;
-    append(alloc, &mut book, record, None, None);
-    Ok(book)
-}
-
-impl Catalog {
+impl CatalogCore {
     /// The catalogue of a school that is founded with so many shards, from 1 to 64, and its manager's token. The manager is the first
     /// user.
-    pub fn new(alloc: Global, shards: u8, token: &Text) -> Result<Catalog, NoMemory>
+    pub fn new(alloc: Global, shards: u8, token: &Text) -> Result<CatalogCore, NoMemory>
         requires some { 1 ≤ shards }
         requires few { shards ≤ 64 }
         ensures { IfOk result (λ catalog. catalog ≡ founded shards token.now) }
     {
-        Ok(Catalog {
-            book: founded(alloc, shards, token)?,
+        CatalogCore::begin(alloc, founding(alloc, shards, token)?)
+    }
+
+    /// The catalogue of a first record, which is a founding, as it is read of a file.
+    pub fn begin(alloc: Global, record: Record) -> Result<CatalogCore, NoMemory>
+        requires allowed { IsAllowedInCatalog [] «record» }
+        requires kept { IsKept «record» }
+        ensures { IfOk result (λ catalog. catalog ≡ «record» ∷ []) }
+    {
+        Ok(CatalogCore {
+            book: begin(alloc, record)?,
         })
+    }
+
+    /// Puts a record at the end that is allowed behind those that stand, as it is read of a file. Where memory is wanting the list
+    /// is as before.
+    pub fn adopt(&mut self, alloc: Global, record: Record) -> Result<(), NoMemory>
+        requires allowed { IsAllowedInCatalog self.old «record» }
+        requires kept { IsKept «record» }
+        requires described { keeps_described «record» ≡ true }
+        ensures list { OnOk result (self.new ≡ self.old ++ «record» ∷ []) }
+        ensures unchanged { OnErr result (self.new ≡ self.old) }
+    {
+        adopt(alloc, &mut self.book, record)
     }
 
     /// The number of records.
@@ -135,7 +135,7 @@ impl Catalog {
     }
 }
 
-impl Catalog {
+impl CatalogCore {
     /// The users' names, in order of number. `Memory` is the only error.
     pub fn names(&self, alloc: Global) -> Result<Listed<Text>, Refusal>
         ensures names { IfOk result (λ names. names ≡ map (λ (u : User). u.name) (users self.now)) }
@@ -178,7 +178,7 @@ fn is_look(request: &Request) -> bool
     matches!(request, Request::Jobs | Request::Bank { .. })
 }
 
-impl Catalog {
+impl CatalogCore {
     /// Answers a request to the catalogue, at this moment by the clock, in seconds since 1970: the fourteen that put a record, and
     /// the looks at the jobs and at a version of an entry. No description that it brings has a general feedback.
     ///

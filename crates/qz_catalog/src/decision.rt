@@ -34,7 +34,7 @@ pub(crate) fn decide(book: &Book, user: &User, ask: &Ask) -> Decision
     if let Some(refusal) = missing_in(book, &ask.request) {
         return Decision::Refused(refusal);
     }
-    match by_key(book, user.number, ask) {
+    match by_key(book, user.number, &ask.key, &ask.request) {
         Some(Found::Same(at)) => return Decision::Repeated(at),
         Some(Found::Other(place)) => return Decision::Refused(Refusal::KeyReused { place }),
         None => {}

@@ -2,6 +2,7 @@
 #![tactic(auto)]
 
 mod absent;
+mod adopting;
 mod book;
 mod catalog;
 mod causes;
@@ -18,7 +19,7 @@ mod replies;
 mod settings;
 mod sizes;
 
-pub use catalog::Catalog;
+pub use catalog::CatalogCore;
 
 #[cfg(test)]
 mod tests;

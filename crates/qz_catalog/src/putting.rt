@@ -20,7 +20,7 @@ use qz_text::{NoMemory, TryCopy};
 use std::alloc::Global;
 
 /// The moment of a request: the clock's, but not before that of the last record.
-fn moment_of(records: &[Record], now: u64) -> u64
+pub(crate) fn moment_of(records: &[Record], now: u64) -> u64
     ensures { result ≡ moment_in records.now now }
 {
     match records.last() {
@@ -52,7 +52,11 @@ fn record_of(
 }
 
 /// Prepares what a request changes of the bank, if it does.
-fn prepare(alloc: Global, entries: &Entries, request: &Request) -> Result<Option<Prepared>, Refusal>
+pub(crate) fn prepare(
+    alloc: Global,
+    entries: &Entries,
+    request: &Request,
+) -> Result<Option<Prepared>, Refusal>
     ensures ready { IfOk result (MayPut entries.now) }
     ensures prepared { IfOk result (λ p. bank_with entries.now p ≡ bank_after entries.now request.now) }
     ensures free { OnOk result (bank_cause entries.now request.now ≡ None) }

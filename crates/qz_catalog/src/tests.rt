@@ -33,7 +33,7 @@ fn knows_its_manager(rt: HostRuntime) -> Result<(), Fail> {
     let alloc = rt.alloc();
     let root = Text::of(alloc, "root")?;
     let other = Text::of(alloc, "other")?;
-    let catalog = Catalog::new(alloc, 2, &root)?;
+    let catalog = CatalogCore::new(alloc, 2, &root)?;
     assert!(rt; catalog.len() == 1);
     assert!(rt; is_admin(catalog.user(alloc, &root)));
     assert!(rt; refused_user(catalog.user(alloc, &other)) == Some(Refusal::UnknownToken));
@@ -43,7 +43,12 @@ fn knows_its_manager(rt: HostRuntime) -> Result<(), Fail> {
 }
 
 /// Whether the manager is answered at the moment 1000, under this key.
-fn does(alloc: Global, catalog: &mut Catalog, key: &str, request: Request) -> Result<bool, Refusal>
+fn does(
+    alloc: Global,
+    catalog: &mut CatalogCore,
+    key: &str,
+    request: Request,
+) -> Result<bool, Refusal>
     requires here { asks_catalog request ≡ true }
     requires keyed { is_keyless request ≡ false }
     requires kept { KeepsAsked request }
@@ -73,9 +78,9 @@ fn is_pinned(job: Result<Job, Refusal>, position: u64, closes: u64) -> bool {
 }
 
 /// A quiz that is to close at the moment 500 from behind its first job on, and before the second.
-fn changed_quiz(alloc: Global) -> Result<Option<Catalog>, Refusal> {
+fn changed_quiz(alloc: Global) -> Result<Option<CatalogCore>, Refusal> {
     let root = Text::of(alloc, "root")?;
-    let mut catalog = Catalog::new(alloc, 2, &root)?;
+    let mut catalog = CatalogCore::new(alloc, 2, &root)?;
     let name = Text::of(alloc, "Quiz")?;
     let behaviour = Behaviour::Deferred;
     let quiz = Request::Quiz { name, behaviour };

@@ -1,28 +1,31 @@
 -- Users and keys with one record more.
-use Rattle.std.proofs.Common.{◌≡◌, ℕ, ◌+◌, ◌<◌, Bool, true, false, List, [], ◌∷◌, ◌++◌, Option, Some, None, option_map, length, get_or, inl, inr, ◌-◌, ◌≤◌, String, Global, BTreeMap, string_bytes, refl, sym, ap, ◌∙◌, arith}
+use Rattle.std.proofs.Common.{◌≡◌, ℕ, map, ◌+◌, ◌<◌, Bool, true, false, List, [], ◌∷◌, ◌++◌, Option, Some, None, option_map, length, get_or, inl, inr, ◌-◌, ◌≤◌, String, Global, BTreeMap, string_bytes, refl, sym, ap, ◌∙◌, arith}
 use Rattle.std.specs.Int.{from_bool}
+use Rattle.std.specs.List.{enumerate_from}
 use Rattle.std.specs.Option.{option_or}
 use Rattle.std.specs.BTreeMap.{is_at}
 use Rattle.std.specs.Cmp.Lexicographic.{slice_cmp}
 use Rattle.std.specs.Map.{lookup}
 use Rattle.std.specs.Ordering.{nat_cmp}
-use Rattle.std.specs.Prelude.{◌==◌, ◌&&◌, bytes_eq, filter_map, if◌then◌else◌, is_some, option_and_then, position, slice_get}
+use Rattle.std.specs.Prelude.{◌==◌, ◌&&◌, bytes_eq, filter_map, if◌then◌else◌, is_some, option_and_then, option_to_list, position, slice_get}
 use Rattle.std.proofs.Math.ListN.{set}
 use Rattle.std.proofs.lemmas.List.Quantifiers.{position-Some}
 use Rattle.std.proofs.lemmas.Option.{get_or_from_slice_get, slice_get_cases}
 use Rattle.qz_grading.specs.Grading.{at_place}
 use Rattle.qz_grading.proofs.StepLemmas.{slice_get-push}
+use Rattle.qz_terms.specs.declared.people.Role.{Role}
 use Rattle.qz_terms.specs.declared.people.User.{User}
 use Rattle.qz_terms.specs.declared.record.Record.{Record}
-use Rattle.qz_terms.specs.Catalog.{Person, has_token, is_made_with, made_user, user_of_token, user_with}
-use Rattle.qz_terms.specs.Cause.{has_key, has_key_by}
+use Rattle.qz_terms.specs.Catalog.{Person, has_token, is_made_with, made_user, user_of_token, user_with, users}
+use Rattle.qz_terms.specs.Cause.{has_key_by}
 use Rattle.qz_terms.specs.Lists.{only_if}
 use Rattle.qz_terms.proofs.Walks.{all_of-push}
 use Rattle.qz_roster.specs.declared.people.Owner.{Owner}
 use Rattle.qz_roster.specs.declared.people.People.{People}
-use Rattle.qz_roster.specs.People.{ArePeopleOf, key_at, key_told, owner_of, owner_told, user_at}
+use Rattle.qz_roster.specs.People.{ArePeopleOf, asked_key, is_asked_with, key_at, key_told, owner_of, owner_told, role_of, role_told, user_at}
 use Rattle.qz_roster.specs.Texts.{value_at}
 use Rattle.qz_roster.proofs.Reading.{get-kept, position-push, set-told, user_of_token-push}
+use Rattle.qz_roster.proofs.QuizLemmas.{at-map}
 use Rattle.qz_roster.proofs.Telling.{at-more, count-more}
 
 abbrev makes_with : List ℕ → Record → Bool
@@ -77,11 +80,11 @@ told-by : (caller n at : ℕ) (key k : List ℕ) (o : Option (List ℕ)) (b : Bo
 told-by caller n at key k o true is key_is = ap (λ (p : Option (List ℕ)). if has_key_by k p then Some at else None) (sym key_is)
 told-by caller n at key k o false is key_is = refl
 
-pub told-key : (r : Record) (n at : ℕ) (key k : List ℕ) → r.key ≡ Some key → (if r.caller == n then (if bytes_eq key k then Some at else None) else None) ≡ key_told r at n k
-told-key r n at key k is = told-by r.caller n at key k r.key (r.caller == n) refl is
+pub told-key : (r : Record) (n at : ℕ) (key k : List ℕ) → asked_key r ≡ Some key → (if r.caller == n then (if bytes_eq key k then Some at else None) else None) ≡ key_told r at n k
+told-key r n at key k is = told-by r.caller n at key k (asked_key r) (r.caller == n) refl is
 
 -- a record with this key tells of it
-pub key-set : (ms : List (BTreeMap (String Global) (Option ℕ))) (r : Record) (n at : ℕ) (key k : List ℕ) (old new : BTreeMap (String Global) (Option ℕ)) → r.key ≡ Some key → 1 ≤ r.caller → r.caller ≤ length ms → old ≡ get_or ms (r.caller - 1) old
+pub key-set : (ms : List (BTreeMap (String Global) (Option ℕ))) (r : Record) (n at : ℕ) (key k : List ℕ) (old new : BTreeMap (String Global) (Option ℕ)) → asked_key r ≡ Some key → 1 ≤ r.caller → r.caller ≤ length ms → old ≡ get_or ms (r.caller - 1) old
     → value_at new k ≡ option_or (value_at old k) (if bytes_eq key k then Some at else None)
     → option_and_then (λ (m : BTreeMap (String Global) (Option ℕ)). value_at m k) (at_place (set ms (r.caller - 1) new) n) ≡ option_or (option_and_then (λ (m : BTreeMap (String Global) (Option ℕ)). value_at m k) (at_place ms n)) (key_told r at n k)
 key-set ms r n at key k old new is from inside old_is told =
@@ -103,6 +106,22 @@ key-empty ms m n k none = ap (option_and_then (λ (x : BTreeMap (String Global) 
     by None true = empty
     by None false = refl
 
+-- ---- roles
+
+role-step : (r : Record) (c : List Record) (k : ℕ) (o : Option Person) → made_user r ≡ o
+    → ((k : ℕ) → map (λ (u : User). u.role) (map (λ (m : ℕ × Person). user_with m.0 m.1) (enumerate_from k (filter_map made_user c))) ≡ filter_map role_told c)
+    → map (λ (u : User). u.role) (map (λ (m : ℕ × Person). user_with m.0 m.1) (enumerate_from k (filter_map made_user (r ∷ c)))) ≡ filter_map role_told (r ∷ c)
+role-step r c k None is rest = rw is (rest k)
+role-step r c k (Some p) is rest = rw is (ap (λ (rs : List Role). p.role ∷ rs) (rest (k + 1)))
+
+roles-numbered : (c : List Record) (k : ℕ) → map (λ (u : User). u.role) (map (λ (m : ℕ × Person). user_with m.0 m.1) (enumerate_from k (filter_map made_user c))) ≡ filter_map role_told c
+roles-numbered [] k = refl
+roles-numbered (r ∷ c) k = role-step r c k (made_user r) refl (roles-numbered c)
+
+-- the role of a user, by number
+pub role-at : (c : List Record) (p : People) (n : ℕ) → ArePeopleOf c p → role_of p n ≡ option_map (λ (u : User). u.role) (at_place (users c) n)
+role-at c p n are = ap (λ (rs : List Role). at_place rs n) (are.roles ∙ sym (roles-numbered c 1)) ∙ at-map (λ (u : User). u.role) (users c) n
+
 -- ---- all of it
 
 -- what is told by place, of one record more
@@ -114,10 +133,12 @@ place-either n at (Some o) b = refl
 pub people-kept : (c : List Record) (r : Record) (old new : People) → ArePeopleOf c old → length new.keys.items ≡ length old.keys.items + from_bool (is_some (made_user r))
     → ((n : ℕ) (k : List ℕ) → key_at new n k ≡ option_or (key_at old n k) (key_told r (length c) n k))
     → ((t : List ℕ) → owner_of new t ≡ option_or (owner_of old t) (owner_told r (1 + length old.keys.items) (length c) t))
+    → new.roles.items ≡ old.roles.items ++ option_to_list (role_told r)
     → ArePeopleOf (c ++ r ∷ []) new
-people-kept c r old new are count keys tokens = record {
+people-kept c r old new are count keys tokens roles = record {
+  roles = roles ∙ ap (λ (rs : List Role). rs ++ option_to_list (role_told r)) are.roles ∙ sym (all_of-push role_told c r);
   count = count ∙ ap (λ n. n + from_bool (is_some (made_user r))) are.count ∙ sym (count-more (filter_map made_user c) (made_user r)) ∙ ap (λ (ps : List Person). length ps) (sym (all_of-push made_user c r));
-  keys = λ n k. keys n k ∙ ap (λ (o : Option ℕ). option_or o (key_told r (length c) n k)) (are.keys n k) ∙ sym (position-push (has_key n k) c r);
+  keys = λ n k. keys n k ∙ ap (λ (o : Option ℕ). option_or o (key_told r (length c) n k)) (are.keys n k) ∙ sym (position-push (is_asked_with n k) c r);
   places = λ t. ap (option_map (λ (o : Owner). o.at)) (tokens t) ∙ place-either (1 + length old.keys.items) (length c) (owner_of old t) (is_made_with t (made_user r))
       ∙ ap (λ (o : Option ℕ). option_or o (if is_made_with t (made_user r) then Some (length c) else None)) (are.places t) ∙ sym (position-push (makes_with t) c r);
   owners = λ t.

@@ -19,7 +19,7 @@ pub record IsRosterOf (c : List Record) (o : Roster) : Type 0 where
   pub members : AreMembers c o.members
   pub overrides : AreOverrides c o.overrides
 
--- A record may stand behind these: it names what is there, and where it has a key its caller is a user.
+-- A record may stand behind these: it names what is there, and where a request with a key made it its caller is a user.
 pub record IsNext (c : List Record) (r : Record) : Type 0 where
   pub there : (x : Request) → asked r ≡ Some x → missing_in c x ≡ None
   pub called : is_called (length (users c)) r ≡ true

@@ -1,17 +1,16 @@
 //! Users by token, and the keys of their requests.
 
-ghost use Rattle.std.specs.Prelude.{◌≡◌, ℕ, ◌+◌, ◌-◌, ◌<◌, ◌≤◌, ◌^◌, List, [], ◌∷◌, ◌++◌, length, option_map, is_some, position, true, Some, None, OnOk, vec_len, vec_capacity};
+ghost use Rattle.std.specs.Prelude.{◌≡◌, ℕ, ◌+◌, ◌-◌, ◌<◌, ◌≤◌, ◌^◌, List, [], ◌∷◌, ◌++◌, length, option_map, option_to_list, is_some, position, true, Some, None, OnOk, vec_len, vec_capacity};
 ghost use Rattle.std.specs.Int.{from_bool};
 ghost use Rattle.std.specs.Option.{option_or};
 ghost use Rattle.qz_terms.specs.declared.record.Record.{Record};
 ghost use Rattle.qz_terms.specs.Catalog.{Person, made_user, users};
-ghost use Rattle.qz_terms.specs.Cause.{has_key};
 ghost use Rattle.qz_terms.specs.Legal.{IsAllowedInCatalog};
 
 use crate::texts;
 use crate::texts::Texts;
-use crate::told::made_token;
-use qz_terms::Record;
+use crate::told::{asked_key, made_role, made_token};
+use qz_terms::{Record, Role};
 use qz_text::{NoMemory, Text};
 use std::alloc::Global;
 use std::collections::BTreeMap;
@@ -23,16 +22,17 @@ pub struct Owner {
     pub at: usize,
 }
 
-/// Whose token it is, by token, and for each user, in order of number, the places, from 0, of the keys of the user's requests.
-/// Of two records the first counts.
+/// Whose token it is, by token, and for each user, in order of number, the role and the places, from 0, of the keys of the user's
+/// requests. Of two records the first counts.
 #[derive(Drop)]
 pub struct People {
     tokens: Texts<Owner>,
     keys: Vec<Texts<usize>>,
+    roles: Vec<Role>,
 }
 
 impl People {
-    ghost use Rattle.qz_roster.specs.People.{ArePeopleOf, HasKeyRoom, HasPeopleRoom, HasUserRoom, is_called, key_at, key_told, owner_of, owner_told};
+    ghost use Rattle.qz_roster.specs.People.{ArePeopleOf, HasKeyRoom, HasPeopleRoom, HasUserRoom, asked_key, is_asked_with, is_called, key_at, key_told, owner_of, owner_told, role_of, role_told};
 
     /// No users. It takes no memory.
     pub(crate) fn new(alloc: Global) -> People
@@ -41,6 +41,7 @@ impl People {
         People {
             tokens: BTreeMap::new(alloc),
             keys: Vec::new(alloc),
+            roles: Vec::new(alloc),
         }
     }
 
@@ -59,9 +60,16 @@ impl People {
         texts::value_at(&self.tokens, token)
     }
 
-    /// The place, from 0, of the first record with this caller and key.
+    /// The role of a user, if the user is there.
+    pub fn role(&self, number: u32) -> Option<Role>
+        ensures { result ≡ role_of self.now number }
+    {
+        self.roles.get((number as usize).checked_sub(1)?).copied()
+    }
+
+    /// The place, from 0, of the first record that a request with this caller and key made.
     pub fn place_of(&self, caller: u32, key: &Text) -> Option<usize>
-        ensures { (c : List Record) → ArePeopleOf c self.now → result ≡ position (has_key caller key.now) c }
+        ensures { (c : List Record) → ArePeopleOf c self.now → result ≡ position (is_asked_with caller key.now) c }
     {
         let before = (caller as usize).checked_sub(1)?;
         texts::value_at(self.keys.get(before)?, key)
@@ -73,6 +81,7 @@ impl People {
         ensures room { OnOk result (HasPeopleRoom self.new «record».now) }
         ensures unchanged { (c : List Record) → ArePeopleOf c self.old → ArePeopleOf c self.new }
     {
+        self.roles.reserve(1)?;
         self.make_user_room(alloc, record)?;
         self.make_key_room(alloc, record)
     }
@@ -80,6 +89,7 @@ impl People {
     fn make_user_room(&mut self, alloc: Global, record: &Record) -> Result<(), NoMemory>
         ensures room { OnOk result ((t : List ℕ) → option_map (λ (u : Person). u.token) (made_user «record».now) ≡ Some t → HasUserRoom self.new t) }
         ensures keys { self.new.keys.items ≡ self.old.keys.items }
+        ensures roles { self.new.roles ≡ self.old.roles }
         ensures tokens { (t : List ℕ) → owner_of self.new t ≡ owner_of self.old t }
     {
         let Some(token) = made_token(record) else {
@@ -91,13 +101,14 @@ impl People {
 
     fn make_key_room(&mut self, alloc: Global, record: &Record) -> Result<(), NoMemory>
         requires { is_called (length self.old.keys.items) «record».now ≡ true }
-        ensures room { OnOk result ((k : List ℕ) → «record».now.key ≡ Some k → HasKeyRoom self.new «record».now.caller k) }
+        ensures room { OnOk result ((k : List ℕ) → asked_key «record».now ≡ Some k → HasKeyRoom self.new «record».now.caller k) }
         ensures count { length self.new.keys.items ≡ length self.old.keys.items }
         ensures capacity { vec_capacity self.new.keys ≡ vec_capacity self.old.keys }
         ensures keys { (caller : ℕ) (k : List ℕ) → key_at self.new caller k ≡ key_at self.old caller k }
+        ensures roles { self.new.roles ≡ self.old.roles }
         ensures tokens { self.new.tokens ≡ self.old.tokens }
     {
-        match &record.key {
+        match asked_key(record) {
             Some(key) => {
                 texts::make_room(alloc, &mut self.keys[record.caller as usize - 1], key)
             }
@@ -114,16 +125,29 @@ impl People {
     {
         self.keep_key(record, records.len());
         self.keep_user(alloc, record, records.len());
+        self.keep_role(record);
+    }
+
+    fn keep_role(&mut self, record: &Record)
+        requires { vec_len self.old.roles < vec_capacity self.old.roles }
+        ensures roles { self.new.roles.items ≡ self.old.roles.items ++ option_to_list (role_told «record».now) }
+        ensures keys { self.new.keys.items ≡ self.old.keys.items }
+        ensures tokens { self.new.tokens ≡ self.old.tokens }
+    {
+        if let Some(role) = made_role(record) {
+            self.roles.push(role).unwrap();
+        }
     }
 
     fn keep_key(&mut self, record: &Record, place: usize)
-        requires { (k : List ℕ) → «record».now.key ≡ Some k → HasKeyRoom self.old «record».now.caller k }
+        requires { (k : List ℕ) → asked_key «record».now ≡ Some k → HasKeyRoom self.old «record».now.caller k }
         ensures keys { (n : ℕ) (k : List ℕ) → key_at self.new n k ≡ option_or (key_at self.old n k) (key_told «record».now place n k) }
         ensures count { length self.new.keys.items ≡ length self.old.keys.items }
         ensures capacity { vec_capacity self.new.keys ≡ vec_capacity self.old.keys }
+        ensures roles { self.new.roles ≡ self.old.roles }
         ensures tokens { self.new.tokens ≡ self.old.tokens }
     {
-        if let Some(key) = &record.key {
+        if let Some(key) = asked_key(record) {
             texts::give(&mut self.keys[record.caller as usize - 1], key, place);
         }
     }
@@ -132,6 +156,7 @@ impl People {
         requires few { length self.old.keys.items < 2 ^ 32 - 1 }
         requires room { (t : List ℕ) → option_map (λ (u : Person). u.token) (made_user «record».now) ≡ Some t → HasUserRoom self.old t }
         ensures keys { (n : ℕ) (k : List ℕ) → key_at self.new n k ≡ key_at self.old n k }
+        ensures roles { self.new.roles ≡ self.old.roles }
         ensures count { length self.new.keys.items ≡ length self.old.keys.items + from_bool (is_some (made_user «record».now)) }
         ensures tokens { (t : List ℕ) → owner_of self.new t ≡ option_or (owner_of self.old t) (owner_told «record».now (1 + length self.old.keys.items) place t) }
     {

@@ -4,12 +4,13 @@ ghost use Rattle.std.specs.Prelude.{◌≡◌, ◌<◌, ◌^◌, is_some, length
 ghost use Rattle.qz_terms.specs.Catalog.{Person, asked, group_by, imports_by, made_user, policy_by, quiz_by, readies, regrade_by, slot_by, times_by};
 ghost use Rattle.qz_roster.specs.Members.{joined};
 ghost use Rattle.qz_roster.specs.Overrides.{set_otherwise};
+ghost use Rattle.qz_roster.specs.People.{asked_key, role_told};
 ghost use Rattle.qz_roster.specs.Quizzes.{quiz_told};
 ghost use Rattle.qz_roster.specs.Told.{named_in};
 
 use qz_decimal::{Grade, Mark};
 use qz_grading::Behaviour;
-use qz_terms::{Event, Method, Override, Record, Request, Settings, Whom};
+use qz_terms::{Event, Method, Override, Record, Request, Role, Settings, Whom};
 use qz_text::Text;
 
 /// The token of the user that a record makes.
@@ -21,6 +22,29 @@ pub(crate) fn made_token(record: &Record) -> Option<&Text>
         | Event::Asked {
             request: Request::User { token, .. },
         } => Some(token),
+        _ => None,
+    }
+}
+
+/// The role of the user that a record makes.
+pub(crate) fn made_role(record: &Record) -> Option<Role>
+    ensures { result ≡ role_told «record».now }
+{
+    match &record.event {
+        Event::Founded { .. } => Some(Role::Manager),
+        Event::Asked {
+            request: Request::User { role, .. },
+        } => Some(*role),
+        _ => None,
+    }
+}
+
+/// The key under which a request made a record, if it has one. A founding may have any key, and no request repeats it.
+pub(crate) fn asked_key(record: &Record) -> Option<&Text>
+    ensures { option_copied result ≡ asked_key «record».now }
+{
+    match &record.event {
+        Event::Asked { .. } => record.key.as_ref(),
         _ => None,
     }
 }

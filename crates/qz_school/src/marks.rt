@@ -13,7 +13,7 @@ ghost use Rattle.qz_terms.specs.Kept.{IsKeptPlan};
 ghost use Rattle.qz_terms.specs.Parts.{part};
 ghost use Rattle.qz_school.specs.Marks.{marks_of, shown_by, shown_mark};
 
-use qz_catalog::Catalog;
+use qz_catalog::CatalogCore;
 use qz_decimal::Mark;
 use qz_grading::{AttemptId, Refusal, Steps};
 use qz_shard::ShardCore;
@@ -90,7 +90,7 @@ fn shown_onto(marks: &mut Listed<Mark>, parts: &[Part]) -> Result<(), NoMemory>
 }
 
 /// The plan of a quiz that is there, for a user who is there, without its questions.
-fn plan_of(catalog: &Catalog, alloc: Global, quiz: u32, user: u32) -> Result<Plan, NoMemory>
+fn plan_of(catalog: &CatalogCore, alloc: Global, quiz: u32, user: u32) -> Result<Plan, NoMemory>
     requires { first_some (missing_quiz catalog.now quiz ∷ missing_user catalog.now user ∷ []) ≡ None }
     ensures plan { IfOk result (λ p. option_map (lean false) (plan catalog.now quiz user) ≡ Some p) }
     ensures kept { IfOk result IsKeptPlan }
@@ -104,7 +104,7 @@ fn plan_of(catalog: &Catalog, alloc: Global, quiz: u32, user: u32) -> Result<Pla
 
 /// Adds the marks of an attempt's slots to others, in order. An attempt that isn't there has none.
 pub(crate) fn marks_onto(
-    catalog: &Catalog,
+    catalog: &CatalogCore,
     shard: &mut ShardCore,
     alloc: Global,
     attempt: AttemptId,

@@ -8,7 +8,7 @@ ghost use Rattle.qz_terms.specs.SchoolAnswer.{report_answer};
 ghost use Rattle.qz_school.specs.Reports.{all_rows, named_row, rows_in, rows_in_order};
 ghost use Rattle.qz_school.specs.Solo.{IsSolo, records_of};
 
-use qz_catalog::Catalog;
+use qz_catalog::CatalogCore;
 use qz_decimal::Grade;
 use qz_grading::{Refusal, Steps};
 use qz_shard::ShardCore;
@@ -125,7 +125,7 @@ fn named(
 
 /// The reply to a request for the grades of a quiz. A quiz that isn't there is `Unknown`.
 pub(crate) fn report(
-    catalog: &Catalog,
+    catalog: &CatalogCore,
     shards: &mut Vec<ShardCore>,
     alloc: Global,
     quiz: u32,

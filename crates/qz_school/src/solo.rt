@@ -20,7 +20,7 @@ use crate::asker::user_of;
 use crate::marks::marks_onto;
 use crate::report::report;
 use crate::telling::{told, work};
-use qz_catalog::Catalog;
+use qz_catalog::CatalogCore;
 use qz_decimal::Mark;
 use qz_grading::{AttemptId, Refusal, Thing};
 use qz_shard::ShardCore;
@@ -33,7 +33,7 @@ use std::marker::Model;
 /// user's number modulo the number of shards.
 #[derive(Drop)]
 pub struct Solo {
-    catalog: Catalog,
+    catalog: CatalogCore,
     shards: Vec<ShardCore>,
 }
 
@@ -62,20 +62,20 @@ fn fresh(alloc: Global, count: u8) -> Result<Vec<ShardCore>, NoMemory>
 }
 
 /// The catalogue of a school that is just founded.
-fn founded(alloc: Global, shards: u8, token: &str) -> Result<Catalog, NoMemory>
+fn founded(alloc: Global, shards: u8, token: &str) -> Result<CatalogCore, NoMemory>
     requires some { 1 ≤ shards }
     requires few { shards ≤ 64 }
     ensures founded { IfOk result (λ catalog. catalog ≡ holdings.founded shards token.now) }
     ensures legal { IfOk result IsLegalCatalog }
 {
-    let catalog = Catalog::new(alloc, shards, &Text::of(alloc, token)?)?;
+    let catalog = CatalogCore::new(alloc, shards, &Text::of(alloc, token)?)?;
     // Whatever a catalogue holds is legal.
     let _length = catalog.len();
     Ok(catalog)
 }
 
 /// The catalogue's reply to a request that goes to it.
-fn recorded(catalog: &mut Catalog, alloc: Global, user: &User, ask: &Ask, moment: u64) -> Reply
+fn recorded(catalog: &mut CatalogCore, alloc: Global, user: &User, ask: &Ask, moment: u64) -> Reply
     requires { records.IsAsked catalog.old user.now ask.now moment }
     ensures answer { records.Answers catalog.old moment user.now ask.now result catalog.new }
     ensures legal { IsLegalCatalog catalog.new }

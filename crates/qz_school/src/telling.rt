@@ -10,7 +10,7 @@ ghost use Rattle.qz_terms.specs.declared.reply.Reply.TheVariants as reply;
 ghost use Rattle.qz_school.specs.Asked.{MayBeAsked};
 ghost use Rattle.qz_school.specs.Solo.{IsKeptUnder, IsPlanned, IsSameShard, IsUnplanned, Tells, asks_shard};
 
-use qz_catalog::Catalog;
+use qz_catalog::CatalogCore;
 use qz_grading::{Refusal, Steps};
 use qz_shard::{Older, ShardCore};
 use qz_terms::{Ask, Job, Plan, Reply, Request, User, attempt_named};
@@ -60,7 +60,7 @@ fn answered<L: Ledger>(
 
 /// The plan of a request to the shard of the user whom it names, without its questions but for a start, or why there is none.
 fn plan_for(
-    catalog: &Catalog,
+    catalog: &CatalogCore,
     shard: &mut ShardCore,
     alloc: Global,
     user: &User,
@@ -88,7 +88,7 @@ fn plan_for(
 
 /// The reply of a shard to a request that it answers under a plan, where the rules of callers allow it.
 pub(crate) fn told(
-    catalog: &Catalog,
+    catalog: &CatalogCore,
     shard: &mut ShardCore,
     alloc: Global,
     user: &User,
@@ -136,7 +136,13 @@ fn worked<L: Ledger>(
 }
 
 /// The reply of a shard to a step of a job that the catalogue has.
-pub(crate) fn work(shard: &mut ShardCore, alloc: Global, caller: u32, job: &Job, moment: u64) -> Reply
+pub(crate) fn work(
+    shard: &mut ShardCore,
+    alloc: Global,
+    caller: u32,
+    job: &Job,
+    moment: u64,
+) -> Reply
     requires { IsWorkable shard.old.records job.now moment }
     ensures answer { Works shard.old.records moment caller job.now result shard.new.records }
     ensures legal { IsLegal shard.new.index shard.new.count shard.new.records }

@@ -12,4 +12,5 @@ returns-clause-room c = on_ok_weaker c.make_key_room.result (λ told. record {
         room = ap (λ m. has_room m t) c.make_key_room.ensures.tokens ∙ room.room;
       };
   key = told;
+  role = rw (c.make_key_room.ensures.roles, c.make_user_room.ensures.roles) (let room = c.in_ok-reserve.ensures in omega arith);
 }) c.make_key_room.ensures.room
