@@ -1,5 +1,5 @@
 -- Files that were opened as journals.
-use Rattle.std.proofs.Common.{◌≡◌, ℕ, ◌≤◌, List, Option, IfSome, arith}
+use Rattle.std.proofs.Common.{ℕ, List, Option, IfSome, arith}
 use Rattle.qz_disks.specs.Disks.{LeavesOnly}
 use Rattle.qz_disks.specs.Shelves.{File, SameFile, disk_file}
 use Rattle.qz_journal.specs.Journals.{StandsAs}

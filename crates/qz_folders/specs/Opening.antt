@@ -1,5 +1,5 @@
 -- How a file is opened as a journal, and what becomes of one that can't be.
-use Rattle.std.specs.Prelude.{◌≡◌, ℕ, ◌≤◌, List, Option, None, option_map, IfSome, Result, Ok, Err, IsErrOf, ⊤}
+use Rattle.std.specs.Prelude.{◌≡◌, ℕ, ◌≤◌, List, None, option_map, IfSome, Result, Ok, Err, IsErrOf, ⊤}
 use Rattle.qz_outside.specs.Causes.{HasRisen}
 use Rattle.qz_disks.specs.Shelves.{File}
 use Rattle.qz_journal.specs.Frames.{stands_for}
