@@ -1,0 +1,4 @@
+pub mod Naming
+pub mod Files
+pub mod Opened
+pub mod Founded
