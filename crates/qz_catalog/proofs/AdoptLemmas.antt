@@ -22,7 +22,7 @@ use Rattle.qz_roster.specs.People.{is_called}
 use Rattle.qz_roster.specs.Roster.{HasRoom, IsNext, IsRosterOf}
 use Rattle.qz_catalog.specs.declared.book.Book.{Book}
 use Rattle.qz_catalog.specs.Applying.{IsReady, bank_cause, bank_told}
-use Rattle.qz_catalog.specs.Holdings.{ArePinned, AreShown, IsHeld, IsPin, founded, keeps_described}
+use Rattle.qz_catalog.specs.Holdings.{ArePinned, AreShown, IsBook, IsHeld, IsPin, founded, keeps_described}
 use Rattle.qz_catalog.proofs.Accepted.{accepted, asked-event}
 use Rattle.qz_catalog.proofs.Answering.{longer}
 use Rattle.qz_catalog.proofs.Deciding.{bank-after}
@@ -63,6 +63,17 @@ held-more c es r held allowed kept described few = record {
   some = let long = longer c r in omega arith;
   few = let long = longer c r in omega arith;
   bank = bank-more c es r (asked r) refl held.bank (allowed-free c es r held allowed);
+}
+
+-- room that was made changes no reading
+pub room-book : (old new : Book) → IsBook old → IsRosterOf new.records.items new.roster → new.records.items ≡ old.records.items → new.shown.items ≡ old.shown.items → new.pinned.items ≡ old.pinned.items → new.entries ≡ old.entries → IsBook new
+room-book old new book roster records shown pinned entries = record {
+  indexed = record {
+    held = subst (λ (l : List Record). IsHeld l new.entries) (sym records) (subst (IsHeld old.records.items) (sym entries) book.indexed.held);
+    roster = roster;
+  };
+  shown = subst (λ (l : List Record). AreShown l new.shown.items) (sym records) (subst (AreShown old.records.items) (sym shown) book.shown);
+  pinned = subst (λ (l : List Record). ArePinned l new.pinned.items) (sym records) (subst (ArePinned old.records.items) (sym pinned) book.pinned);
 }
 
 -- ---- the first

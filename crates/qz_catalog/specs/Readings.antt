@@ -1,7 +1,8 @@
 -- What the parts of a catalogue's list are read as.
-use Rattle.std.specs.Prelude.{ℕ, ℤ, List, Option, None, if◌then◌else◌, filter_map, option_map, unwrap_or}
+use Rattle.std.specs.Prelude.{ℕ, ℤ, List, Option, None, Some, if◌then◌else◌, filter_map, option_and_then, option_map, unwrap_or}
 use Rattle.qz_grading.specs.Steps.{last_of}
 use Rattle.qz_terms.specs.declared.access.Override.{Override}
+use Rattle.qz_terms.specs.declared.access.Settings.{Settings}
 use Rattle.qz_terms.specs.declared.grades.Method.{Method}
 use Rattle.qz_terms.specs.declared.people.User.{User}
 use Rattle.qz_terms.specs.declared.plan.Plan.{Plan}
@@ -40,3 +41,10 @@ planned_by c s = record { entry = s.entry; version = catalog.latest c s.entry; m
 -- a plan with the questions of its slots, as all the records give them
 abbrev pub with_questions : List Record → Plan → Plan
 with_questions c p = record p { questions = catalog.questions c p.slots }
+
+abbrev pub settings_if_ready : Plan → Option Settings
+settings_if_ready p = if p.ready then Some p.settings else None
+
+-- the settings of a user at a quiz that is there and ready
+abbrev pub ready_settings : List Record → ℕ → ℕ → Option Settings
+ready_settings c q u = option_and_then settings_if_ready (catalog.plan c q u)

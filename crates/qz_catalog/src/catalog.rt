@@ -1,11 +1,12 @@
 //! The catalogue and what is asked of it.
 
-ghost use Rattle.std.specs.Prelude.{◌≡◌, ◌⊎◌, ◌≤◌, [], ◌∷◌, ◌++◌, true, false, length, map, Some, None, option_map, IfOk, IfErr, OnErr, OnOk};
+ghost use Rattle.std.specs.List.{list_all};
+ghost use Rattle.std.specs.Prelude.{◌≡◌, ◌⊎◌, ◌≤◌, [], ◌∷◌, ◌++◌, true, false, length, map, Some, None, option_copied, option_map, All, IfOk, IfErr, OnErr, OnOk};
 ghost use Rattle.qz_decimal.specs.Numbers.{IsMaxSum, IsQuizGrade};
 ghost use Rattle.qz_grading.specs.declared.refusal.Refusal.TheVariants as refusal;
 ghost use Rattle.qz_grading.specs.Behaviours.{first_some};
 ghost use Rattle.qz_terms.specs.declared.people.User.{User};
-ghost use Rattle.qz_terms.specs.Catalog.{job, plan, policy, user_of_token, users};
+ghost use Rattle.qz_terms.specs.Catalog.{job, plan, policy, user_of_token, users, version};
 ghost use Rattle.qz_terms.specs.CatalogAnswer.{asks_catalog, catalog_after, catalog_answer, catalog_verdict, is_look_in};
 ghost use Rattle.qz_terms.specs.Cause.{Denied, missing_quiz, missing_user};
 ghost use Rattle.qz_terms.specs.Kept.{IsKept, IsKeptPlan};
@@ -13,17 +14,18 @@ ghost use Rattle.qz_terms.specs.Legal.{IsAllowedInCatalog, IsLegalCatalog};
 ghost use Rattle.qz_catalog.specs.Applying.{Answers, IsAsked, IsDecision, IsFree, IsLooked};
 ghost use Rattle.qz_catalog.specs.declared.decision.Decision.TheVariants as decision;
 ghost use Rattle.qz_catalog.specs.Holdings.{founded, keeps_described, lean};
+ghost use Rattle.qz_catalog.specs.Readings.{ready_settings};
 
 use crate::adopting::{adopt, begin};
 use crate::book::Book;
 use crate::decision::{Decision, decide};
 use crate::jobs::job;
 use crate::people::{names, user, user_of_token};
-use crate::planning::{plan, policy_of};
+use crate::planning::{plan, policy_of, ready_settings, version};
 use crate::putting::put;
 use crate::replies::{look, said};
-use qz_grading::{Refusal, Thing};
-use qz_terms::{Ask, Event, Job, Plan, Policy, Record, Reply, Request, User};
+use qz_grading::{Question, Refusal, Thing};
+use qz_terms::{Ask, Event, Job, Plan, Policy, Record, Reply, Request, Settings, User};
 use qz_text::{Listed, NoMemory, Text, TryCopy};
 use std::alloc::Global;
 use std::marker::Model;
@@ -168,6 +170,38 @@ impl CatalogCore {
         ensures refused { IfErr result (λ r. (r ≡ Refusal.Memory) ⊎ ((r ≡ Refusal.Unknown Thing.Job) × (job self.now number ≡ None))) }
     {
         job(alloc, &self.book, number)
+    }
+}
+
+impl CatalogCore {
+    /// The records, in order: one at least.
+    pub fn records(&self) -> &[Record]
+        ensures list { result.now ≡ self.now }
+        ensures kept { All IsKept self.now }
+        ensures described { list_all keeps_described self.now ≡ true }
+        ensures some { 1 ≤ length self.now }
+        ensures legal { IsLegalCatalog self.now }
+    {
+        self.book.records.as_slice()
+    }
+
+    /// A version of an entry, if it is there.
+    pub fn version(&self, entry: u32, number: u32) -> Option<&Question>
+        ensures { option_copied result ≡ version self.now entry number }
+    {
+        version(&self.book, entry, number)
+    }
+
+    /// The settings of a quiz that is ready, for a user of this number, who needn't be there. There are none where it isn't ready.
+    pub fn ready_settings(
+        &self,
+        alloc: Global,
+        quiz: u32,
+        user: u32,
+    ) -> Result<Option<Settings>, NoMemory>
+        ensures { IfOk result (λ found. found ≡ ready_settings self.now quiz user) }
+    {
+        ready_settings(alloc, &self.book, quiz, user)
     }
 }
 

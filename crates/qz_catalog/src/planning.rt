@@ -14,7 +14,7 @@ ghost use Rattle.qz_terms.specs.Rows.{sum_of};
 ghost use Rattle.qz_grading.specs.Grading.{at_place};
 ghost use Rattle.qz_roster.specs.Told.{named_in};
 ghost use Rattle.qz_catalog.specs.Holdings.{IsIndexed, lean};
-ghost use Rattle.qz_catalog.specs.Readings.{planned_by, with_questions};
+ghost use Rattle.qz_catalog.specs.Readings.{planned_by, ready_settings, with_questions};
 
 use crate::book::Book;
 use crate::missing::{missing_quiz, missing_user};
@@ -112,6 +112,15 @@ fn question<'a>(entries: &'a Entries, slot: &Planned) -> Option<&'a Question>
     entries.version(slot.entry, slot.version)
 }
 
+/// The question of a version of an entry, if it is there.
+pub(crate) fn version(book: &Book, entry: u32, number: u32) -> Option<&Question>
+    requires { IsIndexed book.now }
+    ensures { option_copied result ≡ version book.now.records.items entry number }
+{
+    follows_the_records();
+    book.entries.version(entry, number)
+}
+
 /// The questions of the slots, in order, by the bank that all the records make.
 pub(crate) fn questions(
     alloc: Global,
@@ -193,4 +202,20 @@ pub(crate) fn plan(
         return Ok(with_questions(alloc, book, plan)?);
     }
     Ok(plan)
+}
+
+/// The settings of a quiz that is ready, for a user of this number, who needn't be there.
+pub(crate) fn ready_settings(
+    alloc: Global,
+    book: &Book,
+    quiz: u32,
+    user: u32,
+) -> Result<Option<Settings>, NoMemory>
+    requires { IsIndexed book.now }
+    ensures { IfOk result (λ found. found ≡ ready_settings book.now.records.items quiz user) }
+{
+    if missing_quiz(book, quiz).is_some() || !is_ready(book, quiz) {
+        return Ok(None);
+    }
+    Ok(Some(settings(alloc, book, quiz, user)?))
 }

@@ -5,7 +5,7 @@ use Rattle.qz_bank.specs.declared.entry.Entry.{Entry}
 use Rattle.qz_roster.specs.Roster.{IsNext}
 use Rattle.qz_catalog.specs.Applying.{MayPut, bank_told, bank_with}
 use Rattle.qz_catalog.specs.Holdings.{ArePinned, AreShown, IsHeld, IsPin}
-use Rattle.qz_catalog.proofs.AdoptLemmas.{allowed-free, allowed-next, held-more}
+use Rattle.qz_catalog.proofs.AdoptLemmas.{allowed-free, allowed-next, held-more, room-book}
 use Rattle.qz_catalog.proofs.Bounds.{entries-few}
 use Rattle.qz_catalog.proofs.adopting.adopt.Goals as goal
 
@@ -45,3 +45,8 @@ append-requires-clause-ready c =
 
 pub append-requires-clause-pin : goal.append-requires-clause-pin
 append-requires-clause-pin c = subst (λ (l : List Record). IsPin l c.args.record c.in_ok-pin.pin) (sym c.make_book_room.ensures.records) c.in_ok-pin.ensures
+
+pub returns-in_err-make_book_room-clause-book : goal.returns-in_err-make_book_room-clause-book
+returns-in_err-make_book_room-clause-book c =
+    let room = c.make_book_room.ensures in
+    room-book c.args.book.now c.make_book_room.new.book c.requires.book room.roster room.records room.shown room.pinned room.entries

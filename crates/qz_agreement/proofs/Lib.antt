@@ -1,0 +1,7 @@
+mod Sameness
+mod Tested
+mod Mapped
+mod Verdicts
+mod Walking
+mod Sweeping
+mod Final

@@ -1,0 +1,12 @@
+//! Which record of a school's shards is the first that doesn't agree with the catalogue.
+#![tactic(auto)]
+
+mod disagreement;
+mod findings;
+mod fitting;
+mod jobs;
+mod look;
+mod quizzes;
+mod sweep;
+
+pub use disagreement::{Disagreement, first_disagreement};
