@@ -17,3 +17,5 @@ pub mod Answering
 pub mod ShownLemmas
 pub mod PinLemmas
 pub mod AdoptLemmas
+pub mod Allowing
+pub mod LoadLemmas

@@ -2,3 +2,5 @@ pub mod Shown
 pub mod Holdings
 pub mod Readings
 pub mod Applying
+pub mod Allowed
+pub mod Loads

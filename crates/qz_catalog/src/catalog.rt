@@ -13,6 +13,7 @@ ghost use Rattle.qz_terms.specs.Kept.{IsKept, IsKeptPlan};
 ghost use Rattle.qz_terms.specs.Legal.{IsAllowedInCatalog, IsLegalCatalog};
 ghost use Rattle.qz_catalog.specs.Applying.{Answers, IsAsked, IsDecision, IsFree, IsLooked};
 ghost use Rattle.qz_catalog.specs.declared.decision.Decision.TheVariants as decision;
+ghost use Rattle.qz_catalog.specs.Loads.{IsListFault, IsRead};
 ghost use Rattle.qz_catalog.specs.Holdings.{founded, keeps_described, lean};
 ghost use Rattle.qz_catalog.specs.Readings.{ready_settings};
 
@@ -20,13 +21,15 @@ use crate::adopting::{adopt, begin};
 use crate::book::Book;
 use crate::decision::{Decision, decide};
 use crate::jobs::job;
+use crate::loading::load;
 use crate::people::{names, user, user_of_token};
 use crate::planning::{plan, policy_of, ready_settings, version};
 use crate::putting::put;
 use crate::replies::{look, said};
 use qz_grading::{Question, Refusal, Thing};
+use qz_record::ListFault;
 use qz_terms::{Ask, Event, Job, Plan, Policy, Record, Reply, Request, Settings, User};
-use qz_text::{Listed, NoMemory, Text, TryCopy};
+use qz_text::{Bytes, Listed, NoMemory, Text, TryCopy};
 use std::alloc::Global;
 use std::marker::Model;
 
@@ -101,6 +104,20 @@ impl CatalogCore {
         ensures unchanged { OnErr result (self.new ≡ self.old) }
     {
         adopt(alloc, &mut self.book, record)
+    }
+
+    /// Reads a catalogue's list, whose records these payloads spell, in order. Where there are no payloads there is no catalogue.
+    ///
+    /// Each record has to be one that may stand behind those before it. `Illegal` names the first payload, from 1, that spells no such
+    /// record.
+    pub fn load(alloc: Global, payloads: &[Bytes]) -> Result<Option<CatalogCore>, ListFault>
+        ensures loaded { IfOk result (IsRead payloads.now) }
+        ensures illegal { IfErr result (IsListFault payloads.now) }
+    {
+        match load(alloc, payloads)? {
+            Some(book) => Ok(Some(CatalogCore { book })),
+            None => Ok(None),
+        }
     }
 
     /// The number of records.

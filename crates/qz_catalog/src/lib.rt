@@ -9,6 +9,8 @@ mod causes;
 mod decision;
 mod jobs;
 mod keys;
+mod legal;
+mod loading;
 mod missing;
 mod people;
 mod pins;
