@@ -311,6 +311,13 @@ own_records l c ss u k s view is place = subst (λ (a : Lists). s.records ≡ pa
         let own : u % n ≡ k = ap (λ (m : ℕ). u % m) same ∙ place in
         rw own (sym (part-settled c (records_of ss) k ∙ part_here ss k s is))
 
+-- the shard of a number, as the lists have it
+pub shard_records : (l : Lists) (c : List Record) (ss : List Holding) (k : ℕ) (s : Holding) → solo_lists c ss ≡ l → slice_get ss k ≡ Some s → s.records ≡ part_list l k
+shard_records l c ss k s view is = subst (λ (a : Lists). s.records ≡ part_list a k) view (sym (part-settled c (records_of ss) k ∙ part_here ss k s is))
+
+pub counted_shards : (l : Lists) (c : List Record) (ss : List Holding) → solo_lists c ss ≡ l → length l.parts ≡ length ss
+counted_shards l c ss view = subst (λ (a : Lists). length a.parts ≡ length ss) view (count-settled (records_of ss) ∙ count_of ss)
+
 -- the lists of a school
 pub school_seen : (l : Lists) (c : List Record) (ss : List Holding) → solo_lists c ss ≡ l → IsSolo c ss → IsSchool l.records.list (lists_of l.parts)
 school_seen l c ss view solo = subst (λ (a : Lists). IsSchool a.records.list (lists_of a.parts)) view (subst (IsSchool c) (sym (lists-settled (records_of ss))) solo.school)
