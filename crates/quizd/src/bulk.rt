@@ -365,15 +365,26 @@ fn school_text(alloc: Global, school: &mut Solo, count: u32, before: i128) -> Re
     )
 }
 
+/// What is told of a school of so many students that is regraded now.
+fn regraded_text(alloc: Global, school: &mut Solo, count: u32) -> Result<Text, NoMemory>
+    requires few { count ≤ 2000 }
+    requires school { school.old ≡ school_of count }
+    requires one { length school.old.parts ≡ 1 }
+    ensures { IfOk result (λ text. text ≡ bulk_text count) }
+{
+    let before = mark_sum(alloc, school, count)?;
+    regrade(alloc, school, count)?;
+    school_text(alloc, school, count, before)
+}
+
 /// What is told of a school of so many students that is made and regraded.
 fn bulk_text(alloc: Global, count: u32) -> Result<Text, NoMemory>
     requires { count ≤ 2000 }
     ensures { IfOk result (λ text. text ≡ bulk_text count) }
 {
+    // A function of its own gives the text, so that this one has little to say beside the end of the school.
     let mut school = school_of(alloc, count)?;
-    let before = mark_sum(alloc, &mut school, count)?;
-    regrade(alloc, &mut school, count)?;
-    school_text(alloc, &mut school, count, before)
+    regraded_text(alloc, &mut school, count)
 }
 
 /// Makes a school of so many students in memory, from 1 to 2,000, regrades it, and writes how many students there are, how many records

@@ -81,6 +81,22 @@ fn start<K: Keeper, L: Ledger>(
     Ok(shard.apply(alloc, ann, plan, &ask, 100, &mut steps).ok())
 }
 
+fn begin<K: Keeper>(
+    shard: &mut Shard<K>,
+    alloc: Global,
+    ann: &User,
+    plan: &Plan,
+) -> Result<Option<Reply>, NoMemory>
+    requires plan { IsKeptPlan plan.now }
+    requires quiz { plan.now.quiz ≡ 1 }
+    requires whole { length plan.now.questions ≡ length plan.now.slots }
+    requires index { shard.old.index ≡ 0 }
+    requires count { shard.old.count ≡ 1 }
+    ensures part { IsSamePart shard.old shard.new }
+{
+    start::<_, Brand>(Blank::new(1), shard, alloc, ann, plan)
+}
+
 /// The replies to a start, and to the same twice again, where the first append fails.
 fn starts(alloc: Global, keeps: bool) -> Result<[Option<Reply>; 3], NoMemory> {
     let keeper = FailsOnce {
@@ -95,9 +111,9 @@ fn starts(alloc: Global, keeps: bool) -> Result<[Option<Reply>; 3], NoMemory> {
     let ann = user(alloc, 2, Role::Student);
     let plan = plan(alloc)?;
     Ok([
-        start::<_, Brand>(Blank::new(1), &mut shard, alloc, &ann, &plan)?,
-        start::<_, Brand>(Blank::new(1), &mut shard, alloc, &ann, &plan)?,
-        start::<_, Brand>(Blank::new(1), &mut shard, alloc, &ann, &plan)?,
+        begin(&mut shard, alloc, &ann, &plan)?,
+        begin(&mut shard, alloc, &ann, &plan)?,
+        begin(&mut shard, alloc, &ann, &plan)?,
     ])
 }
 
