@@ -113,18 +113,26 @@ fn takes(alloc: Global, solo: &mut Solo, token: &str, user: u32) -> Result<bool,
     Ok(started && saved && ended)
 }
 
-/// A school of so many shards, in which the students 4, 2 and 3 took the quiz, in this order.
+/// Whether the students 4, 2 and 3 join and take the quiz, in this order.
+fn is_taken(alloc: Global, solo: &mut Solo) -> Result<bool, NoMemory> {
+    let joined = joins(alloc, solo, "a")? && joins(alloc, solo, "b")?;
+    let all = joined && joins(alloc, solo, "c")?;
+    let made = imports(alloc, solo)? && makes_quiz(alloc, solo)?;
+    let first = takes(alloc, solo, "c", 4)?;
+    let taken = takes(alloc, solo, "a", 2)? && takes(alloc, solo, "b", 3)?;
+    Ok(all && made && first && taken)
+}
+
+/// A school of so many shards in which they did. What is asked of it is asked by functions that borrow it, so that few of them end it.
 fn school(alloc: Global, shards: u8) -> Result<Option<Solo>, NoMemory>
     requires some { 1 ≤ shards }
     requires few { shards ≤ 64 }
 {
     let mut solo = Solo::memory(alloc, shards, "root")?;
-    let joined = joins(alloc, &mut solo, "a")? && joins(alloc, &mut solo, "b")?;
-    let all = joined && joins(alloc, &mut solo, "c")?;
-    let made = imports(alloc, &mut solo)? && makes_quiz(alloc, &mut solo)?;
-    let first = takes(alloc, &mut solo, "c", 4)?;
-    let taken = takes(alloc, &mut solo, "a", 2)? && takes(alloc, &mut solo, "b", 3)?;
-    Ok((all && made && first && taken).then_some(solo))
+    match is_taken(alloc, &mut solo) {
+        Ok(taken) => Ok(taken.then_some(solo)),
+        Err(NoMemory) => Err(NoMemory),
+    }
 }
 
 // ---- what is told
@@ -181,35 +189,54 @@ fn live(alloc: Global, solo: &mut Solo, shard: u8) -> Result<Reply, NoMemory> {
 
 // ---- the tests
 
+/// Whether a school of one shard tells of all users there, and of no other shard.
+fn is_told_whole(alloc: Global, solo: &mut Solo) -> Result<bool, NoMemory> {
+    let told = look(alloc, solo, Request::Report { quiz: 1 })?;
+    let missing = live(alloc, solo, 1)?;
+    Ok(solo.len() == 8 && names_all(&told) && is_missing(&missing, Thing::Shard))
+}
+
 #[test]
 fn one_shard_has_all_users(rt: HostRuntime) -> Result<(), Fail> {
     let alloc = rt.alloc();
     let mut solo = school(alloc, 1)?.ok_or("made")?;
-    assert!(rt; solo.len() == 8);
-    let told = look(alloc, &mut solo, Request::Report { quiz: 1 })?;
-    assert!(rt; names_all(&told));
-    assert!(rt; is_missing(&live(alloc, &mut solo, 1)?, Thing::Shard));
+    let told = is_told_whole(alloc, &mut solo);
+    drop(solo);
+    assert!(rt; told?);
     Ok(())
+}
+
+fn reports_all(alloc: Global, solo: &mut Solo) -> Result<bool, NoMemory> {
+    Ok(names_all(&look(alloc, solo, Request::Report { quiz: 1 })?))
+}
+
+fn rebinds(alloc: Global, solo: &mut Solo, shard: u8, user: u32) -> Result<bool, NoMemory> {
+    Ok(is_rebound(&step(alloc, solo, shard)?, user))
+}
+
+fn ends_job(alloc: Global, solo: &mut Solo, shard: u8) -> Result<bool, NoMemory> {
+    Ok(is_job_done(&step(alloc, solo, shard)?))
+}
+
+fn has_no_shard(alloc: Global, solo: &mut Solo, shard: u8) -> Result<bool, NoMemory> {
+    Ok(is_missing(&step(alloc, solo, shard)?, Thing::Shard))
+}
+
+/// Whether a job is worked in the shards of its users, and in no other.
+fn is_worked(alloc: Global, solo: &mut Solo) -> Result<bool, NoMemory> {
+    let told = reports_all(alloc, solo)?;
+    let asked = does(alloc, solo, "root", "again", Request::Regrade { quiz: 1 })?;
+    let first = rebinds(alloc, solo, 1, 4)? && ends_job(alloc, solo, 1)?;
+    let other = rebinds(alloc, solo, 0, 3)? && has_no_shard(alloc, solo, 3)?;
+    Ok(told && asked && first && other)
 }
 
 #[test]
 fn each_user_has_a_shard(rt: HostRuntime) -> Result<(), Fail> {
     let alloc = rt.alloc();
     let mut solo = school(alloc, 3)?.ok_or("made")?;
-    let told = look(alloc, &mut solo, Request::Report { quiz: 1 })?;
-    assert!(rt; names_all(&told));
-    assert!(rt;
-        does(
-            alloc,
-            &mut solo,
-            "root",
-            "again",
-            Request::Regrade { quiz: 1 }
-        )?
-    );
-    assert!(rt; is_rebound(&step(alloc, &mut solo, 1)?, 4));
-    assert!(rt; is_job_done(&step(alloc, &mut solo, 1)?));
-    assert!(rt; is_rebound(&step(alloc, &mut solo, 0)?, 3));
-    assert!(rt; is_missing(&step(alloc, &mut solo, 3)?, Thing::Shard));
+    let worked = is_worked(alloc, &mut solo);
+    drop(solo);
+    assert!(rt; worked?);
     Ok(())
 }
