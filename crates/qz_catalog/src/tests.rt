@@ -77,13 +77,7 @@ fn is_pinned(job: Result<Job, Refusal>, position: u64, closes: u64) -> bool {
     }
 }
 
-/// A quiz that is to close at the moment 500 from behind its first job on, and before the second.
-fn changed_quiz(alloc: Global) -> Result<Option<CatalogCore>, Refusal> {
-    let root = Text::of(alloc, "root")?;
-    let mut catalog = CatalogCore::new(alloc, 2, &root)?;
-    let name = Text::of(alloc, "Quiz")?;
-    let behaviour = Behaviour::Deferred;
-    let quiz = Request::Quiz { name, behaviour };
+fn is_timed(alloc: Global, catalog: &mut CatalogCore) -> Result<bool, Refusal> {
     let times = Request::Times {
         quiz: 1,
         opens: 0,
@@ -94,12 +88,33 @@ fn changed_quiz(alloc: Global) -> Result<Option<CatalogCore>, Refusal> {
         grace: 0,
         review: Review::Always,
     };
-    let made = does(alloc, &mut catalog, "quiz", quiz)?;
-    let ready = does(alloc, &mut catalog, "ready", Request::Ready { quiz: 1 })?;
-    let first = does(alloc, &mut catalog, "first", Request::Regrade { quiz: 1 })?;
-    let closed = does(alloc, &mut catalog, "times", times)?;
-    let second = does(alloc, &mut catalog, "second", Request::Regrade { quiz: 1 })?;
-    Ok((made && ready && first && closed && second).then_some(catalog))
+    does(alloc, catalog, "times", times)
+}
+
+fn is_made(alloc: Global, catalog: &mut CatalogCore) -> Result<bool, Refusal> {
+    let name = Text::of(alloc, "Quiz")?;
+    let behaviour = Behaviour::Deferred;
+    does(alloc, catalog, "quiz", Request::Quiz { name, behaviour })
+}
+
+/// Whether a quiz is made that is to close at the moment 500 from behind its first job on, and before the second.
+fn is_changed(alloc: Global, catalog: &mut CatalogCore) -> Result<bool, Refusal> {
+    let made = is_made(alloc, catalog)?;
+    let ready = does(alloc, catalog, "ready", Request::Ready { quiz: 1 })?;
+    let first = does(alloc, catalog, "first", Request::Regrade { quiz: 1 })?;
+    let closed = is_timed(alloc, catalog)?;
+    let second = does(alloc, catalog, "second", Request::Regrade { quiz: 1 })?;
+    Ok(made && ready && first && closed && second)
+}
+
+/// A catalogue with that quiz. It is asked by functions that borrow it, so that few of them end it.
+fn changed_quiz(alloc: Global) -> Result<Option<CatalogCore>, Refusal> {
+    let root = Text::of(alloc, "root")?;
+    let mut catalog = CatalogCore::new(alloc, 2, &root)?;
+    match is_changed(alloc, &mut catalog) {
+        Ok(changed) => Ok(changed.then_some(catalog)),
+        Err(refusal) => Err(refusal),
+    }
 }
 
 /// What is changed behind a job changes no job that was there.
