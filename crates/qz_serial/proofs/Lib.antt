@@ -1,0 +1,12 @@
+pub mod Places
+pub mod Longer
+pub mod Same
+pub mod Repeating
+pub mod Plans
+pub mod Growing
+pub mod Answering
+pub mod Composing
+pub mod Seats
+pub mod Over
+pub mod Staying
+pub mod Still

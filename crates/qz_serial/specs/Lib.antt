@@ -1,0 +1,5 @@
+pub mod Staying
+pub mod Repeating
+pub mod Standing
+pub mod Calls
+pub mod Once

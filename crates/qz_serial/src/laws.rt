@@ -1,0 +1,22 @@
+//! What one request does to the lists of a school, from what single calls did to single lists.
+
+ghost use Rattle.qz_serial.specs.Calls.{RepliesCompose};
+ghost use Rattle.qz_serial.specs.Repeating.{CatalogActsOnce};
+ghost use Rattle.qz_serial.specs.Staying.{StaysThere};
+
+/// What stands in a catalogue stands there whatever comes behind it: users, groups, entries, versions, quizzes, slots, jobs, and that a
+/// quiz is ready. A request that names nothing that is missing goes on naming nothing that is missing.
+pub fn stays_there()
+    ensures { StaysThere }
+{}
+
+/// A request with a key that the catalogue accepts stands in its list from then on, whatever comes later. Asked again, it has
+/// the reply that it had, and adds nothing.
+pub fn catalog_acts_once()
+    ensures { CatalogActsOnce }
+{}
+
+/// Calls at one list compose: it is mended once, a look leaves it as it is, and a look alone is the whole call.
+pub fn replies_compose<F>()
+    ensures { RepliesCompose F }
+{}
