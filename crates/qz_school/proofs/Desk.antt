@@ -189,24 +189,6 @@ part_asks c ps now ask user told g goes keyed found among inside (inr both) =
 
 -- ---- a request to the catalogue
 
--- it is answered as the catalogue says, whether it is refused first or not
-record IsRecorded (c : List Record) (ps : List (List Record)) (now : ℕ) (user : User) (ask : Ask) : Type 0 where
-  answer : school_answer_by c ps now ask user ≡ catalog_answer c now user ask
-  list : catalog_list c now ask ≡ catalog_after c now user ask
-
-recorded-by : (c : List Record) (ps : List (List Record)) (now : ℕ) (user : User) (ask : Ask) (o : Option Refusal) → first_refusal c user ask.request ≡ o → asks_catalog ask.request ≡ true → catalog.user_of c ask.caller ≡ Some user → IsRecorded c ps now user ask
-recorded-by c ps now user ask (Some r) first of_catalog found =
-    let verdict = refused-here c now user ask r (forbidden user ask.request) (missing_in c ask.request) refl refl first in
-    let told : school_answer_by c ps now ask user ≡ reply.Refused r = rw first refl in
-    let answer : catalog_answer c now user ask ≡ reply.Refused r = rw verdict refl in
-    let list : catalog_after c now user ask ≡ c = rw verdict refl in
-    let kept : catalog_list c now ask ≡ c = rw (found, first) refl in
-    record { answer = told ∙ sym answer; list = kept ∙ sym list }
-recorded-by c ps now user ask None first of_catalog found = record {
-  answer = rw (first, anywhere (length ps) ask.request of_catalog) (by-catalog c ps now user ask ask.request of_catalog);
-  list = rw (found, first, of_catalog) refl;
-}
-
 no-part-by : (b : Bool) (o : Option ℕ) → o ≡ None → (if b then o else None) ≡ None
 no-part-by true o none = none
 no-part-by false o none = refl

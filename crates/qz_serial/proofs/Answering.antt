@@ -15,8 +15,8 @@ use Rattle.qz_terms.specs.declared.reply.Reply.TheVariants as reply
 use Rattle.qz_terms.specs.declared.request.Request.{Request}
 use Rattle.qz_terms.specs.declared.request.Request.TheVariants as request
 use Rattle.qz_terms.specs.Answer.{answer_here, attempt_named, list_after}
-use Rattle.qz_terms.specs.CatalogAnswer.{asks_catalog, catalog_answer, catalog_verdict}
-use Rattle.qz_terms.specs.SchoolAnswer.{answer_among, answer_by, first_refusal, part_at, part_of, plan_for, user_after, user_answer}
+use Rattle.qz_terms.specs.CatalogAnswer.{asks_catalog, catalog_after, catalog_answer, catalog_verdict}
+use Rattle.qz_terms.specs.SchoolAnswer.{catalog_list, school_answer_by, refusal_among, answer_among, answer_by, first_refusal, part_at, part_of, plan_for, user_after, user_answer}
 use Rattle.qz_terms.specs.Catalog as catalog
 use Rattle.qz_terms.specs.Cause.{Denied, forbidden, is_keyed, is_keyless, missing_in, missing_shard}
 use Rattle.qz_terms.specs.History as history
@@ -142,3 +142,21 @@ planless c h user (request.View a k) of_catalog = absurd cc
 planless c h user (request.Total a) of_catalog = absurd cc
 planless c h user (request.Page a) of_catalog = absurd cc
 planless c h user x of_catalog = refl
+
+-- it is answered as the catalogue says, whether it is refused first or not
+pub record IsRecorded (c : List Record) (ps : List (List Record)) (now : ℕ) (user : User) (ask : Ask) : Type 0 where
+  pub answer : school_answer_by c ps now ask user ≡ catalog_answer c now user ask
+  pub list : catalog_list c now ask ≡ catalog_after c now user ask
+
+pub recorded-by : (c : List Record) (ps : List (List Record)) (now : ℕ) (user : User) (ask : Ask) (o : Option Refusal) → first_refusal c user ask.request ≡ o → asks_catalog ask.request ≡ true → catalog.user_of c ask.caller ≡ Some user → IsRecorded c ps now user ask
+recorded-by c ps now user ask (Some r) first of_catalog found =
+    let verdict = refused-here c now user ask r (forbidden user ask.request) (missing_in c ask.request) refl refl first in
+    let told : school_answer_by c ps now ask user ≡ reply.Refused r = rw first refl in
+    let answer : catalog_answer c now user ask ≡ reply.Refused r = rw verdict refl in
+    let list : catalog_after c now user ask ≡ c = rw verdict refl in
+    let kept : catalog_list c now ask ≡ c = rw (found, first) refl in
+    record { answer = told ∙ sym answer; list = kept ∙ sym list }
+recorded-by c ps now user ask None first of_catalog found = record {
+  answer = rw (first, anywhere (length ps) ask.request of_catalog) (by-catalog c ps now user ask ask.request of_catalog);
+  list = rw (found, first, of_catalog) refl;
+}

@@ -10,3 +10,4 @@ pub mod Seats
 pub mod Over
 pub mod Staying
 pub mod Still
+pub mod Acting

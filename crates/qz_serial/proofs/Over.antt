@@ -4,6 +4,7 @@ use Rattle.std.specs.List.{list_any}
 use Rattle.std.specs.Prelude.{◌==◌, if◌then◌else◌, is_none, is_some, slice_get, slice_set, unwrap_or}
 use Rattle.std.proofs.lemmas.List.{length-set}
 use Rattle.qz_grading.specs.declared.refusal.Refusal.{Refusal}
+use Rattle.qz_grading.specs.declared.refusal.Refusal.TheVariants as refusal
 use Rattle.qz_terms.specs.declared.ask.Ask.{Ask}
 use Rattle.qz_terms.specs.declared.people.Caller.{Caller}
 use Rattle.qz_terms.specs.declared.people.Caller.TheVariants as caller
@@ -117,3 +118,13 @@ said_part m now ask user k g =
     let told : school_answer_by c ps now ask user ≡ answer_among c ps now user ask ask.request = rw among refl in
     let own : part_at ps (part_of (length ps) user ask.request) ≡ part_list m k = ap (λ (n : ℕ). part_at ps (part_of n user ask.request)) (count_parts m.parts) ∙ (ap (part_at ps) g.part ∙ parts_at m.parts k) in
     said_by m now ask user g.found ∙ told ∙ answered-among c ps now user ask ask.request other.1 ∙ ap (λ (h : List Record). Rattle.qz_terms.specs.SchoolAnswer.answer_by c h now user ask ask.request) own ∙ sym (answered-free c (part_list m k) now user ask free)
+
+-- ---- what is refused
+
+pub unknown_said : (m : Lists) (now : ℕ) (ask : Ask) → user_of m.records.list ask.caller ≡ None → reply_over m now ask ≡ reply.Refused refusal.UnknownToken
+unknown_said m now ask none = rw none refl
+
+pub refused_said : (m : Lists) (now : ℕ) (ask : Ask) (user : User) (r : Refusal) → user_of m.records.list ask.caller ≡ Some user → refusal_among m.records.list (length m.parts) user ask.request ≡ Some r → reply_over m now ask ≡ reply.Refused r
+refused_said m now ask user r found refused =
+    let among : refusal_among m.records.list (length (lists_of m.parts)) user ask.request ≡ Some r = rw (count_parts m.parts) refused in
+    said_by m now ask user found ∙ rw among refl

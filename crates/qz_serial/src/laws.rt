@@ -1,6 +1,7 @@
 //! What one request does to the lists of a school, from what single calls did to single lists.
 
 ghost use Rattle.qz_serial.specs.Calls.{RepliesCompose};
+ghost use Rattle.qz_serial.specs.Once.{ActsOnceInLists};
 ghost use Rattle.qz_serial.specs.Repeating.{CatalogActsOnce};
 ghost use Rattle.qz_serial.specs.Staying.{StaysThere};
 
@@ -19,4 +20,10 @@ pub fn catalog_acts_once()
 /// Calls at one list compose: it is mended once, a look leaves it as it is, and a look alone is the whole call.
 pub fn replies_compose<F>()
     ensures { RepliesCompose F }
+{}
+
+/// Whatever a request with a key comes to, it acts once: accepted it stands in the lists from then on, what stood there goes on standing,
+/// and asked again it has the reply that it had and adds nothing, whatever is mended between.
+pub fn acts_once_in_lists<F>()
+    ensures { ActsOnceInLists F }
 {}
