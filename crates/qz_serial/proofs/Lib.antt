@@ -11,3 +11,4 @@ pub mod Over
 pub mod Staying
 pub mod Still
 pub mod Acting
+pub mod Joining
