@@ -1,8 +1,7 @@
 -- Whatever a request comes to, it acts once.
-use Rattle.std.proofs.Common.{◌≡◌, ◌⊎◌, ℕ, ◌<◌, ◌%◌, Bool, true, false, not, ◌&&◌, ◌||◌, List, [], ◌∷◌, ◌++◌, Option, Some, None, length, refl, sym, ap, ◌∙◌, subst, arith, option_map}
+use Rattle.std.proofs.Common.{◌≡◌, ℕ, ◌<◌, ◌%◌, Bool, true, false, not, ◌||◌, List, [], ◌∷◌, Option, Some, None, length, refl, sym, ap, ◌∙◌, subst}
 use Rattle.std.specs.List.{list_any}
-use Rattle.std.specs.Prelude.{◌==◌, if◌then◌else◌, is_none, is_some, slice_get, slice_set}
-use Rattle.qz_grading.specs.declared.refusal.AttemptId.{AttemptId}
+use Rattle.std.specs.Prelude.{if◌then◌else◌, is_some, slice_set}
 use Rattle.qz_grading.specs.declared.refusal.Refusal.{Refusal}
 use Rattle.qz_grading.specs.declared.refusal.Refusal.TheVariants as refusal
 use Rattle.qz_terms.specs.declared.ask.Ask.{Ask}
@@ -17,7 +16,7 @@ use Rattle.qz_terms.specs.declared.reply.Reply.TheVariants as reply
 use Rattle.qz_terms.specs.declared.request.Request.{Request}
 use Rattle.qz_terms.specs.declared.request.Request.TheVariants as request
 use Rattle.qz_terms.specs.CatalogAnswer.{asks_catalog, catalog_after, catalog_answer}
-use Rattle.qz_terms.specs.SchoolAnswer.{asked_part, catalog_list, first_refusal, part_of, plan_for, refusal_among, shard_list, user_after, user_answer}
+use Rattle.qz_terms.specs.SchoolAnswer.{asked_part, catalog_list, first_refusal, part_of, plan_for, refusal_among, shard_list, user_after}
 use Rattle.qz_terms.specs.Catalog as catalog
 use Rattle.qz_terms.specs.Cause.{forbidden, is_keyed, is_keyless, may_ask, missing_in, missing_shard}
 use Rattle.qz_terms.specs.Answer.{answer_here, named_user}
@@ -28,14 +27,15 @@ use Rattle.std.proofs.lemmas.Nat.{mod_below}
 use Rattle.qz_terms.specs.Serial.{AllMended, Asks, Held, Lists, Turn, answered, goes_on, is_catalog, is_in_doubt, is_report, is_settled, lists_of, lists_over, no_memory, part_list, part_read, put_in_doubt, puts_record, reads_catalog, records_over, reply_over, route, shards_asked, stayed_in_doubt, with_list}
 use Rattle.qz_terms.proofs.Standing.{once_law}
 use Rattle.qz_serial.specs.Once.{ActsOnceInLists, AskedOnce, IsSaidAgain, same, unkept, unsaid}
+use Rattle.qz_serial.specs.Paths.{IsGoing, goes_to_part}
 use Rattle.qz_serial.specs.Repeating.{StandsInCatalog}
 use Rattle.qz_serial.specs.Standing.{StandsIn, StandsInRecords, StandsInShard, in_records, in_shard, own_list}
-use Rattle.qz_serial.proofs.Answering.{answered-free, free-both, goes_to_part, has_no_key, keyed-by, plan_meant, planless, planless-answer, recorded-by, same-answer, same-list}
+use Rattle.qz_serial.proofs.Answering.{answered-free, free-both, has_no_key, keyed-by, plan_meant, planless-answer, recorded-by, same-answer, same-list}
 use Rattle.qz_serial.proofs.Growing.{grown_part, grown_records, no-verdict, plan_grown}
 use Rattle.qz_serial.proofs.Longer.{staying_law}
-use Rattle.qz_serial.proofs.Over.{IsGoing, goes_free, goes_other, over_part, part_read_is, records_kept, refused_said, said_by, said_part, unknown_said, with_part}
+use Rattle.qz_serial.proofs.Over.{goes_other, over_part, part_read_is, records_kept, refused_said, said_by, said_part, unknown_said, with_part}
 use Rattle.qz_serial.proofs.Repeating.{repeating_law}
-use Rattle.qz_serial.proofs.Seats.{ListsGrow, at_here, mending_grows, set_get, within_there}
+use Rattle.qz_serial.proofs.Seats.{at_here, mending_grows, set_get, within_there}
 use Rattle.qz_serial.proofs.Staying.{asks_grow, stands_grown}
 use Rattle.qz_serial.proofs.Still.{IsPartClear, PutsNothing, nothing_put, still_over}
 

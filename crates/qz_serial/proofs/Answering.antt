@@ -16,13 +16,14 @@ use Rattle.qz_terms.specs.declared.request.Request.{Request}
 use Rattle.qz_terms.specs.declared.request.Request.TheVariants as request
 use Rattle.qz_terms.specs.Answer.{answer_here, attempt_named, list_after}
 use Rattle.qz_terms.specs.CatalogAnswer.{asks_catalog, catalog_after, catalog_answer, catalog_verdict}
-use Rattle.qz_terms.specs.SchoolAnswer.{catalog_list, school_answer_by, refusal_among, answer_among, answer_by, first_refusal, part_at, part_of, plan_for, user_after, user_answer}
+use Rattle.qz_terms.specs.SchoolAnswer.{catalog_list, school_answer_by, answer_among, answer_by, first_refusal, part_at, part_of, plan_for, user_after, user_answer}
 use Rattle.qz_terms.specs.Catalog as catalog
 use Rattle.qz_terms.specs.Cause.{Denied, forbidden, is_keyed, is_keyless, missing_in, missing_shard}
 use Rattle.qz_terms.specs.History as history
 use Rattle.qz_terms.specs.Legal.{is_plan_for}
 use Rattle.qz_terms.specs.Serial.{is_report}
 use Rattle.qz_terms.proofs.Joined.{joined_law}
+use Rattle.qz_serial.specs.Paths.{goes_to_part}
 use Rattle.qz_serial.proofs.Plans.{planned-quiz}
 
 pub not-ok : (r : Refusal) (place : ℕ) (d : Done) → reply.Refused r ≡ reply.Ok place d → ⊥
@@ -38,10 +39,6 @@ keyless-by ask false is keyless keyed = absurd cc
 
 pub has_no_key : (ask : Ask) → is_keyless ask.request ≡ true → is_keyed ask ≡ true → ask.key ≡ None
 has_no_key ask keyless keyed = keyless-by ask (is_keyless ask.request) refl keyless keyed
-
--- it goes to a shard, and to one alone
-abbrev pub goes_to_part : Request → Bool
-goes_to_part x = not (asks_catalog x) && not (is_report x)
 
 pub answered-among : (c : List Record) (ps : List (List Record)) (now : ℕ) (user : User) (ask : Ask) (x : Request) → is_report x ≡ false → answer_among c ps now user ask x ≡ answer_by c (part_at ps (part_of (length ps) user x)) now user ask x
 answered-among c ps now user ask (request.Report quiz) other = absurd cc

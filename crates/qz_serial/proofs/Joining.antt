@@ -1,36 +1,31 @@
 -- What a call at one list comes to, in the lists of a school.
-use Rattle.std.proofs.Common.{◌≡◌, ℕ, Bool, true, false, not, ◌||◌, List, [], ◌∷◌, ◌++◌, Option, Some, None, length, drop, refl, sym, ap, ◌∙◌, subst, eq-eqb}
-use Rattle.std.specs.List.{AllZip, list_any}
-use Rattle.std.specs.Prelude.{if◌then◌else◌, is_some, slice_get, slice_set, unwrap_or}
+use Rattle.std.proofs.Common.{◌≡◌, ℕ, Bool, true, false, not, ◌||◌, List, [], ◌∷◌, ◌++◌, Option, Some, None, length, refl, sym, ap, ◌∙◌, subst, eq-eqb}
+use Rattle.std.specs.List.{list_any}
+use Rattle.std.specs.Prelude.{if◌then◌else◌, is_some, slice_get, slice_set}
 use Rattle.std.proofs.lemmas.List.{length-set}
-use Rattle.qz_grading.specs.declared.refusal.Refusal.{Refusal}
 use Rattle.qz_grading.specs.declared.refusal.Refusal.TheVariants as refusal
 use Rattle.qz_terms.specs.declared.ask.Ask.{Ask}
 use Rattle.qz_terms.specs.declared.people.User.{User}
 use Rattle.qz_terms.specs.declared.record.Record.{Record}
 use Rattle.qz_terms.specs.declared.reply.Reply.{Reply}
 use Rattle.qz_terms.specs.declared.reply.Reply.TheVariants as reply
-use Rattle.qz_terms.specs.CatalogAnswer.{asks_catalog, catalog_after, catalog_answer}
+use Rattle.qz_terms.specs.CatalogAnswer.{asks_catalog, catalog_after}
 use Rattle.qz_terms.specs.SchoolAnswer.{catalog_list, first_refusal, user_after, user_answer}
 use Rattle.qz_terms.specs.Catalog.{user_of}
-use Rattle.qz_terms.specs.Lists.{first_of, up_to_first}
-use Rattle.qz_terms.specs.Serial.{AllMended, Asks, Held, KeepsUnread, Lists, Mended, Turn, added, answered, doubt_over, doubted, doubted_records, held_in, is_catalog, is_in_doubt, is_part, is_settled, lists_of, lists_over, lists_read, no_memory, part_list, part_read, put_in_doubt, puts_record, reads_catalog, reads_part, reply_over, route, stayed_in_doubt, with_list}
+use Rattle.qz_terms.specs.Lists.{up_to_first}
+use Rattle.qz_terms.specs.Serial.{AllMended, Asks, Held, KeepsUnread, Lists, Mended, Turn, added, answered, doubt_over, doubted, doubted_records, is_catalog, is_in_doubt, is_part, is_settled, lists_of, lists_over, no_memory, part_list, part_read, put_in_doubt, puts_record, reads_catalog, reads_part, reply_over, route, stayed_in_doubt, with_list}
 use Rattle.qz_keeper.specs.Lists.{CallEnds, OneCall, answered as call_answered, no_memory as call_wanting, put_in_doubt as call_doubted, stayed_in_doubt as call_stayed}
 use Rattle.qz_serial.specs.Calls.{CatalogAnswers, ShardAnswers}
+use Rattle.qz_serial.specs.Paths.{IsGoing, with_both, with_records}
+use Rattle.qz_serial.specs.Standing.{is_keep_fault}
 use Rattle.qz_serial.proofs.Acting.{no_part}
+use Rattle.qz_serial.proofs.Growing.{own_reply}
 use Rattle.qz_serial.proofs.Answering.{recorded-by}
-use Rattle.qz_serial.proofs.Over.{IsGoing, goes_other, over_part, part_read_is, records_clear, records_kept, said_by, said_part, with_part}
+use Rattle.qz_serial.proofs.Over.{goes_other, over_part, part_read_is, records_clear, records_kept, said_by, said_part, with_part}
 use Rattle.qz_serial.proofs.Seats.{all_stay, at_here, same_held, set_apart, set_get, set_mended, set_twice}
 use Rattle.qz_serial.proofs.Still.{IsPartClear, PutsNothing, still_over}
 
 -- ---- one list mended
-
-abbrev pub with_records : Lists → Held → Lists
-with_records a h = record { records = h; parts = a.parts }
-
--- both the catalogue and a part
-abbrev pub with_both : Lists → Held → ℕ → Held → Lists
-with_both a h k g = record { records = h; parts = slice_set a.parts k g }
 
 -- a request reads a part, and finds whether it is settled
 pub record IsRead (m : Lists) (ask : Ask) (k : ℕ) (h : Held) : Type 0 where
@@ -238,3 +233,54 @@ records_ask failed a m new now ask user told mends reads of_catalog found ends =
   keeps = records_keep a m ask (λ unread. absurd (not-true (reads_catalog (with_records a m) ask) reads.read unread));
   turn = records-turn failed a m new now ask user told reads of_catalog found ends;
 }
+
+-- ---- why a keeper is said to have failed
+
+pub not-memory : (r : Reply) → r ≡ reply.Refused refusal.Memory → r ≡ reply.Refused refusal.KeepFault → ⊥
+not-memory r one other = let wrong : false ≡ true = sym (ap is_keep_fault one) ∙ ap is_keep_fault other in absurd cc
+
+pub not-own : (r : Reply) → is_keep_fault r ≡ false → r ≡ reply.Refused refusal.KeepFault → ⊥
+not-own r own other = let wrong : false ≡ true = sym own ∙ ap is_keep_fault other in absurd cc
+
+pub call_cause : (failed : Type 0) (Answers : List Record → Reply → List Record → Type 0) (m new : Held) (told : Reply) → ((g : List Record) → Answers m.list told g → is_keep_fault told ≡ false) → CallEnds failed reply.Refused Answers m new told → told ≡ reply.Refused refusal.KeepFault → failed
+call_cause failed Answers m new told own (call_answered was clear is) fault = absurd (not-own told (own new.list is) fault)
+call_cause failed Answers m new told own (call_doubted why answer x was is new_is said) fault = why
+call_cause failed Answers m new told own (call_stayed why doubt is said) fault = why
+call_cause failed Answers m new told own (call_wanting is said) fault = absurd (not-memory told said fault)
+
+-- no answer of a part is that one did
+part-own : (a : Lists) (m g h : Held) (k now : ℕ) (ask : Ask) (user : User) (told : Reply) (l : List Record) → slice_get a.parts k ≡ Some g → IsGoing m.list (length a.parts) ask user k → ShardAnswers m.list now user ask h.list told l → is_keep_fault told ≡ false
+part-own a m g h k now ask user told l is going both =
+    let s = seat a m g h k now ask user is going in
+    let b = with_both a m k h in
+    own_reply b now ask told (said_part b now ask user k s.going ∙ ap (λ (i : List Record). user_answer m.list i now ask user) s.list ∙ sym both.0)
+
+pub part_cause : (failed : Type 0) (a : Lists) (m g new : Held) (k now : ℕ) (ask : Ask) (user : User) (told : Reply) → slice_get a.parts k ≡ Some g → IsGoing m.list (length a.parts) ask user k → OneCall failed reply.Refused (ShardAnswers m.list now user ask) g new told
+    → told ≡ reply.Refused refusal.KeepFault → failed
+part_cause failed a m g new k now ask user told is going call = call_cause failed (ShardAnswers m.list now user ask) call.mended new told (λ l both. part-own a m g call.mended k now ask user told l is going both) call.ends
+
+-- ---- the lists that are read, by turns
+
+-- whether it is settled is whether the part is
+read-by : (l : Lists) (ask : Ask) (k : ℕ) (h : Held) → is_settled l ask ≡ not (is_some h.doubt) → reads_part l ask k ≡ true → IsRead l ask k h
+read-by l ask k h way read = record { settled = λ none. way ∙ none-is h.doubt none; doubted = λ some. way ∙ some-is h.doubt some; read = read }
+
+part-doubt : (l : Lists) (k : ℕ) (h : Held) → slice_get l.parts k ≡ Some h → is_in_doubt l (Some k) ≡ is_some h.doubt
+part-doubt l k h is = rw is refl
+
+same-number : (k : ℕ) → is_part k (Some k) ≡ true
+same-number k = eq-eqb k k refl
+
+behind-way : (p : Option ℕ → Bool) (k : ℕ) (b : Bool) → p None ≡ false → p (Some k) ≡ b → not (list_any p (None ∷ Some k ∷ [])) ≡ not b
+behind-way p k b none is = rw (none, is) (not-alone b)
+
+behind-found : (p : Option ℕ → Bool) (k : ℕ) (b : Bool) → p None ≡ false → p (Some k) ≡ b → list_any (is_part k) (up_to_first p (None ∷ Some k ∷ [])) ≡ true
+behind-found p k true none is = rw (none, is, same-number k) refl
+behind-found p k false none is = rw (none, is, same-number k) refl
+
+-- behind the catalogue
+pub behind_read : (l : Lists) (ask : Ask) (k : ℕ) (h : Held) → route l ask ask.caller ≡ None ∷ Some k ∷ [] → is_some l.records.doubt ≡ false → slice_get l.parts k ≡ Some h → IsRead l ask k h
+behind_read l ask k h ways clear is =
+    let p = is_in_doubt l in
+    read-by l ask k h (ap (λ (w : List (Option ℕ)). not (list_any p w)) ways ∙ behind-way p k (is_some h.doubt) clear (part-doubt l k h is))
+    (ap (λ (w : List (Option ℕ)). list_any (is_part k) (up_to_first p w)) ways ∙ behind-found p k (is_some h.doubt) clear (part-doubt l k h is))

@@ -12,3 +12,4 @@ pub mod Staying
 pub mod Still
 pub mod Acting
 pub mod Joining
+pub mod Tokens

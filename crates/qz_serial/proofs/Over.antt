@@ -1,27 +1,22 @@
 -- What a request does to lists, and what is said of it, by its kind.
-use Rattle.std.proofs.Common.{◌≡◌, ℕ, ◌<◌, Bool, true, false, not, ◌&&◌, ◌||◌, List, [], ◌∷◌, ◌++◌, Option, Some, None, length, refl, sym, ap, ◌∙◌, subst, option_map}
+use Rattle.std.proofs.Common.{◌≡◌, ℕ, Bool, true, false, not, ◌||◌, List, [], ◌∷◌, Option, Some, None, length, refl, sym, ap, ◌∙◌}
 use Rattle.std.specs.List.{list_any}
-use Rattle.std.specs.Prelude.{◌==◌, if◌then◌else◌, is_none, is_some, slice_get, slice_set, unwrap_or}
-use Rattle.std.proofs.lemmas.List.{length-set}
+use Rattle.std.specs.Prelude.{if◌then◌else◌, is_some, slice_set}
 use Rattle.qz_grading.specs.declared.refusal.Refusal.{Refusal}
 use Rattle.qz_grading.specs.declared.refusal.Refusal.TheVariants as refusal
 use Rattle.qz_terms.specs.declared.ask.Ask.{Ask}
-use Rattle.qz_terms.specs.declared.people.Caller.{Caller}
-use Rattle.qz_terms.specs.declared.people.Caller.TheVariants as caller
 use Rattle.qz_terms.specs.declared.people.User.{User}
 use Rattle.qz_terms.specs.declared.record.Record.{Record}
-use Rattle.qz_terms.specs.declared.reply.Reply.{Reply}
 use Rattle.qz_terms.specs.declared.reply.Reply.TheVariants as reply
-use Rattle.qz_terms.specs.declared.request.Request.{Request}
-use Rattle.qz_terms.specs.declared.request.Request.TheVariants as request
 use Rattle.qz_terms.specs.CatalogAnswer.{asks_catalog}
-use Rattle.qz_terms.specs.SchoolAnswer.{answer_among, asked_part, catalog_list, first_refusal, part_at, part_of, refusal_among, school_answer, school_answer_by, shard_list, user_after, user_answer}
-use Rattle.qz_terms.specs.Catalog.{user_of, worker}
-use Rattle.qz_terms.specs.Cause.{may_ask, missing_shard}
-use Rattle.qz_terms.specs.Lists.{first_of, up_to_first}
-use Rattle.qz_terms.specs.Serial.{Held, Lists, doubt_over, doubted_records, goes_on, held_in, is_catalog, is_in_doubt, is_part, is_report, is_settled, lists_of, lists_over, part_list, part_read, parts_over, reads_catalog, records_over, reply_over, route, shards_asked, with_list, worker_route}
-use Rattle.qz_serial.proofs.Answering.{answered-among, answered-free, both-parts, free-both, goes_to_part}
-use Rattle.qz_serial.proofs.Seats.{count_parts, list_at, parts_at, same_held}
+use Rattle.qz_terms.specs.SchoolAnswer.{answer_among, asked_part, catalog_list, first_refusal, part_at, part_of, refusal_among, school_answer_by, shard_list, user_after, user_answer}
+use Rattle.qz_terms.specs.Catalog.{user_of}
+use Rattle.qz_terms.specs.Cause.{missing_shard}
+use Rattle.qz_terms.specs.Lists.{up_to_first}
+use Rattle.qz_terms.specs.Serial.{Held, Lists, goes_on, is_catalog, is_in_doubt, is_report, is_settled, lists_of, lists_over, part_list, part_read, reads_catalog, records_over, reply_over, route, with_list}
+use Rattle.qz_serial.specs.Paths.{IsGoing}
+use Rattle.qz_serial.proofs.Answering.{answered-among, answered-free, both-parts, free-both}
+use Rattle.qz_serial.proofs.Seats.{count_parts, parts_at, same_held}
 
 -- ---- a catalogue that isn't asked
 
@@ -66,12 +61,6 @@ pub records_same : (m : Lists) (now : ℕ) (ask : Ask) → is_settled m ask ≡ 
 records_same m now ask settled kept = records-by (reads_catalog m ask) m.records (catalog_list m.records.list now ask) (records_clear m ask settled) kept
 
 -- ---- a request that goes to a shard
-
-pub record IsGoing (c : List Record) (count : ℕ) (ask : Ask) (user : User) (k : ℕ) : Type 0 where
-  pub goes : goes_to_part ask.request ≡ true
-  pub found : user_of c ask.caller ≡ Some user
-  pub among : refusal_among c count user ask.request ≡ None
-  pub part : part_of count user ask.request ≡ k
 
 pub goes_free : (c : List Record) (count : ℕ) (ask : Ask) (user : User) (k : ℕ) → IsGoing c count ask user k → first_refusal c user ask.request ≡ None
 goes_free c count ask user k g = free-both (first_refusal c user ask.request) (missing_shard count ask.request) g.among

@@ -1,13 +1,13 @@
 -- The lists of a school: one of them exchanged, and lists that were mended.
-use Rattle.std.proofs.Common.{◌≡◌, ℕ, zero, suc, ◌<◌, Bool, true, false, List, [], ◌∷◌, ◌++◌, Option, Some, None, length, map, refl, sym, ap, ◌∙◌, subst, arith, append_assoc, option_map}
+use Rattle.std.proofs.Common.{◌≡◌, ℕ, zero, suc, ◌<◌, List, [], ◌∷◌, ◌++◌, Option, Some, None, length, refl, sym, ap, ◌∙◌, subst, arith, append_assoc, option_map}
 use Rattle.std.specs.List.{AllZip}
 use Rattle.std.specs.Prelude.{slice_get, slice_set, unwrap_or}
-use Rattle.std.proofs.lemmas.List.{length-map, length-set}
+use Rattle.std.proofs.lemmas.List.{length-map}
 use Rattle.std.proofs.lemmas.List.Elements.{length_all_zip}
 use Rattle.std.proofs.lemmas.Option.{slice_get-map}
 use Rattle.qz_terms.specs.declared.record.Record.{Record}
 use Rattle.qz_terms.specs.SchoolAnswer.{part_at}
-use Rattle.qz_terms.specs.Serial.{AllMended, Held, Lists, Mended, adopted, dropped, held_in, lists_of, part_list, stays, with_list}
+use Rattle.qz_terms.specs.Serial.{AllMended, Held, Lists, Mended, adopted, dropped, lists_of, part_list, stays, with_list}
 use Rattle.qz_serial.proofs.Growing.{Grows, stays_so}
 
 -- ---- one list exchanged

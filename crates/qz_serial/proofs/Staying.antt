@@ -1,16 +1,16 @@
 -- What stands in the lists of a school goes on standing while they grow, and lists grow by all that is asked of them.
-use Rattle.std.proofs.Common.{◌≡◌, ℕ, ◌<◌, Bool, true, false, List, [], ◌∷◌, ◌++◌, Option, Some, None, length, refl, sym, ap, ◌∙◌, subst, option_map}
-use Rattle.std.specs.Prelude.{if◌then◌else◌, is_some, not, ◌||◌, slice_set}
+use Rattle.std.proofs.Common.{◌≡◌, ℕ, Bool, true, false, List, ◌++◌, Option, Some, None, length, refl, sym, ap, subst}
+use Rattle.std.specs.Prelude.{if◌then◌else◌, is_some, not, ◌||◌}
 use Rattle.qz_terms.specs.declared.ask.Ask.{Ask}
 use Rattle.qz_terms.specs.declared.people.User.{User}
 use Rattle.qz_terms.specs.declared.record.Record.{Record}
 use Rattle.qz_terms.specs.declared.reply.Reply.{Reply}
 use Rattle.qz_terms.specs.declared.request.Request.{Request}
 use Rattle.qz_terms.specs.CatalogAnswer.{asks_catalog, catalog_after}
-use Rattle.qz_terms.specs.SchoolAnswer.{catalog_list, first_refusal, part_of, plan_for, shard_list, user_after}
+use Rattle.qz_terms.specs.SchoolAnswer.{catalog_list, first_refusal, part_of, plan_for, shard_list}
 use Rattle.qz_terms.specs.Catalog as catalog
 use Rattle.qz_terms.specs.Laws.{Stands}
-use Rattle.qz_terms.specs.Serial.{Asks, Held, Lists, Turn, answered, doubt_over, doubted, doubted_parts, doubted_records, lists_over, no_memory, part_list, part_read, parts_over, put_in_doubt, reads_catalog, records_over, stayed_in_doubt, with_list}
+use Rattle.qz_terms.specs.Serial.{Asks, Held, Lists, Turn, answered, doubt_over, doubted, doubted_parts, lists_over, no_memory, part_list, part_read, parts_over, put_in_doubt, reads_catalog, stayed_in_doubt, with_list}
 use Rattle.qz_terms.proofs.Standing.{once_law}
 use Rattle.qz_serial.specs.Standing.{StandsIn, StandsInRecords, StandsInShard, in_records, in_shard, own_list}
 use Rattle.qz_serial.proofs.Growing.{Grows, grown_part, grown_records, plan_grown, stays_so}

@@ -1,20 +1,10 @@
 -- A request that puts nothing leaves lists that are settled as they are.
-use Rattle.std.proofs.Common.{◌≡◌, ℕ, zero, suc, Bool, true, false, not, ◌||◌, List, [], ◌∷◌, ◌++◌, Option, Some, None, length, drop, refl, sym, ap, ◌∙◌, subst, option_map, arith}
-use Rattle.std.specs.List.{list_any, range_with_len}
-use Rattle.std.specs.Prelude.{◌==◌, if◌then◌else◌, is_none, is_some, map, option_to_list, slice_get, slice_set, unwrap_or}
-use Rattle.std.proofs.lemmas.Bool.{eq-eqb}
-use Rattle.qz_grading.specs.declared.refusal.Refusal.{Refusal}
+use Rattle.std.proofs.Common.{◌≡◌, ℕ, zero, suc, true, false, ◌||◌, List, [], ◌∷◌, Option, Some, None, length, drop, refl, sym, ap, ◌∙◌}
+use Rattle.std.specs.Prelude.{is_some, slice_get, slice_set, unwrap_or}
 use Rattle.qz_terms.specs.declared.ask.Ask.{Ask}
-use Rattle.qz_terms.specs.declared.people.Caller.{Caller}
-use Rattle.qz_terms.specs.declared.people.Caller.TheVariants as caller
-use Rattle.qz_terms.specs.declared.people.User.{User}
 use Rattle.qz_terms.specs.declared.record.Record.{Record}
-use Rattle.qz_terms.specs.declared.reply.Reply.{Reply}
-use Rattle.qz_terms.specs.declared.request.Request.{Request}
-use Rattle.qz_terms.specs.declared.request.Request.TheVariants as request
 use Rattle.qz_terms.specs.SchoolAnswer.{catalog_list, shard_list}
-use Rattle.qz_terms.specs.Lists.{first_of}
-use Rattle.qz_terms.specs.Serial.{Held, Lists, added, added_to_part, held_in, is_in_doubt, is_settled, lists_over, part_list, part_read, parts_over, puts_record, records_over, route, with_list}
+use Rattle.qz_terms.specs.Serial.{Held, Lists, added, added_to_part, is_in_doubt, is_settled, lists_over, part_list, part_read, parts_over, puts_record, with_list}
 use Rattle.qz_serial.proofs.Over.{records_same}
 use Rattle.qz_serial.proofs.Seats.{list_at, same_held, set_same}
 

@@ -3,3 +3,4 @@ pub mod Repeating
 pub mod Standing
 pub mod Calls
 pub mod Once
+pub mod Paths

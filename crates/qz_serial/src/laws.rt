@@ -2,6 +2,7 @@
 
 ghost use Rattle.qz_serial.specs.Calls.{RepliesCompose};
 ghost use Rattle.qz_serial.specs.Once.{ActsOnceInLists};
+ghost use Rattle.qz_serial.specs.Paths.{TokensAsk};
 ghost use Rattle.qz_serial.specs.Repeating.{CatalogActsOnce};
 ghost use Rattle.qz_serial.specs.Staying.{StaysThere};
 
@@ -26,4 +27,10 @@ pub fn replies_compose<F>()
 /// and asked again it has the reply that it had and adds nothing, whatever is mended between.
 pub fn acts_once_in_lists<F>()
     ensures { ActsOnceInLists F }
+{}
+
+/// What the calls at single lists for a user with a token come to, is what the request may come to: the catalogue is mended first and
+/// finds the user; then it answers alone, or refuses; or one shard is mended and answers.
+pub fn tokens_ask<F>()
+    ensures { TokensAsk F }
 {}
