@@ -27,13 +27,13 @@ use Rattle.std.proofs.lemmas.Nat.{mod_below}
 use Rattle.qz_terms.specs.Serial.{AllMended, Asks, Held, Lists, Turn, answered, goes_on, is_catalog, is_in_doubt, is_report, is_settled, lists_of, lists_over, no_memory, part_list, part_read, put_in_doubt, puts_record, reads_catalog, records_over, reply_over, route, shards_asked, stayed_in_doubt, with_list}
 use Rattle.qz_terms.proofs.Standing.{once_law}
 use Rattle.qz_serial.specs.Once.{ActsOnceInLists, AskedOnce, IsSaidAgain, same, unkept, unsaid}
-use Rattle.qz_serial.specs.Paths.{IsGoing, goes_to_part}
+use Rattle.qz_serial.specs.Paths.{IsGoing, goes_to_part, with_part}
 use Rattle.qz_serial.specs.Repeating.{StandsInCatalog}
 use Rattle.qz_serial.specs.Standing.{StandsIn, StandsInRecords, StandsInShard, in_records, in_shard, own_list}
 use Rattle.qz_serial.proofs.Answering.{answered-free, free-both, has_no_key, keyed-by, plan_meant, planless-answer, recorded-by, same-answer, same-list}
 use Rattle.qz_serial.proofs.Growing.{grown_part, grown_records, no-verdict, plan_grown}
 use Rattle.qz_serial.proofs.Longer.{staying_law}
-use Rattle.qz_serial.proofs.Over.{goes_other, over_part, part_read_is, records_kept, refused_said, said_by, said_part, unknown_said, with_part}
+use Rattle.qz_serial.proofs.Over.{goes_other, over_part, part_read_is, records_kept, refused_said, said_by, said_part, unknown_said}
 use Rattle.qz_serial.proofs.Repeating.{repeating_law}
 use Rattle.qz_serial.proofs.Seats.{at_here, mending_grows, set_get, within_there}
 use Rattle.qz_serial.proofs.Staying.{asks_grow, stands_grown}

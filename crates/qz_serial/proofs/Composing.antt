@@ -6,7 +6,7 @@ use Rattle.qz_terms.specs.declared.record.Record.{Record}
 use Rattle.qz_terms.specs.declared.reply.Reply.TheVariants as reply
 use Rattle.qz_terms.specs.Serial.{Held, Mended, adopted, dropped, stays}
 use Rattle.qz_keeper.specs.Lists.{CallEnds, IsSettled, Looks, OneCall, answered, no_memory, put_in_doubt, stayed_in_doubt}
-use Rattle.qz_serial.specs.Calls.{CallsCompose, CatalogAnswers, LookEnds, LooksAreCalls, LooksCompose, RepliesCompose, ShardAnswers, looked, unlooked, unread}
+use Rattle.qz_serial.specs.Calls.{CallsCompose, CallsMean, CatalogAnswers, LookEnds, LooksAreCalls, LooksCompose, RepliesCompose, ShardAnswers, looked, unlooked, unread}
 
 -- ---- a list that needs no mending
 
@@ -59,8 +59,8 @@ pub after_settled : {A : Type 0} (failed : Type 0) (refused : Refusal → A) (An
 after_settled failed refused Answers old mid new told settled call = record { mended = mid; mends = settled.mends; ends = settled_call failed refused Answers mid new told settled.no_doubt call }
 
 look_alone : {A B : Type 0} (failed : Type 0) (refused : Refusal → A) (Says : List Record → A → Type 0) (also : Refusal → B) (Answers : List Record → B → List Record → Type 0) (old new : Held) (told : A) (said : B)
-    → LookEnds failed refused Says old new told → ((h : List Record) → Says h told → Answers h said h) → ((r : Refusal) → told ≡ refused r → said ≡ also r) → OneCall failed also Answers old new said
-look_alone failed refused Says also Answers old new told said (looked settled says) whole same = record { mended = new; mends = settled.mends; ends = answered settled.no_doubt settled.no_doubt (whole new.list says) }
+    → LookEnds failed refused Says old new told → (Says new.list told → Answers new.list said new.list) → ((r : Refusal) → told ≡ refused r → said ≡ also r) → OneCall failed also Answers old new said
+look_alone failed refused Says also Answers old new told said (looked settled says) whole same = record { mended = new; mends = settled.mends; ends = answered settled.no_doubt settled.no_doubt (whole says) }
 look_alone failed refused Says also Answers old new told said (unread why mends doubt is) whole same = record { mended = new; mends = mends; ends = stayed_in_doubt why doubt refl (same refusal.KeepFault is) }
 look_alone failed refused Says also Answers old new told said (unlooked mends is) whole same = record { mended = new; mends = mends; ends = no_memory refl (same refusal.Memory is) }
 
@@ -92,4 +92,23 @@ pub replies_compose : (failed : Type 0) → RepliesCompose failed
 replies_compose failed = record {
   records = λ now user ask. calls_compose failed reply.Refused (CatalogAnswers now user ask);
   shard = λ c now user ask. calls_compose failed reply.Refused (ShardAnswers c now user ask);
+}
+
+-- ---- other answers
+
+pub ends_mean : {A : Type 0} (failed worse : Type 0) (refused : Refusal → A) (Answers Others : List Record → A → List Record → Type 0) (m new : Held) (told : A)
+    → (failed → worse) → ((t : A) (g : List Record) → Answers m.list t g → Others m.list t g) → CallEnds failed refused Answers m new told → CallEnds worse refused Others m new told
+ends_mean failed worse refused Answers Others m new told to each (answered was clear is) = answered was clear (each told new.list is)
+ends_mean failed worse refused Answers Others m new told to each (put_in_doubt why answer r was is new_is said) = put_in_doubt (to why) answer r was (each answer (m.list ++ r ∷ []) is) new_is said
+ends_mean failed worse refused Answers Others m new told to each (stayed_in_doubt why doubt is said) = stayed_in_doubt (to why) doubt is said
+ends_mean failed worse refused Answers Others m new told to each (no_memory is said) = no_memory is said
+
+pub calls_mean : {A : Type 0} (failed worse : Type 0) (refused : Refusal → A) (Answers Others : List Record → A → List Record → Type 0) → CallsMean failed worse refused Answers Others
+calls_mean failed worse refused Answers Others = record {
+  each = λ old new told to all call. record { mended = call.mended; mends = call.mends; ends = ends_mean failed worse refused Answers Others call.mended new told to (all call.mended.list) call.ends };
+  after = λ old mid new told to settled here call. record {
+    mended = mid;
+    mends = settled.mends;
+    ends = ends_mean failed worse refused Answers Others mid new told to here (settled_call failed refused Answers mid new told settled.no_doubt call);
+  };
 }

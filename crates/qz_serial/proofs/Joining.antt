@@ -16,12 +16,12 @@ use Rattle.qz_terms.specs.Lists.{up_to_first}
 use Rattle.qz_terms.specs.Serial.{AllMended, Asks, Held, KeepsUnread, Lists, Mended, Turn, added, answered, doubt_over, doubted, doubted_records, is_catalog, is_in_doubt, is_part, is_settled, lists_of, lists_over, no_memory, part_list, part_read, put_in_doubt, puts_record, reads_catalog, reads_part, reply_over, route, stayed_in_doubt, with_list}
 use Rattle.qz_keeper.specs.Lists.{CallEnds, OneCall, answered as call_answered, no_memory as call_wanting, put_in_doubt as call_doubted, stayed_in_doubt as call_stayed}
 use Rattle.qz_serial.specs.Calls.{CatalogAnswers, ShardAnswers}
-use Rattle.qz_serial.specs.Paths.{IsGoing, with_both, with_records}
+use Rattle.qz_serial.specs.Paths.{IsGoing, with_both, with_part, with_records}
 use Rattle.qz_serial.specs.Standing.{is_keep_fault}
 use Rattle.qz_serial.proofs.Acting.{no_part}
 use Rattle.qz_serial.proofs.Growing.{own_reply}
 use Rattle.qz_serial.proofs.Answering.{recorded-by}
-use Rattle.qz_serial.proofs.Over.{goes_other, over_part, part_read_is, records_clear, records_kept, said_by, said_part, with_part}
+use Rattle.qz_serial.proofs.Over.{goes_other, over_part, part_read_is, records_clear, records_kept, said_by, said_part}
 use Rattle.qz_serial.proofs.Seats.{all_stay, at_here, same_held, set_apart, set_get, set_mended, set_twice}
 use Rattle.qz_serial.proofs.Still.{IsPartClear, PutsNothing, still_over}
 
@@ -33,7 +33,7 @@ pub record IsRead (m : Lists) (ask : Ask) (k : ℕ) (h : Held) : Type 0 where
   pub doubted : is_some h.doubt ≡ true → is_settled m ask ≡ false
   pub read : reads_part m ask k ≡ true
 
-not-true : (b : Bool) → b ≡ true → b ≡ false → ⊥
+pub not-true : (b : Bool) → b ≡ true → b ≡ false → ⊥
 not-true b one other = cc
 
 pub both_mended : (a : Lists) (m g h : Held) (k : ℕ) → Mended a.records m → slice_get a.parts k ≡ Some g → Mended g h → AllMended a (with_both a m k h)
@@ -119,17 +119,15 @@ part-turn failed a m h new k now ask user told s reads (call_wanting is said) =
     subst (λ (g : Held). Turn l (with_both a m k g) now ask told) (sym is) (subst (λ (r : Reply). Turn l l now ask r) (sym said) (no_memory l now ask))
 
 -- A call at a part comes to this in the lists.
-pub part_asks : (failed : Type 0) (a : Lists) (m g new : Held) (k now : ℕ) (ask : Ask) (user : User) (told : Reply) → Mended a.records m → slice_get a.parts k ≡ Some g → IsGoing m.list (length a.parts) ask user k
-    → ((h : Held) → Mended g h → IsRead (with_both a m k h) ask k h) → ((h : Held) → reads_catalog (with_both a m k h) ask ≡ false → m ≡ a.records) → OneCall failed reply.Refused (ShardAnswers m.list now user ask) g new told
-    → Asks a (with_both a m k new) now ask told
-part_asks failed a m g new k now ask user told mends is going reads unread call =
+pub part_asks : (failed : Type 0) (a : Lists) (m g new : Held) (k now : ℕ) (ask : Ask) (user : User) (told : Reply) (call : OneCall failed reply.Refused (ShardAnswers m.list now user ask) g new told) → Mended a.records m → slice_get a.parts k ≡ Some g
+    → IsGoing m.list (length a.parts) ask user k → IsRead (with_both a m k call.mended) ask k call.mended → (reads_catalog (with_both a m k call.mended) ask ≡ false → m ≡ a.records) → Asks a (with_both a m k new) now ask told
+part_asks failed a m g new k now ask user told call mends is going reads unread =
     let h = call.mended in
-    let r = reads h call.mends in
     record {
       mended = with_both a m k h;
       mends = both_mended a m g h k mends is call.mends;
-      keeps = both_keep a m h k ask (unread h) r.read;
-      turn = part-turn failed a m h new k now ask user told (seat a m g h k now ask user is going) r call.ends;
+      keeps = both_keep a m h k ask unread reads.read;
+      turn = part-turn failed a m h new k now ask user told (seat a m g h k now ask user is going) reads call.ends;
     }
 
 -- ---- a request that puts nothing
@@ -164,10 +162,10 @@ not-alone : (b : Bool) → not (b || false) ≡ not b
 not-alone true = refl
 not-alone false = refl
 
-none-is : {A : Type 0} (o : Option A) → o ≡ None → not (is_some o) ≡ true
+pub none-is : {A : Type 0} (o : Option A) → o ≡ None → not (is_some o) ≡ true
 none-is o none = rw none refl
 
-some-is : {A : Type 0} (o : Option A) → is_some o ≡ true → not (is_some o) ≡ false
+pub some-is : {A : Type 0} (o : Option A) → is_some o ≡ true → not (is_some o) ≡ false
 some-is o some = rw some refl
 
 -- where the catalogue alone is read
@@ -284,3 +282,50 @@ behind_read l ask k h ways clear is =
     let p = is_in_doubt l in
     read-by l ask k h (ap (λ (w : List (Option ℕ)). not (list_any p w)) ways ∙ behind-way p k (is_some h.doubt) clear (part-doubt l k h is))
     (ap (λ (w : List (Option ℕ)). list_any (is_part k) (up_to_first p w)) ways ∙ behind-found p k (is_some h.doubt) clear (part-doubt l k h is))
+
+-- the part alone, or first
+first-found : (p : Option ℕ → Bool) (k : ℕ) (rest : List (Option ℕ)) (b : Bool) → p (Some k) ≡ b → list_any (is_part k) (up_to_first p (Some k ∷ rest)) ≡ true
+first-found p k rest true is = rw (is, same-number k) refl
+first-found p k rest false is = rw (is, same-number k) refl
+
+pub first_found : (l : Lists) (ask : Ask) (k : ℕ) (rest : List (Option ℕ)) → route l ask ask.caller ≡ Some k ∷ rest → reads_part l ask k ≡ true
+first_found l ask k rest ways = ap (λ (w : List (Option ℕ)). list_any (is_part k) (up_to_first (is_in_doubt l) w)) ways ∙ first-found (is_in_doubt l) k rest (is_in_doubt l (Some k)) refl
+
+pub alone_read : (l : Lists) (ask : Ask) (k : ℕ) (h : Held) → route l ask ask.caller ≡ Some k ∷ [] → slice_get l.parts k ≡ Some h → IsRead l ask k h
+alone_read l ask k h ways is =
+    read-by l ask k h (ap (λ (w : List (Option ℕ)). not (list_any (is_in_doubt l) w)) ways ∙ ap (λ b. not (b || false)) (part-doubt l k h is) ∙ not-alone (is_some h.doubt)) (first_found l ask k [] ways)
+
+some-none : {A : Type 0} (o : Option A) → is_some o ≡ true → o ≡ None → ⊥
+some-none None some none = absurd cc
+some-none (Some x) some none = absurd cc
+
+-- the part stays in doubt
+pub doubted_read : (l : Lists) (ask : Ask) (k : ℕ) (h : Held) (rest : List (Option ℕ)) → route l ask ask.caller ≡ Some k ∷ rest → slice_get l.parts k ≡ Some h → is_some h.doubt ≡ true → IsRead l ask k h
+doubted_read l ask k h rest ways is doubt =
+    let here : is_in_doubt l (Some k) ≡ true = part-doubt l k h is ∙ doubt in
+    record {
+      settled = λ none. absurd (some-none h.doubt doubt none);
+      doubted = λ some. ap (λ (w : List (Option ℕ)). not (list_any (is_in_doubt l) w)) ways ∙ ap (λ b. not (b || list_any (is_in_doubt l) rest)) here;
+      read = first_found l ask k rest ways;
+    }
+
+-- the part first, and then the catalogue
+before-way : (p : Option ℕ → Bool) (k : ℕ) (b : Bool) → p (Some k) ≡ false → p None ≡ b → not (list_any p (Some k ∷ None ∷ [])) ≡ not b
+before-way p k b is none = rw (is, none) (not-alone b)
+
+before-found : (p : Option ℕ → Bool) (k : ℕ) (b : Bool) → p (Some k) ≡ false → p None ≡ b → list_any is_catalog (up_to_first p (Some k ∷ None ∷ [])) ≡ true
+before-found p k true is none = rw (is, none) refl
+before-found p k false is none = rw (is, none) refl
+
+pub before_way : (l : Lists) (ask : Ask) (k : ℕ) (h : Held) → route l ask ask.caller ≡ Some k ∷ None ∷ [] → slice_get l.parts k ≡ Some h → h.doubt ≡ None → is_settled l ask ≡ not (is_some l.records.doubt)
+before_way l ask k h ways is clear = ap (λ (w : List (Option ℕ)). not (list_any (is_in_doubt l) w)) ways ∙ before-way (is_in_doubt l) k (is_some l.records.doubt) (part-doubt l k h is ∙ ap is_some clear) refl
+
+pub before_found : (l : Lists) (ask : Ask) (k : ℕ) (h : Held) → route l ask ask.caller ≡ Some k ∷ None ∷ [] → slice_get l.parts k ≡ Some h → h.doubt ≡ None → reads_catalog l ask ≡ true
+before_found l ask k h ways is clear = ap (λ (w : List (Option ℕ)). list_any is_catalog (up_to_first (is_in_doubt l) w)) ways ∙ before-found (is_in_doubt l) k (is_some l.records.doubt) (part-doubt l k h is ∙ ap is_some clear) refl
+
+pub before_read : (l : Lists) (ask : Ask) (k : ℕ) (h : Held) → route l ask ask.caller ≡ Some k ∷ None ∷ [] → slice_get l.parts k ≡ Some h → h.doubt ≡ None → l.records.doubt ≡ None → IsRead l ask k h
+before_read l ask k h ways is clear none = record {
+  settled = λ same. before_way l ask k h ways is clear ∙ none-is l.records.doubt none;
+  doubted = λ some. absurd (some-none h.doubt some clear);
+  read = first_found l ask k (None ∷ []) ways;
+}

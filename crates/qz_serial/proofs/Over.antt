@@ -14,7 +14,7 @@ use Rattle.qz_terms.specs.Catalog.{user_of}
 use Rattle.qz_terms.specs.Cause.{missing_shard}
 use Rattle.qz_terms.specs.Lists.{up_to_first}
 use Rattle.qz_terms.specs.Serial.{Held, Lists, goes_on, is_catalog, is_in_doubt, is_report, is_settled, lists_of, lists_over, part_list, part_read, reads_catalog, records_over, reply_over, route, with_list}
-use Rattle.qz_serial.specs.Paths.{IsGoing}
+use Rattle.qz_serial.specs.Paths.{IsGoing, with_part}
 use Rattle.qz_serial.proofs.Answering.{answered-among, answered-free, both-parts, free-both}
 use Rattle.qz_serial.proofs.Seats.{count_parts, parts_at, same_held}
 
@@ -83,10 +83,6 @@ part_read_is m ask user k g =
 
 shard-is : (c h : List Record) (now : ℕ) (ask : Ask) (user : User) → user_of c ask.caller ≡ Some user → shard_list c h now ask ≡ user_after c h now ask user
 shard-is c h now ask user found = rw found refl
-
--- the lists with what is put into one part
-abbrev pub with_part : Lists → ℕ → Held → Lists
-with_part m k h = record { records = m.records; parts = slice_set m.parts k h }
 
 pub over_part : (m : Lists) (now : ℕ) (ask : Ask) (user : User) (k : ℕ) → is_settled m ask ≡ true → IsGoing m.records.list (length m.parts) ask user k
     → lists_over m now ask ≡ with_part m k (with_list (user_after m.records.list (part_list m k) now ask user))

@@ -176,8 +176,8 @@ shard-path : (failed : Type 0) (a : Lists) (m held new : Held) (k now : ℕ) (as
     → slice_get a.parts k ≡ Some held → OneCall failed reply.Refused (ShardAnswers m.list now user ask) held new told → AskedOnce failed a (with_both a m k new) now ask told
 shard-path failed a m held new k now ask user told askable known going is call =
     asked_once failed a (with_both a m k new) now ask told askable.shards askable.keyed
-    (part_asks failed a m held new k now ask user told known.settled.mends is going (λ h mends. token-read a m held h k ask user known going is)
-      (λ h skips. let wrong : true ≡ false = sym (token_reads (with_both a m k h) ask known.token known.caller_is) ∙ skips in absurd cc) call)
+    (part_asks failed a m held new k now ask user told call known.settled.mends is going (token-read a m held call.mended k ask user known going is)
+      (λ skips. let wrong : true ≡ false = sym (token_reads (with_both a m k call.mended) ask known.token known.caller_is) ∙ skips in absurd cc))
     (part_cause failed a m held new k now ask user told is going call)
 
 pub tokens_law : (failed : Type 0) → TokensAsk failed

@@ -49,8 +49,14 @@ pub record LooksCompose {A : Type 0} (failed : Type 0) (refused : Refusal → A)
 
 -- A look behind which no other call comes is the whole call, where what was looked up says so.
 pub record LooksAreCalls {A B : Type 0} (failed : Type 0) (refused : Refusal → A) (Says : List Record → A → Type 0) (also : Refusal → B) (Answers : List Record → B → List Record → Type 0) : Type 0 where
-  pub alone : (old new : Held) (told : A) (said : B) → LookEnds failed refused Says old new told → ((h : List Record) → Says h told → Answers h said h) → ((r : Refusal) → told ≡ refused r → said ≡ also r)
+  pub alone : (old new : Held) (told : A) (said : B) → LookEnds failed refused Says old new told → (Says new.list told → Answers new.list said new.list) → ((r : Refusal) → told ≡ refused r → said ≡ also r)
       → OneCall failed also Answers old new said
+
+-- A call with some answers is one with others that these mean, and so is one for a worse cause.
+pub record CallsMean {A : Type 0} (failed worse : Type 0) (refused : Refusal → A) (Answers Others : List Record → A → List Record → Type 0) : Type 0 where
+  pub each : (old new : Held) (told : A) → (failed → worse) → ((h : List Record) (t : A) (g : List Record) → Answers h t g → Others h t g) → OneCall failed refused Answers old new told → OneCall worse refused Others old new told
+  -- behind another call, where they mean so over the mended list
+  pub after : (old mid new : Held) (told : A) → (failed → worse) → IsSettled old mid → ((t : A) (g : List Record) → Answers mid.list t g → Others mid.list t g) → OneCall failed refused Answers mid new told → OneCall worse refused Others old new told
 
 -- The calls of a school at its catalogue and at its shards compose.
 pub record RepliesCompose (failed : Type 0) : Type 0 where

@@ -4,3 +4,4 @@ pub mod Standing
 pub mod Calls
 pub mod Once
 pub mod Paths
+pub mod Workers

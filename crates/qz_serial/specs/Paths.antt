@@ -24,6 +24,10 @@ use Rattle.qz_serial.specs.Once.{AskedOnce}
 abbrev pub with_records : Lists → Held → Lists
 with_records a h = record { records = h; parts = a.parts }
 
+-- with another list of this shard
+abbrev pub with_part : Lists → ℕ → Held → Lists
+with_part a k g = record { records = a.records; parts = slice_set a.parts k g }
+
 -- with another catalogue, and another list of this shard
 abbrev pub with_both : Lists → Held → ℕ → Held → Lists
 with_both a h k g = record { records = h; parts = slice_set a.parts k g }
