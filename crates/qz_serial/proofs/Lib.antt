@@ -13,3 +13,4 @@ pub mod Still
 pub mod Acting
 pub mod Joining
 pub mod Tokens
+pub mod Workers

@@ -125,8 +125,8 @@ user-by failed a m now ask token (Err r) askable who (unlooked mends is) =
 
 -- ---- a request to the catalogue
 
-own-records : (a : Lists) (c : List Record) (now : ℕ) (ask : Ask) (user : User) (told : Reply) (g : List Record) → asks_catalog ask.request ≡ true → user_of c ask.caller ≡ Some user → CatalogAnswers now user ask c told g → is_keep_fault told ≡ false
-own-records a c now ask user told g of_catalog found both =
+pub own_records : (a : Lists) (c : List Record) (now : ℕ) (ask : Ask) (user : User) (told : Reply) (g : List Record) → asks_catalog ask.request ≡ true → user_of c ask.caller ≡ Some user → CatalogAnswers now user ask c told g → is_keep_fault told ≡ false
+own_records a c now ask user told g of_catalog found both =
     let l = with_records a (Rattle.qz_terms.specs.Serial.with_list c) in
     let r = recorded-by c (lists_of a.parts) now user ask (first_refusal c user ask.request) refl of_catalog found in
     own_reply l now ask told (said_by l now ask user found ∙ r.answer ∙ sym both.0)
@@ -142,12 +142,12 @@ records-path : (failed : Type 0) (a : Lists) (m new : Held) (now : ℕ) (ask : A
     → OneCall failed reply.Refused (CatalogAnswers now user ask) m new told → AskedOnce failed a (with_records a new) now ask told
 records-path failed a m new now ask user told askable known of_catalog call =
     let ends = settled_call failed reply.Refused (CatalogAnswers now user ask) m new told known.settled.no_doubt call in
-    records-asks failed a m new now ask user told askable known of_catalog ends (call_cause failed (CatalogAnswers now user ask) m new told (λ g is. own-records a m.list now ask user told g of_catalog known.found is) ends)
+    records-asks failed a m new now ask user told askable known of_catalog ends (call_cause failed (CatalogAnswers now user ask) m new told (λ g is. own_records a m.list now ask user told g of_catalog known.found is) ends)
 
 -- ---- what is refused, and where memory was wanting
 
-refused-own : (m : Lists) (now : ℕ) (ask : Ask) (user : User) (r : Refusal) → user_of m.records.list ask.caller ≡ Some user → refusal_among m.records.list (length m.parts) user ask.request ≡ Some r → reply.Refused r ≡ reply.Refused refusal.KeepFault → ⊥
-refused-own m now ask user r found refused fault = not-own (reply.Refused r) (own_reply m now ask (reply.Refused r) (refused_said m now ask user r found refused)) fault
+pub refused_own : (m : Lists) (now : ℕ) (ask : Ask) (user : User) (r : Refusal) → user_of m.records.list ask.caller ≡ Some user → refusal_among m.records.list (length m.parts) user ask.request ≡ Some r → reply.Refused r ≡ reply.Refused refusal.KeepFault → ⊥
+refused_own m now ask user r found refused fault = not-own (reply.Refused r) (own_reply m now ask (reply.Refused r) (refused_said m now ask user r found refused)) fault
 
 refused-path : (failed : Type 0) (a : Lists) (m : Held) (now : ℕ) (ask : Ask) (user : User) (r : Refusal) → IsAskable a ask → IsKnown a m ask user → asks_catalog ask.request ≡ false
     → refusal_among m.list (length a.parts) user ask.request ≡ Some r → AskedOnce failed a (with_records a m) now ask (reply.Refused r)
@@ -155,7 +155,7 @@ refused-path failed a m now ask user r askable known other refused =
     let l = with_records a m in
     asked_once failed a l now ask (reply.Refused r) askable.shards askable.keyed
     (ended-asks a m now ask known.token r known.caller_is known.settled (refused_ends l ask user r known.found refused) (records_kept m.list now ask other) (refused_said l now ask user r known.found refused))
-    (λ fault. absurd (refused-own l now ask user r known.found refused fault))
+    (λ fault. absurd (refused_own l now ask user r known.found refused fault))
 
 wanting-path : (failed : Type 0) (a : Lists) (m : Held) (now : ℕ) (ask : Ask) (user : User) → IsAskable a ask → IsKnown a m ask user → AskedOnce failed a (with_records a m) now ask (reply.Refused refusal.Memory)
 wanting-path failed a m now ask user askable known =

@@ -5,6 +5,7 @@ ghost use Rattle.qz_serial.specs.Once.{ActsOnceInLists};
 ghost use Rattle.qz_serial.specs.Paths.{TokensAsk};
 ghost use Rattle.qz_serial.specs.Repeating.{CatalogActsOnce};
 ghost use Rattle.qz_serial.specs.Staying.{StaysThere};
+ghost use Rattle.qz_serial.specs.Workers.{WorkersAsk};
 
 /// What stands in a catalogue stands there whatever comes behind it: users, groups, entries, versions, quizzes, slots, jobs, and that a
 /// quiz is ready. A request that names nothing that is missing goes on naming nothing that is missing.
@@ -33,4 +34,10 @@ pub fn acts_once_in_lists<F>()
 /// finds the user; then it answers alone, or refuses; or one shard is mended and answers.
 pub fn tokens_ask<F>()
     ensures { TokensAsk F }
+{}
+
+/// What the calls at single lists for a worker come to, is what the request may come to: what a worker may not ask reads nothing, the
+/// catalogue alone tells the jobs, a shard alone where attempts go on, and a step of a job is the catalogue's first.
+pub fn workers_ask<F>()
+    ensures { WorkersAsk F }
 {}
