@@ -14,3 +14,4 @@ pub mod Acting
 pub mod Joining
 pub mod Tokens
 pub mod Workers
+pub mod Settling

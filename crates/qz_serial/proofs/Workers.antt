@@ -181,10 +181,10 @@ work-refused failed a m now ask number shard r w settled refused =
       (ended_nothing l now ask ended (records_kept m.list now ask (ap asks_catalog w.request_is))) (refused_said l now ask worker r found refused))
     (λ fault. absurd (refused_own l now ask worker r found refused fault))
 
-err-ok : {A : Type 0} (x : A) (r : Refusal) → ◌≡◌ {A = Result A Refusal} (Ok x) (Err r) → ⊥
+pub err-ok : {A : Type 0} (x : A) (r : Refusal) → ◌≡◌ {A = Result A Refusal} (Ok x) (Err r) → ⊥
 err-ok x r same = cc
 
-err-is : {A : Type 0} (r s : Refusal) → ◌≡◌ {A = Result A Refusal} (Err r) (Err s) → r ≡ s
+pub err-is : {A : Type 0} (r s : Refusal) → ◌≡◌ {A = Result A Refusal} (Err r) (Err s) → r ≡ s
 err-is r s same = cc
 
 missing-first : (c : List Record) (n : ℕ) (ask : Ask) (number shard : ℕ) (r : Refusal) → ask.request ≡ request.Work number shard → missing_in c ask.request ≡ Some r → refusal_among c n worker ask.request ≡ Some r

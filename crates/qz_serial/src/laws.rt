@@ -5,7 +5,7 @@ ghost use Rattle.qz_serial.specs.Once.{ActsOnceInLists};
 ghost use Rattle.qz_serial.specs.Paths.{TokensAsk};
 ghost use Rattle.qz_serial.specs.Repeating.{CatalogActsOnce};
 ghost use Rattle.qz_serial.specs.Staying.{StaysThere};
-ghost use Rattle.qz_serial.specs.Workers.{WorkersAsk};
+ghost use Rattle.qz_serial.specs.Workers.{WorkersAsk, WorkersSettle};
 
 /// What stands in a catalogue stands there whatever comes behind it: users, groups, entries, versions, quizzes, slots, jobs, and that a
 /// quiz is ready. A request that names nothing that is missing goes on naming nothing that is missing.
@@ -40,4 +40,10 @@ pub fn tokens_ask<F>()
 /// catalogue alone tells the jobs, a shard alone where attempts go on, and a step of a job is the catalogue's first.
 pub fn workers_ask<F>()
     ensures { WorkersAsk F }
+{}
+
+/// What the calls at single lists for a worker's settling come to, is what the request may come to: the attempt's shard is mended first,
+/// the catalogue where the attempt is there, and then the shard answers.
+pub fn workers_settle<F>()
+    ensures { WorkersSettle F }
 {}
