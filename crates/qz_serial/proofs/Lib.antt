@@ -15,3 +15,4 @@ pub mod Joining
 pub mod Tokens
 pub mod Workers
 pub mod Settling
+pub mod Reports

@@ -73,11 +73,7 @@ some-started (Some s) q is = refl
 -- an attempt that isn't there is said to be unknown, and nothing is put
 absent-answer : (c h : List Record) (now : ℕ) (ask : Ask) (attempt : AttemptId) → ask.request ≡ request.Settle attempt → history.quiz h attempt ≡ None → (user_answer c h now ask worker ≡ reply.Refused (refusal.Unknown thing.Attempt)) × (user_after c h now ask worker ≡ h)
 absent-answer c h now ask attempt is none =
-    let planless : plan_for c h worker ask.request ≡ None = ap (plan_for c h worker) is ∙ rw none refl in
     (rw (is, none) refl, rw (is, none) refl)
-
-keeps-same : (a : Lists) (m : Held) → m ≡ m
-keeps-same a m = refl
 
 quiz-by : (failed : Type 0) (a : Lists) (held mid : Held) (now : ℕ) (ask : Ask) (attempt : AttemptId) (told : Result ℕ Refusal) → IsWorkers a ask (request.Settle attempt) → slice_get a.parts (attempt.user % length a.parts) ≡ Some held
     → LookEnds failed (λ r. Err r) (FindsQuiz attempt) held mid told

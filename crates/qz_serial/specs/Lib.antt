@@ -5,3 +5,4 @@ pub mod Calls
 pub mod Once
 pub mod Paths
 pub mod Workers
+pub mod Reports

@@ -4,6 +4,7 @@ ghost use Rattle.qz_serial.specs.Calls.{RepliesCompose};
 ghost use Rattle.qz_serial.specs.Once.{ActsOnceInLists};
 ghost use Rattle.qz_serial.specs.Paths.{TokensAsk};
 ghost use Rattle.qz_serial.specs.Repeating.{CatalogActsOnce};
+ghost use Rattle.qz_serial.specs.Reports.{ReportsAsk};
 ghost use Rattle.qz_serial.specs.Staying.{StaysThere};
 ghost use Rattle.qz_serial.specs.Workers.{WorkersAsk, WorkersSettle};
 
@@ -46,4 +47,10 @@ pub fn workers_ask<F>()
 /// the catalogue where the attempt is there, and then the shard answers.
 pub fn workers_settle<F>()
     ensures { WorkersSettle F }
+{}
+
+/// What the calls at the shards for a report come to, one after the other, is what the report may come to: each shard is mended and tells
+/// its rows, and the first that doesn't ends it.
+pub fn reports_ask<F>()
+    ensures { ReportsAsk F }
 {}
