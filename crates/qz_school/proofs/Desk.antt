@@ -1,8 +1,7 @@
 -- How the lists of a school answer a request.
-use Rattle.std.proofs.Common.{◌≡◌, ◌⊎◌, inl, inr, ℕ, ◌<◌, Bool, true, false, not, ◌&&◌, List, [], ◌∷◌, ◌++◌, Option, Some, None, length, option_map, refl, sym, ap, ◌∙◌, subst, eq-eqb}
-use Rattle.std.specs.Prelude.{◌==◌, if◌then◌else◌, is_none, is_some, option_and_then, slice_set, unwrap_or}
+use Rattle.std.proofs.Common.{◌≡◌, inl, inr, ℕ, ◌<◌, Bool, true, false, List, [], ◌∷◌, Option, Some, None, length, refl, sym, ap, ◌∙◌, subst}
+use Rattle.std.specs.Prelude.{if◌then◌else◌, is_some, slice_set}
 use Rattle.std.proofs.lemmas.List.{length-set}
-use Rattle.qz_grading.specs.declared.refusal.AttemptId.{AttemptId}
 use Rattle.qz_grading.specs.declared.refusal.Refusal.{Refusal}
 use Rattle.qz_grading.specs.declared.refusal.Refusal.TheVariants as refusal
 use Rattle.qz_grading.specs.declared.refusal.Thing.TheVariants as thing
@@ -15,27 +14,27 @@ use Rattle.qz_terms.specs.declared.reply.Done.{Done}
 use Rattle.qz_terms.specs.declared.reply.Reply.{Reply}
 use Rattle.qz_terms.specs.declared.reply.Reply.TheVariants as reply
 use Rattle.qz_terms.specs.declared.request.Request.{Request}
-use Rattle.qz_terms.specs.declared.request.Request.TheVariants as request
-use Rattle.qz_terms.specs.Answer.{answer_here, attempt_named, list_after}
-use Rattle.qz_terms.specs.CatalogAnswer.{asks_catalog, catalog_after, catalog_answer, catalog_verdict}
-use Rattle.qz_terms.specs.SchoolAnswer.{after_by, answer_among, answer_by, asked_part, catalog_list, first_refusal, part_at, part_of, plan_for, refusal_among, school_answer_by, shard_answer, user_after, user_answer}
+use Rattle.qz_terms.specs.Answer.{list_after}
+use Rattle.qz_terms.specs.CatalogAnswer.{asks_catalog, catalog_after, catalog_answer}
+use Rattle.qz_terms.specs.SchoolAnswer.{answer_among, asked_part, catalog_list, first_refusal, part_of, plan_for, refusal_among, school_answer_by, user_after, user_answer}
 use Rattle.qz_terms.specs.Catalog as catalog
-use Rattle.qz_terms.specs.Cause.{Denied, forbidden, is_keyed, is_keyless, missing_in, missing_shard}
-use Rattle.qz_terms.specs.History as history
-use Rattle.qz_terms.specs.Legal.{is_plan_for}
+use Rattle.qz_terms.specs.Cause.{is_keyed, is_keyless, missing_shard}
 use Rattle.qz_terms.specs.Laws.{Stands}
-use Rattle.qz_terms.specs.Serial.{Asks, Lists, goes_on, is_report, no_memory, part_read, reply_over}
-use Rattle.qz_terms.proofs.Joined.{joined_law}
+use Rattle.qz_terms.specs.Serial.{Asks, goes_on, is_report, no_memory, part_read, reply_over}
 use Rattle.qz_terms.proofs.Standing.{once_law}
 use Rattle.qz_catalog.specs.Applying as records
-use Rattle.qz_school.specs.Asked.{IsAskedOnce, IsSaidAgain, StandsIn, in_records, in_shard, is_keep_fault}
+use Rattle.qz_school.specs.Asked.{IsAskedOnce, IsSaidAgain}
 use Rattle.qz_serial.specs.Repeating.{StandsInCatalog}
 use Rattle.qz_school.specs.Solo.{Tells, settled_lists}
 use Rattle.qz_serial.proofs.Longer.{staying_law}
-use Rattle.qz_school.proofs.Putting.{planned-quiz}
 use Rattle.qz_serial.proofs.Repeating.{repeating_law}
-use Rattle.qz_school.proofs.Settled.{answers_over, catalog-kept, goes-over, lists-read, lists-unread, part-asked, part-set, part-still, said-over, turns, unread-refused, said-unknown}
-use Rattle.qz_school.proofs.Standing.{Grows, PartsGrow, StandsAt, goes_on_standing, grown_part, grown_records, keyless_stands, one_grows, one_user, own_part, own_reply, parts_stay, plan_grown, refused_stands, stands_at, stands_in, stays_so, unknown_stands}
+use Rattle.qz_school.proofs.Settled.{answers_over, lists-read, lists-unread, part-asked, part-set, part-still, said-over, turns, unread-refused}
+use Rattle.qz_school.proofs.Standing.{StandsAt, goes_on_standing, keyless_stands, one_grows, own_part, parts_stay, refused_stands, stands_at, stands_in, unknown_stands}
+use Rattle.qz_serial.proofs.Over.{records_kept}
+use Rattle.qz_serial.proofs.Answering.{answered-among, answered-free, both-parts, free-both, has_no_key, keyed-by, not-ok, plan_meant, planless, planless-answer, recorded-by, same-answer, same-list}
+use Rattle.qz_serial.proofs.Growing.{grown_part, grown_records, one_user, own_reply, plan_grown, stays_so}
+use Rattle.qz_serial.specs.Paths.{goes_to_part}
+use Rattle.qz_serial.specs.Standing.{StandsIn, in_records, in_shard, is_keep_fault}
 
 -- ---- what changes nothing
 
@@ -83,14 +82,14 @@ pub refused_asks : (c : List Record) (ps : List (List Record)) (now : ℕ) (ask 
     → IsAskedOnce (settled_lists c ps) (settled_lists c ps) now ask (reply.Refused r)
 refused_asks c ps now ask user r other found refused =
     let among : refusal_among c (length ps) user ask.request ≡ Some r = among-first (first_refusal c user ask.request) (missing_shard (length ps) ask.request) r refused in
-    refused-once c ps now ask r (catalog-kept c now ask other) (unread-refused c ps ask user r found among) (among-said c ps now ask user r found among) (λ told s. refused_stands c ps ask told user r found refused s)
+    refused-once c ps now ask r (records_kept c now ask other) (unread-refused c ps ask user r found among) (among-said c ps now ask user r found among) (λ told s. refused_stands c ps ask told user r found refused s)
 
 -- the shard that it names isn't there
 pub nowhere_asks : (c : List Record) (ps : List (List Record)) (now : ℕ) (ask : Ask) (user : User) (r : Refusal) → asks_catalog ask.request ≡ false → is_keyless ask.request ≡ true → is_keyed ask ≡ true → catalog.user_of c ask.caller ≡ Some user
     → first_refusal c user ask.request ≡ None → missing_shard (length ps) ask.request ≡ Some r → IsAskedOnce (settled_lists c ps) (settled_lists c ps) now ask (reply.Refused r)
 nowhere_asks c ps now ask user r other keyless keyed found free missing =
     let among : refusal_among c (length ps) user ask.request ≡ Some r = rw (free, missing) refl in
-    refused-once c ps now ask r (catalog-kept c now ask other) (unread-refused c ps ask user r found among) (among-said c ps now ask user r found among) (λ told s. keyless_stands c ps ask told (has_no_key ask keyless keyed) s)
+    refused-once c ps now ask r (records_kept c now ask other) (unread-refused c ps ask user r found among) (among-said c ps now ask user r found among) (λ told s. keyless_stands c ps ask told (has_no_key ask keyless keyed) s)
 
 -- ---- a request to a shard
 

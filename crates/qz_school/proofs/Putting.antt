@@ -3,7 +3,6 @@ use Rattle.std.proofs.Common.{◌≡◌, ℕ, Bool, true, false, ◌||◌, List,
 use Rattle.std.specs.Prelude.{◌==◌, if◌then◌else◌, is_some, not, option_and_then}
 use Rattle.std.proofs.lemmas.Bool.{eqb-true, le-leb}
 use Rattle.std.proofs.lemmas.List.{take-append-drop, take_all}
-use Rattle.qz_grading.specs.declared.outcome.Behaviour.{Behaviour}
 use Rattle.qz_grading.specs.declared.outcome.Moved.{Moved}
 use Rattle.qz_grading.specs.declared.outcome.Moved.TheVariants as moved_as
 use Rattle.qz_grading.specs.declared.refusal.AttemptId.{AttemptId}
@@ -40,6 +39,7 @@ use Rattle.qz_school.proofs.Callers.{caller-placed}
 use Rattle.qz_serial.proofs.Longer.{plan-there, quiz-stays, ready-stays, user-stays}
 use Rattle.qz_serial.proofs.Places.{some-there}
 use Rattle.qz_school.proofs.Slotting.{both-true, start-learns}
+use Rattle.qz_serial.proofs.Plans.{planned-so}
 
 -- ---- what is put under it
 

@@ -1,37 +1,24 @@
 -- What stands in the lists of a school goes on standing as they grow, and is said again.
-use Rattle.std.proofs.Common.{◌≡◌, ℕ, zero, suc, ◌<◌, Bool, true, false, List, [], ◌∷◌, ◌++◌, Option, Some, None, length, map, refl, sym, ap, ◌∙◌, subst, append-nil, arith}
-use Rattle.std.specs.Prelude.{filter_map, is_some, option_and_then, option_map, option_to_list, slice_set}
+use Rattle.std.proofs.Common.{◌≡◌, ℕ, zero, suc, List, [], ◌∷◌, Some, None, length, refl, sym, ◌∙◌, subst}
+use Rattle.std.specs.Prelude.{slice_set}
 use Rattle.std.proofs.lemmas.List.{length-set}
-use Rattle.std.proofs.lemmas.List.Elements.{filter_map-append}
-use Rattle.qz_grading.specs.declared.refusal.AttemptId.{AttemptId}
 use Rattle.qz_grading.specs.declared.refusal.Refusal.{Refusal}
-use Rattle.qz_grading.specs.declared.refusal.Refusal.TheVariants as refusal
 use Rattle.qz_terms.specs.declared.ask.Ask.{Ask}
 use Rattle.qz_terms.specs.declared.people.User.{User}
 use Rattle.qz_terms.specs.declared.plan.Plan.{Plan}
 use Rattle.qz_terms.specs.declared.record.Record.{Record}
 use Rattle.qz_terms.specs.declared.reply.Reply.{Reply}
-use Rattle.qz_terms.specs.declared.reply.Reply.TheVariants as reply
 use Rattle.qz_terms.specs.declared.request.Request.{Request}
-use Rattle.qz_terms.specs.declared.request.Request.TheVariants as request
-use Rattle.qz_terms.specs.Answer.{attempt_named, list_after, list_with, moment_of, put_by_job, put_here}
-use Rattle.qz_terms.specs.CatalogAnswer.{asks_catalog, catalog_after, catalog_verdict, put_in}
-use Rattle.qz_terms.specs.SchoolAnswer.{after_by, first_refusal, part_at, part_of, plan_for, user_after}
+use Rattle.qz_terms.specs.SchoolAnswer.{first_refusal, part_at, part_of, plan_for}
 use Rattle.qz_terms.specs.Catalog as catalog
-use Rattle.qz_terms.specs.Cause.{Denied, Granted, Repeated, Verdict, by_key, verdict_here}
-use Rattle.qz_terms.specs.History as history
-use Rattle.qz_terms.specs.Laws.{Stands, tells_of_outside}
-use Rattle.qz_terms.specs.Lists.{first_of}
-use Rattle.qz_terms.specs.Serial.{Lists, lists_of, part_list, reply_over, with_list}
-use Rattle.qz_terms.proofs.Owning.{owning_law}
-use Rattle.qz_terms.proofs.Readings.{first_of-append}
-use Rattle.qz_terms.proofs.Standing.{once_law}
-use Rattle.qz_school.specs.Asked.{StandsIn, StandsInShard, in_records, in_shard, is_keep_fault, own_list}
+use Rattle.qz_terms.specs.Laws.{Stands}
+use Rattle.qz_terms.specs.Serial.{part_list}
 use Rattle.qz_school.specs.Solo.{settled_lists}
-use Rattle.qz_serial.proofs.Longer.{staying_law}
-use Rattle.qz_serial.proofs.Places.{some-there}
-use Rattle.qz_serial.proofs.Repeating.{repeating_law}
 use Rattle.qz_school.proofs.Settled.{count-settled, part-settled}
+use Rattle.qz_serial.proofs.Seats.{ListsGrow}
+use Rattle.qz_serial.proofs.Staying.{stands_grown}
+use Rattle.qz_serial.proofs.Growing.{some-none, Grows, no-verdict, one_user, stays_so}
+use Rattle.qz_serial.specs.Standing.{StandsIn, StandsInShard, in_records, in_shard, own_list}
 
 -- ---- what stands in a shard
 
@@ -92,32 +79,16 @@ set-grows (p ∷ ps) (suc k) g grows (suc j) = set-grows ps k g grows j
 pub one_grows : (ps : List (List Record)) (k : ℕ) (g : List Record) → Grows (part_at ps k) g → PartsGrow ps (slice_set ps k g)
 one_grows ps k g grows = record { count = length-set ps k g; each = set-grows ps k g grows }
 
--- the part that it goes to has grown
-own-grown : (ps qs : List (List Record)) (user : User) (x : Request) → PartsGrow ps qs → Grows (own_part ps user x) (own_part qs user x)
-own-grown ps qs user x grows = subst (λ (n : ℕ). Grows (own_part ps user x) (part_at qs (part_of n user x))) (sym grows.count) (grows.each (part_of (length ps) user x))
-
-at-grown : (c d : List Record) (ps qs : List (List Record)) (x : Ask) (told : Reply) → Grows c d → PartsGrow ps qs → StandsAt c ps x told → StandsAt d qs x told
-at-grown c d ps qs x told longer grows s =
-    let own = own-grown ps qs s.user x.request grows in
-    let here = plan_grown c (own_part ps s.user x.request) (own_part qs s.user x.request) s.user x.request s.plan own s.planned in
-    let planned = some-there (plan_for (c ++ longer.rest) (own_part qs s.user x.request) s.user x.request) (staying_law.planned c longer.rest (own_part qs s.user x.request) s.user x.request (ap is_some here)) in
-    subst (λ (e : List Record). StandsAt e qs x told) (sym longer.grown) (record {
-      user = s.user;
-      plan = planned.0;
-      known = staying_law.caller c longer.rest x.caller s.user s.known;
-      free = staying_law.free c longer.rest s.user x.request s.free;
-      planned = planned.1;
-      stands = subst (λ (h : List Record). Stands h s.user x told) (sym own.grown) (once_law.stays (own_part ps s.user x.request) own.rest s.user x told s.stands);
-    })
+-- so have the lists of a school
+lists-grow : (c d : List Record) (ps qs : List (List Record)) → Grows c d → PartsGrow ps qs → ListsGrow (settled_lists c ps) (settled_lists d qs)
+lists-grow c d ps qs longer grows = record {
+  records = longer;
+  count = count-settled qs ∙ grows.count ∙ sym (count-settled ps);
+  each = λ k. subst (λ (h : List Record). Grows h (part_list (settled_lists d qs) k)) (sym (part-settled c ps k)) (subst (λ (g : List Record). Grows (part_at ps k) g) (sym (part-settled d qs k)) (grows.each k));
+}
 
 pub goes_on_standing : (c d : List Record) (ps qs : List (List Record)) (x : Ask) (told : Reply) → Grows c d → PartsGrow ps qs → StandsIn (settled_lists c ps) x told → StandsIn (settled_lists d qs) x told
-goes_on_standing c d ps qs x told longer grows (in_shard s) = stands_in d qs x told (at-grown c d ps qs x told longer grows (stands_at c ps x told s))
-goes_on_standing c d ps qs x told longer grows (in_records s) = subst (λ (e : List Record). StandsIn (settled_lists e qs) x told) (sym longer.grown) (in_records (record {
-  user = s.user;
-  known = staying_law.caller c longer.rest x.caller s.user s.known;
-  of_catalog = s.of_catalog;
-  stands = repeating_law.stays c longer.rest s.user x told s.stands;
-}))
+goes_on_standing c d ps qs x told longer grows s = stands_grown (settled_lists c ps) (settled_lists d qs) x told (lists-grow c d ps qs longer grows) s
 
 -- ---- what doesn't stand
 

@@ -1,21 +1,13 @@
 -- What may be asked of a school, what stands in its lists, and how a request is answered that is asked again.
-use Rattle.std.specs.Prelude.{◌≡◌, ◌⊎◌, ℕ, Bool, true, false, is_some, List, length, Some, None}
+use Rattle.std.specs.Prelude.{◌≡◌, ◌⊎◌, ℕ, Bool, true, false, is_some}
 use Rattle.qz_grading.specs.declared.refusal.Refusal.TheVariants as refusal
 use Rattle.qz_terms.specs.declared.ask.Ask.{Ask}
-use Rattle.qz_terms.specs.declared.people.User.{User}
-use Rattle.qz_terms.specs.declared.plan.Plan.{Plan}
-use Rattle.qz_terms.specs.declared.record.Record.{Record}
 use Rattle.qz_terms.specs.declared.reply.Done.{Done}
 use Rattle.qz_terms.specs.declared.reply.Reply.{Reply}
 use Rattle.qz_terms.specs.declared.reply.Reply.TheVariants as reply
-use Rattle.qz_terms.specs.declared.request.Request.{Request}
-use Rattle.qz_terms.specs.CatalogAnswer.{asks_catalog}
-use Rattle.qz_terms.specs.SchoolAnswer.{first_refusal, part_of, plan_for}
-use Rattle.qz_terms.specs.Catalog.{user_of}
 use Rattle.qz_terms.specs.Cause.{is_keyed}
 use Rattle.qz_terms.specs.Kept.{KeepsAsked, asks_described, is_moment}
-use Rattle.qz_terms.specs.Laws.{Stands}
-use Rattle.qz_terms.specs.Serial.{Asks, Lists, part_list}
+use Rattle.qz_terms.specs.Serial.{Asks, Lists}
 use Rattle.qz_serial.specs.Standing.{StandsIn, is_keep_fault}
 
 -- ---- what may be asked

@@ -109,7 +109,7 @@ part-turn failed a m h new k now ask user told s reads (call_doubted why answer 
     let l = with_both a m k h in
     let longer : user_after m.list (part_list l k) now ask user ≡ part_list l k ++ x ∷ [] = ap (λ (g : List Record). user_after m.list g now ask user) s.list ∙ sym both.1 ∙ ap (λ (g : List Record). g ++ x ∷ []) (sym s.list) in
     let over : doubt_over l now ask ≡ with_both a m k new = doubt-part l now ask user k x (reads.settled was) s.going longer ∙ twice a m h _ k
-        ∙ ap (λ (g : Held). with_both a m k g) (ap (λ (g : List Record). let i : Held = record { list = g; doubt = Some x } in i) s.list ∙ sym is) in
+    ∙ ap (λ (g : Held). with_both a m k g) (ap (λ (g : List Record). let i : Held = record { list = g; doubt = Some x } in i) s.list ∙ sym is) in
     subst (λ (b : Lists). Turn l b now ask told) over (subst (λ (r : Reply). Turn l (doubt_over l now ask) now ask r) (sym said) (put_in_doubt l now ask (reads.settled was) (puts-part l now ask user k x s.going longer)))
 part-turn failed a m h new k now ask user told s reads (call_stayed why doubt is said) =
     let l = with_both a m k h in

@@ -9,7 +9,6 @@ use Rattle.std.proofs.lemmas.Option.{slice_get_past, slice_get_within}
 use Rattle.qz_grading.specs.declared.refusal.Refusal.{Refusal}
 use Rattle.qz_grading.specs.declared.refusal.Refusal.TheVariants as refusal
 use Rattle.qz_terms.specs.declared.ask.Ask.{Ask}
-use Rattle.qz_terms.specs.declared.people.Caller.TheVariants as caller
 use Rattle.qz_terms.specs.declared.people.User.{User}
 use Rattle.qz_terms.specs.declared.record.Record.{Record}
 use Rattle.qz_terms.specs.declared.reply.Reply.{Reply}
@@ -20,11 +19,10 @@ use Rattle.qz_terms.specs.CatalogAnswer.{asks_catalog}
 use Rattle.qz_terms.specs.SchoolAnswer.{after_by, answer_among, first_refusal, plan_for, refusal_among, report_answer, school_answer_by, shard_list, user_after}
 use Rattle.qz_terms.specs.Catalog.{user_of}
 use Rattle.qz_terms.specs.Lists.{up_to_first}
-use Rattle.qz_terms.specs.Serial.{AllMended, Asks, Held, KeepsUnread, Lists, Mended, goes_on, is_in_doubt, is_part, is_report, is_settled, lists_of, part_list, part_read, reads_catalog, reads_part, reply_over, route, shards_asked}
-use Rattle.qz_keeper.specs.Lists.{IsSettled, Looks, OneCall}
+use Rattle.qz_terms.specs.Serial.{Asks, Held, KeepsUnread, Lists, Mended, goes_on, is_in_doubt, is_part, is_report, is_settled, lists_of, part_list, reads_catalog, reads_part, reply_over, route, shards_asked}
+use Rattle.qz_keeper.specs.Lists.{IsSettled}
 use Rattle.qz_serial.specs.Calls.{LookEnds, looked, unlooked, unread}
 use Rattle.qz_serial.specs.Once.{AskedOnce}
-use Rattle.qz_serial.specs.Paths.{IsAskable, IsKnown}
 use Rattle.qz_serial.specs.Reports.{IsReporting, MendedUpTo, ReportsAsk, with_parts}
 use Rattle.qz_serial.proofs.Acting.{asked_once, token_reads}
 use Rattle.qz_serial.proofs.Composing.{look_ends}
@@ -32,7 +30,6 @@ use Rattle.qz_serial.proofs.Growing.{own_reply}
 use Rattle.qz_serial.proofs.Joining.{failed_asks, not-memory, not-own, not-true, still_asks, wanting_asks}
 use Rattle.qz_serial.proofs.Over.{goes_there, records_kept, said_by}
 use Rattle.qz_serial.proofs.Seats.{all_stay, count_parts, set_apart, set_get}
-use Rattle.qz_serial.proofs.Still.{PutsNothing}
 use Rattle.qz_serial.proofs.Workers.{err-is, err-ok}
 
 -- ---- the shards in order
@@ -165,6 +162,7 @@ keeps a m parts ask user quiz i w count clear same = record {
   where
     order : (j : ℕ) → (j ≤ i) ⊎ (i + 1 ≤ j)
     order j = at_most_or_above j i
+
     keep-by : (j : ℕ) → (j ≤ i) ⊎ (i + 1 ≤ j) → reads_part (with_parts m parts) ask j ≡ false → slice_get parts j ≡ slice_get a.parts j
     keep-by j (inr over) skips = same j over
     keep-by j (inl low) skips = within-by j (at_most_or_above (length parts) j) low skips
@@ -218,13 +216,13 @@ rows-by failed a m held new parts i now ask user quiz rows (Err r) w u is (unrea
     let l = with_parts m (slice_set parts i new) in
     asked_once failed a l now ask (reply.Refused r) w.askable.shards w.askable.keyed
     (subst (λ (x : Refusal). Asks a l now ask (reply.Refused x)) (sym (err-is {A = List (ℕ × Option ℤ)} r refusal.KeepFault same))
-      (failed_asks a l now ask (record { records = w.known.settled.mends; parts = one-zip i a.parts parts held new u is mends }) (set-keeps a m held new parts i ask user quiz w u is mends) (stays-doubted a m held new parts i ask user quiz w u is mends doubt)))
+    (failed_asks a l now ask (record { records = w.known.settled.mends; parts = one-zip i a.parts parts held new u is mends }) (set-keeps a m held new parts i ask user quiz w u is mends) (stays-doubted a m held new parts i ask user quiz w u is mends doubt)))
     (λ fault. why)
 rows-by failed a m held new parts i now ask user quiz rows (Err r) w u is (unlooked mends same) =
     let l = with_parts m (slice_set parts i new) in
     asked_once failed a l now ask (reply.Refused r) w.askable.shards w.askable.keyed
     (subst (λ (x : Refusal). Asks a l now ask (reply.Refused x)) (sym (err-is {A = List (ℕ × Option ℤ)} r refusal.Memory same))
-      (wanting_asks a l now ask (record { records = w.known.settled.mends; parts = one-zip i a.parts parts held new u is mends }) (set-keeps a m held new parts i ask user quiz w u is mends)))
+    (wanting_asks a l now ask (record { records = w.known.settled.mends; parts = one-zip i a.parts parts held new u is mends }) (set-keeps a m held new parts i ask user quiz w u is mends)))
     (λ fault. absurd (not-memory (reply.Refused r) (ap reply.Refused (err-is {A = List (ℕ × Option ℤ)} r refusal.Memory same)) fault))
 
 wanting-path : (failed : Type 0) (a : Lists) (m : Held) (parts : List Held) (i now : ℕ) (ask : Ask) (user : User) (quiz : ℕ) → IsReporting a m ask user quiz → MendedUpTo i a.parts parts → AskedOnce failed a (with_parts m parts) now ask (reply.Refused refusal.Memory)
@@ -266,7 +264,7 @@ told-path failed a m parts now ask user quiz told w u is =
     let said = reported a m parts now ask user quiz w count ∙ sym is in
     asked_once failed a l now ask told w.askable.shards w.askable.keyed
     (still_asks a l now ask told (record { records = w.known.settled.mends; parts = u.mends }) (mended-keeps a m parts (length a.parts) ask user quiz w u) (ap not (none-of (is_in_doubt l) (route l ask ask.caller) clear)) (λ k read. clear (Some k))
-      (record { records = records_kept m.list now ask (ap asks_catalog w.request_is); part = λ k read. report-puts m.list (part_list l k) now ask user quiz w.request_is w.known.found }) said)
+    (record { records = records_kept m.list now ask (ap asks_catalog w.request_is); part = λ k read. report-puts m.list (part_list l k) now ask user quiz w.request_is w.known.found }) said)
     (λ fault. absurd (not-own told (own_reply l now ask told said) fault))
 
 pub reports_law : (failed : Type 0) → ReportsAsk failed

@@ -1,5 +1,5 @@
 -- A worker's settling, through the lists of a school: the shard first, and the catalogue where the attempt is there.
-use Rattle.std.proofs.Common.{◌≡◌, ℕ, ◌<◌, ◌%◌, Bool, true, false, not, ◌||◌, List, [], ◌∷◌, ◌++◌, Option, Some, None, Result, Ok, Err, MatchResult, length, refl, sym, ap, ◌∙◌, subst, option_map}
+use Rattle.std.proofs.Common.{◌≡◌, ℕ, ◌%◌, Bool, true, false, ◌||◌, List, [], ◌∷◌, ◌++◌, Option, Some, None, Result, Ok, Err, MatchResult, length, refl, sym, ap, ◌∙◌, subst, option_map}
 use Rattle.std.specs.List.{list_any}
 use Rattle.std.specs.Prelude.{is_some, slice_get, slice_set}
 use Rattle.std.proofs.lemmas.List.{length-set}
@@ -12,16 +12,15 @@ use Rattle.qz_terms.specs.declared.plan.Plan.{Plan}
 use Rattle.qz_terms.specs.declared.record.Record.{Record}
 use Rattle.qz_terms.specs.declared.reply.Reply.{Reply}
 use Rattle.qz_terms.specs.declared.reply.Reply.TheVariants as reply
-use Rattle.qz_terms.specs.declared.request.Request.{Request}
 use Rattle.qz_terms.specs.declared.request.Request.TheVariants as request
 use Rattle.qz_terms.specs.SchoolAnswer.{part_of, plan_for, user_after, user_answer}
 use Rattle.qz_terms.specs.Catalog.{worker}
 use Rattle.qz_terms.specs.History as history
-use Rattle.qz_terms.specs.Serial.{Asks, Held, Lists, Mended, catalog_if, is_started, part_list, parts_asked, part_read, is_report, reads_catalog, route, shards_asked, stays, worker_route}
-use Rattle.qz_keeper.specs.Lists.{IsSettled, Looks, OneCall, answered, no_memory, stayed_in_doubt}
+use Rattle.qz_terms.specs.Serial.{Asks, Held, Lists, catalog_if, is_started, part_list, parts_asked, part_read, is_report, reads_catalog, route, stays}
+use Rattle.qz_keeper.specs.Lists.{IsSettled, OneCall, answered, stayed_in_doubt}
 use Rattle.qz_serial.specs.Calls.{LookEnds, ShardAnswers, looked, unlooked, unread}
 use Rattle.qz_serial.specs.Once.{AskedOnce}
-use Rattle.qz_serial.specs.Paths.{IsAskable, IsGoing, goes_to_part, with_both, with_part}
+use Rattle.qz_serial.specs.Paths.{IsGoing, goes_to_part, with_both, with_part}
 use Rattle.qz_serial.specs.Workers.{FindsPlan, FindsQuiz, IsWorkers, WorkersSettle}
 use Rattle.qz_serial.proofs.Acting.{asked_once}
 use Rattle.qz_serial.proofs.Composing.{look_ends, settled_call}
@@ -57,7 +56,7 @@ ways a m g h ask attempt w is =
     let asked = one-asked l ask k (goes_other m.list (length l.parts) ask worker k goes).1 (part_read_is l ask worker k goes) in
     let list = at_here (slice_set a.parts k h) k h (set_get a.parts k g h is) in
     let started : is_started l ask ask.request ≡ is_some (history.start h.list attempt) =
-      ap (is_started l ask) w.request_is ∙ ap (λ (ks : List ℕ). list_any (λ j. is_some (history.start (part_list l j) attempt)) ks) asked ∙ or-none (is_some (history.start (part_list l k) attempt)) ∙ ap (λ (i : List Record). is_some (history.start i attempt)) list in
+    ap (is_started l ask) w.request_is ∙ ap (λ (ks : List ℕ). list_any (λ j. is_some (history.start (part_list l j) attempt)) ks) asked ∙ or-none (is_some (history.start (part_list l k) attempt)) ∙ ap (λ (i : List Record). is_some (history.start i attempt)) list in
     worker_ways l ask (request.Settle attempt) w.caller_is w.request_is ∙ ap (λ (ks : List ℕ). Rattle.std.specs.Prelude.map (λ j. Some j) ks ++ catalog_if (is_started l ask ask.request)) asked ∙ ap (λ b. Some k ∷ catalog_if b) started
 
 -- ---- where the attempt isn't found
@@ -98,7 +97,7 @@ quiz-by failed a held mid now ask attempt (Err r) w is (unread why mends doubt s
     let call : OneCall failed reply.Refused (ShardAnswers c now worker ask) held mid (reply.Refused r) = record { mended = mid; mends = mends; ends = stayed_in_doubt why doubt refl (ap reply.Refused (err-is {A = ℕ} r refusal.KeepFault same)) } in
     asked_once failed a l now ask (reply.Refused r) w.askable.shards w.askable.keyed
     (part_asks failed a a.records held mid k now ask worker (reply.Refused r) call (stays a.records) is (going a c ask attempt w)
-      (doubted_read l ask k mid (catalog_if (is_some (history.start mid.list attempt))) (ways a a.records held mid ask attempt w is) (set_get a.parts k held mid is) doubt) (λ skips. refl))
+    (doubted_read l ask k mid (catalog_if (is_some (history.start mid.list attempt))) (ways a a.records held mid ask attempt w is) (set_get a.parts k held mid is) doubt) (λ skips. refl))
     (λ fault. why)
 quiz-by failed a held mid now ask attempt (Err r) w is (unlooked mends same) =
     let k = attempt.user % length a.parts in
@@ -136,7 +135,7 @@ plan-by failed a held mid mended now ask attempt (Err r) w is settled there (unr
     let keeps = both_keep a mended mid k ask (read-both a mended held mid ask attempt w is there settled.no_doubt) (first_found l ask k (None ∷ []) way) in
     asked_once failed a l now ask (reply.Refused r) w.askable.shards w.askable.keyed
     (subst (λ (x : Refusal). Asks a l now ask (reply.Refused x)) (sym (err-is {A = Plan} r refusal.KeepFault same))
-      (failed_asks a l now ask (both_mended a mended held mid k mends is settled.mends) keeps (before_way l ask k mid way seat settled.no_doubt ∙ some-is mended.doubt doubt)))
+    (failed_asks a l now ask (both_mended a mended held mid k mends is settled.mends) keeps (before_way l ask k mid way seat settled.no_doubt ∙ some-is mended.doubt doubt)))
     (λ fault. why)
 plan-by failed a held mid mended now ask attempt (Err r) w is settled there (unlooked mends same) =
     let k = attempt.user % length a.parts in

@@ -85,6 +85,7 @@ over-grows m now ask = record {
     count : (o : Option ℕ) → length (parts_over m now ask o) ≡ length m.parts
     count None = refl
     count (Some k) = Rattle.std.proofs.lemmas.List.length-set m.parts k (with_list (shard_list m.records.list (part_list m k) now ask))
+
     each : (o : Option ℕ) (j : ℕ) → Grows (list_at m.parts j) (list_at (parts_over m now ask o) j)
     each None j = stays_so (list_at m.parts j)
     each (Some k) j = set_grows m.parts k (with_list (shard_list m.records.list (part_list m k) now ask)) (shard-grows m.records.list (part_list m k) now ask (catalog.user_of m.records.list ask.caller) refl) j
@@ -99,6 +100,7 @@ doubt-grows m now ask = record {
     count : (o : Option ℕ) → length (doubted_parts m now ask o) ≡ length m.parts
     count None = refl
     count (Some k) = Rattle.std.proofs.lemmas.List.length-set m.parts k (doubted (part_list m k) (shard_list m.records.list (part_list m k) now ask))
+
     each : (o : Option ℕ) (j : ℕ) → Grows (list_at m.parts j) (list_at (doubted_parts m now ask o) j)
     each None j = stays_so (list_at m.parts j)
     each (Some k) j = set_grows m.parts k (doubted (part_list m k) (shard_list m.records.list (part_list m k) now ask)) (stays_so (list_at m.parts k)) j

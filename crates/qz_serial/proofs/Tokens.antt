@@ -177,7 +177,7 @@ shard-path : (failed : Type 0) (a : Lists) (m held new : Held) (k now : ℕ) (as
 shard-path failed a m held new k now ask user told askable known going is call =
     asked_once failed a (with_both a m k new) now ask told askable.shards askable.keyed
     (part_asks failed a m held new k now ask user told call known.settled.mends is going (token-read a m held call.mended k ask user known going is)
-      (λ skips. let wrong : true ≡ false = sym (token_reads (with_both a m k call.mended) ask known.token known.caller_is) ∙ skips in absurd cc))
+    (λ skips. let wrong : true ≡ false = sym (token_reads (with_both a m k call.mended) ask known.token known.caller_is) ∙ skips in absurd cc))
     (part_cause failed a m held new k now ask user told is going call)
 
 pub tokens_law : (failed : Type 0) → TokensAsk failed

@@ -1,5 +1,5 @@
 -- A worker's requests, through the lists of a school.
-use Rattle.std.proofs.Common.{◌≡◌, ℕ, ◌<◌, ◌≤◌, ◌%◌, Bool, true, false, not, ◌||◌, List, [], ◌∷◌, ◌++◌, Option, Some, None, Result, Ok, Err, MatchResult, length, refl, sym, ap, ◌∙◌, subst, arith}
+use Rattle.std.proofs.Common.{◌≡◌, ℕ, ◌<◌, ◌≤◌, Bool, true, false, not, ◌||◌, List, [], ◌∷◌, Option, Some, None, Result, Ok, Err, MatchResult, length, refl, sym, ap, ◌∙◌, subst, arith}
 use Rattle.std.specs.List.{list_any}
 use Rattle.std.specs.Prelude.{if◌then◌else◌, is_none, is_some, nat_le, slice_get}
 use Rattle.std.proofs.lemmas.Bool.Decides.{nat_tests}
@@ -10,7 +10,6 @@ use Rattle.qz_grading.specs.declared.refusal.Refusal.{Refusal}
 use Rattle.qz_grading.specs.declared.refusal.Refusal.TheVariants as refusal
 use Rattle.qz_grading.specs.declared.refusal.Thing.TheVariants as thing
 use Rattle.qz_terms.specs.declared.ask.Ask.{Ask}
-use Rattle.qz_terms.specs.declared.people.Caller.{Caller}
 use Rattle.qz_terms.specs.declared.people.Caller.TheVariants as caller
 use Rattle.qz_terms.specs.declared.people.User.{User}
 use Rattle.qz_terms.specs.declared.plan.Job.{Job}
@@ -21,9 +20,9 @@ use Rattle.qz_terms.specs.declared.request.Request.{Request}
 use Rattle.qz_terms.specs.declared.request.Request.TheVariants as request
 use Rattle.qz_terms.specs.Answer.{live_answer}
 use Rattle.qz_terms.specs.CatalogAnswer.{asks_catalog}
-use Rattle.qz_terms.specs.SchoolAnswer.{catalog_list, first_refusal, part_of, refusal_among, user_after, user_answer}
+use Rattle.qz_terms.specs.SchoolAnswer.{catalog_list, first_refusal, part_of, refusal_among}
 use Rattle.qz_terms.specs.Catalog.{user_of, worker}
-use Rattle.qz_terms.specs.Cause.{forbidden, may_ask, missing_in, missing_shard, rule_of}
+use Rattle.qz_terms.specs.Cause.{may_ask, missing_in, missing_shard, rule_of}
 use Rattle.qz_terms.specs.Lists.{up_to_first}
 use Rattle.qz_terms.specs.Serial.{Asks, Held, Lists, Mended, goes_on, is_catalog, is_in_doubt, is_report, is_settled, part_read, reads_catalog, reply_over, route, shards_asked, worker_route}
 use Rattle.qz_keeper.specs.Lists.{IsSettled, Looks, OneCall}
@@ -33,8 +32,7 @@ use Rattle.qz_serial.specs.Paths.{IsAskable, IsGoing, with_both, with_part, with
 use Rattle.qz_serial.specs.Workers.{FindsJob, IsWorkers, WorkersAsk}
 use Rattle.qz_serial.proofs.Acting.{asked_once}
 use Rattle.qz_serial.proofs.Composing.{calls_mean, look_ends}
-use Rattle.qz_serial.proofs.Growing.{own_reply}
-use Rattle.qz_serial.proofs.Joining.{IsRead, alone_read, alone_reads, behind_read, call_cause, failed_asks, not-memory, not-own, part_asks, part_cause, records_ask, records_keep, records_mended, still_asks, wanting_asks}
+use Rattle.qz_serial.proofs.Joining.{alone_read, alone_reads, behind_read, call_cause, failed_asks, not-memory, part_asks, part_cause, records_ask, records_keep, records_mended, still_asks, wanting_asks}
 use Rattle.qz_serial.proofs.Over.{goes_other, part_read_is, records_kept, refused_said}
 use Rattle.qz_serial.proofs.Seats.{all_stay, set_get}
 use Rattle.qz_serial.proofs.Tokens.{ended_clear, ended_nothing, ended_shards, no_shard, own_records, refused_ends, refused_own}
@@ -178,7 +176,7 @@ work-refused failed a m now ask number shard r w settled refused =
     let ways = work-ways l ask number shard a w ∙ ap (λ (rest : List (Option ℕ)). None ∷ rest) (ended_shards l ask (is_report ask.request) refl ended) in
     asked_once failed a l now ask (reply.Refused r) w.askable.shards w.askable.keyed
     (still_asks a l now ask (reply.Refused r) (records_mended a m settled.mends) (records_keep a m ask (first_keep a m ask [] ways)) ((alone_reads a m ask ways).settled settled.no_doubt) (ended_clear l ask ended)
-      (ended_nothing l now ask ended (records_kept m.list now ask (ap asks_catalog w.request_is))) (refused_said l now ask worker r found refused))
+    (ended_nothing l now ask ended (records_kept m.list now ask (ap asks_catalog w.request_is))) (refused_said l now ask worker r found refused))
     (λ fault. absurd (refused_own l now ask worker r found refused fault))
 
 pub err-ok : {A : Type 0} (x : A) (r : Refusal) → ◌≡◌ {A = Result A Refusal} (Ok x) (Err r) → ⊥
@@ -234,7 +232,7 @@ work-path failed a m held new now ask number shard told w settled there is call 
     let ways = work-ways l ask number shard a w ∙ ap (λ (rest : List (Option ℕ)). None ∷ rest) (worker_shard a m call.mended shard ask going) in
     asked_once failed a (with_both a m shard new) now ask told w.askable.shards w.askable.keyed
     (part_asks failed a m held new shard now ask worker told call settled.mends is going (behind_read l ask shard call.mended ways (ap is_some settled.no_doubt) (set_get a.parts shard held call.mended is))
-      (λ skips. let wrong : true ≡ false = sym (first_reads l ask (Some shard ∷ []) ways) ∙ skips in absurd cc))
+    (λ skips. let wrong : true ≡ false = sym (first_reads l ask (Some shard ∷ []) ways) ∙ skips in absurd cc))
     (part_cause failed a m held new shard now ask worker told is going call)
 
 pub workers_law : (failed : Type 0) → WorkersAsk failed

@@ -1,5 +1,5 @@
 -- The ways that a worker's request goes through the lists of a school, by what the calls at single lists came to.
-use Rattle.std.specs.Prelude.{◌≡◌, ℕ, ◌≤◌, ◌%◌, true, false, List, length, slice_get, slice_set, is_some, Some, None, Result, Ok, Err, MatchResult}
+use Rattle.std.specs.Prelude.{◌≡◌, ℕ, ◌≤◌, ◌%◌, true, false, List, length, slice_get, is_some, Some, None, Result, Err, MatchResult}
 use Rattle.qz_grading.specs.declared.refusal.AttemptId.{AttemptId}
 use Rattle.qz_grading.specs.declared.refusal.Refusal.{Refusal}
 use Rattle.qz_grading.specs.declared.refusal.Refusal.TheVariants as refusal
@@ -17,7 +17,7 @@ use Rattle.qz_terms.specs.Answer.{live_answer}
 use Rattle.qz_terms.specs.Catalog.{worker}
 use Rattle.qz_terms.specs.Cause.{may_ask, missing_in, rule_of}
 use Rattle.qz_terms.specs.History as history
-use Rattle.qz_terms.specs.SchoolAnswer.{plan_for, refusal_among}
+use Rattle.qz_terms.specs.SchoolAnswer.{plan_for}
 use Rattle.qz_terms.specs.Serial.{Held, Lists}
 use Rattle.qz_keeper.specs.Lists.{IsSettled, Looks, OneCall}
 use Rattle.qz_serial.specs.Calls.{CatalogAnswers, ShardAnswers}
