@@ -16,8 +16,8 @@ use Rattle.qz_terms.specs.declared.record.Record.{Record}
 use Rattle.qz_terms.specs.Catalog as catalog
 use Rattle.qz_terms.specs.Legal.{Agrees, AllAgree, EventAgrees, JobAgrees, LearnsFrom, RebindAgrees, SkipAgrees, StartAgrees, StepAgrees, TermsAgree}
 use Rattle.qz_terms.proofs.Walks.{split-push}
-use Rattle.qz_school.proofs.Longer.{job-early, job-stays, user-stays}
-use Rattle.qz_school.proofs.Places.{some-there}
+use Rattle.qz_serial.proofs.Longer.{job-early, job-stays, user-stays}
+use Rattle.qz_serial.proofs.Places.{some-there}
 
 within : (c : List Record) (n : ℕ) → nat_le n (length c) ≡ true → n ≤ length c
 within c n is = leb-true n (length c) is

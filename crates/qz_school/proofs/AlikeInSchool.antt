@@ -21,7 +21,7 @@ use Rattle.qz_terms.proofs.Walks.{IsToldIn, first_told_in, last_told_in}
 use Rattle.qz_isolation.proofs.Own.{and-left, and-right}
 use Rattle.qz_isolation.proofs.Alike.{binds-own, known-in, owners}
 use Rattle.qz_school.specs.Alike.{AlikeInASchool}
-use Rattle.qz_school.proofs.Longer.{version-stays}
+use Rattle.qz_serial.proofs.Longer.{version-stays}
 
 -- ---- what was learned is the catalogue's
 

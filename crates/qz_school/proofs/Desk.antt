@@ -1,8 +1,7 @@
 -- How the lists of a school answer a request.
-use Rattle.std.proofs.Common.{◌≡◌, ◌⊎◌, inl, inr, ℕ, ◌<◌, Bool, true, false, not, ◌&&◌, List, [], ◌∷◌, ◌++◌, Option, Some, None, length, option_map, refl, sym, ap, ◌∙◌, subst, eq-eqb}
-use Rattle.std.specs.Prelude.{◌==◌, if◌then◌else◌, is_none, is_some, option_and_then, slice_set, unwrap_or}
+use Rattle.std.proofs.Common.{◌≡◌, inl, inr, ℕ, ◌<◌, Bool, true, false, List, [], ◌∷◌, Option, Some, None, length, refl, sym, ap, ◌∙◌, subst}
+use Rattle.std.specs.Prelude.{if◌then◌else◌, is_some, slice_set}
 use Rattle.std.proofs.lemmas.List.{length-set}
-use Rattle.qz_grading.specs.declared.refusal.AttemptId.{AttemptId}
 use Rattle.qz_grading.specs.declared.refusal.Refusal.{Refusal}
 use Rattle.qz_grading.specs.declared.refusal.Refusal.TheVariants as refusal
 use Rattle.qz_grading.specs.declared.refusal.Thing.TheVariants as thing
@@ -15,27 +14,27 @@ use Rattle.qz_terms.specs.declared.reply.Done.{Done}
 use Rattle.qz_terms.specs.declared.reply.Reply.{Reply}
 use Rattle.qz_terms.specs.declared.reply.Reply.TheVariants as reply
 use Rattle.qz_terms.specs.declared.request.Request.{Request}
-use Rattle.qz_terms.specs.declared.request.Request.TheVariants as request
-use Rattle.qz_terms.specs.Answer.{answer_here, attempt_named, list_after}
-use Rattle.qz_terms.specs.CatalogAnswer.{asks_catalog, catalog_after, catalog_answer, catalog_verdict}
-use Rattle.qz_terms.specs.SchoolAnswer.{after_by, answer_among, answer_by, asked_part, catalog_list, first_refusal, part_at, part_of, plan_for, refusal_among, school_answer_by, shard_answer, user_after, user_answer}
+use Rattle.qz_terms.specs.Answer.{list_after}
+use Rattle.qz_terms.specs.CatalogAnswer.{asks_catalog, catalog_after, catalog_answer}
+use Rattle.qz_terms.specs.SchoolAnswer.{answer_among, asked_part, catalog_list, first_refusal, part_of, plan_for, refusal_among, school_answer_by, user_after, user_answer}
 use Rattle.qz_terms.specs.Catalog as catalog
-use Rattle.qz_terms.specs.Cause.{Denied, forbidden, is_keyed, is_keyless, missing_in, missing_shard}
-use Rattle.qz_terms.specs.History as history
-use Rattle.qz_terms.specs.Legal.{is_plan_for}
+use Rattle.qz_terms.specs.Cause.{is_keyed, is_keyless, missing_shard}
 use Rattle.qz_terms.specs.Laws.{Stands}
-use Rattle.qz_terms.specs.Serial.{Asks, Lists, goes_on, is_report, no_memory, part_read, reply_over}
-use Rattle.qz_terms.proofs.Joined.{joined_law}
+use Rattle.qz_terms.specs.Serial.{Asks, goes_on, is_report, no_memory, part_read, reply_over}
 use Rattle.qz_terms.proofs.Standing.{once_law}
 use Rattle.qz_catalog.specs.Applying as records
-use Rattle.qz_school.specs.Asked.{IsAskedOnce, IsSaidAgain, StandsIn, in_records, in_shard, is_keep_fault}
-use Rattle.qz_school.specs.Repeating.{StandsInCatalog}
+use Rattle.qz_school.specs.Asked.{IsAskedOnce, IsSaidAgain}
+use Rattle.qz_serial.specs.Repeating.{StandsInCatalog}
 use Rattle.qz_school.specs.Solo.{Tells, settled_lists}
-use Rattle.qz_school.proofs.Longer.{staying_law}
-use Rattle.qz_school.proofs.Putting.{planned-quiz}
-use Rattle.qz_school.proofs.Repeating.{repeating_law}
-use Rattle.qz_school.proofs.Settled.{answers_over, catalog-kept, goes-over, lists-read, lists-unread, part-asked, part-set, part-still, said-over, turns, unread-refused, said-unknown}
-use Rattle.qz_school.proofs.Standing.{Grows, PartsGrow, StandsAt, goes_on_standing, grown_part, grown_records, keyless_stands, one_grows, one_user, own_part, own_reply, parts_stay, plan_grown, refused_stands, stands_at, stands_in, stays_so, unknown_stands}
+use Rattle.qz_serial.proofs.Longer.{staying_law}
+use Rattle.qz_serial.proofs.Repeating.{repeating_law}
+use Rattle.qz_school.proofs.Settled.{answers_over, lists-read, lists-unread, part-asked, part-set, part-still, said-over, turns, unread-refused}
+use Rattle.qz_school.proofs.Standing.{StandsAt, goes_on_standing, keyless_stands, one_grows, own_part, parts_stay, refused_stands, stands_at, stands_in, unknown_stands}
+use Rattle.qz_serial.proofs.Over.{records_kept}
+use Rattle.qz_serial.proofs.Answering.{answered-among, answered-free, both-parts, free-both, has_no_key, keyed-by, not-ok, plan_meant, planless, planless-answer, recorded-by, same-answer, same-list}
+use Rattle.qz_serial.proofs.Growing.{grown_part, grown_records, one_user, own_reply, plan_grown, stays_so}
+use Rattle.qz_serial.specs.Paths.{goes_to_part}
+use Rattle.qz_serial.specs.Standing.{StandsIn, in_records, in_shard, is_keep_fault}
 
 -- ---- what changes nothing
 
@@ -49,9 +48,6 @@ unchanged c ps now ask r asks keeper never again = record {
   stays = λ x told s. s;
   again = λ told s. (again told s, refl);
 }
-
-not-ok : (r : Refusal) (place : ℕ) (d : Done) → reply.Refused r ≡ reply.Ok place d → ⊥
-not-ok r place d told = cc
 
 -- memory was wanting
 pub wants_memory : (c : List Record) (ps : List (List Record)) (now : ℕ) (ask : Ask) → IsAskedOnce (settled_lists c ps) (settled_lists c ps) now ask (reply.Refused refusal.Memory)
@@ -86,72 +82,16 @@ pub refused_asks : (c : List Record) (ps : List (List Record)) (now : ℕ) (ask 
     → IsAskedOnce (settled_lists c ps) (settled_lists c ps) now ask (reply.Refused r)
 refused_asks c ps now ask user r other found refused =
     let among : refusal_among c (length ps) user ask.request ≡ Some r = among-first (first_refusal c user ask.request) (missing_shard (length ps) ask.request) r refused in
-    refused-once c ps now ask r (catalog-kept c now ask other) (unread-refused c ps ask user r found among) (among-said c ps now ask user r found among) (λ told s. refused_stands c ps ask told user r found refused s)
-
-keyless-by : (ask : Ask) (b : Bool) → is_keyless ask.request ≡ b → b ≡ true → is_keyed ask ≡ true → ask.key ≡ None
-keyless-by ask true is keyless keyed = none-of ask.key (rw is at keyed)
-  where
-    none-of : (key : Option (List ℕ)) → is_none key ≡ true → key ≡ None
-    none-of None none = refl
-    none-of (Some key) none = absurd cc
-keyless-by ask false is keyless keyed = absurd cc
-
-pub has_no_key : (ask : Ask) → is_keyless ask.request ≡ true → is_keyed ask ≡ true → ask.key ≡ None
-has_no_key ask keyless keyed = keyless-by ask (is_keyless ask.request) refl keyless keyed
+    refused-once c ps now ask r (records_kept c now ask other) (unread-refused c ps ask user r found among) (among-said c ps now ask user r found among) (λ told s. refused_stands c ps ask told user r found refused s)
 
 -- the shard that it names isn't there
 pub nowhere_asks : (c : List Record) (ps : List (List Record)) (now : ℕ) (ask : Ask) (user : User) (r : Refusal) → asks_catalog ask.request ≡ false → is_keyless ask.request ≡ true → is_keyed ask ≡ true → catalog.user_of c ask.caller ≡ Some user
     → first_refusal c user ask.request ≡ None → missing_shard (length ps) ask.request ≡ Some r → IsAskedOnce (settled_lists c ps) (settled_lists c ps) now ask (reply.Refused r)
 nowhere_asks c ps now ask user r other keyless keyed found free missing =
     let among : refusal_among c (length ps) user ask.request ≡ Some r = rw (free, missing) refl in
-    refused-once c ps now ask r (catalog-kept c now ask other) (unread-refused c ps ask user r found among) (among-said c ps now ask user r found among) (λ told s. keyless_stands c ps ask told (has_no_key ask keyless keyed) s)
+    refused-once c ps now ask r (records_kept c now ask other) (unread-refused c ps ask user r found among) (among-said c ps now ask user r found among) (λ told s. keyless_stands c ps ask told (has_no_key ask keyless keyed) s)
 
 -- ---- a request to a shard
-
--- it goes to a shard, and to one alone
-abbrev pub goes_to_part : Request → Bool
-goes_to_part x = not (asks_catalog x) && not (is_report x)
-
-answered-among : (c : List Record) (ps : List (List Record)) (now : ℕ) (user : User) (ask : Ask) (x : Request) → is_report x ≡ false → answer_among c ps now user ask x ≡ answer_by c (part_at ps (part_of (length ps) user x)) now user ask x
-answered-among c ps now user ask (request.Report quiz) other = absurd cc
-answered-among c ps now user ask x other = refl
-
-answered-free : (c : List Record) (h : List Record) (now : ℕ) (user : User) (ask : Ask) → first_refusal c user ask.request ≡ None → user_answer c h now ask user ≡ answer_by c h now user ask ask.request
-answered-free c h now user ask free = rw free refl
-
-free-both : (o p : Option Refusal) → first_some (o ∷ p ∷ []) ≡ None → o ≡ None
-free-both None p none = refl
-free-both (Some r) p none = absurd cc
-
-both-parts : (a b : Bool) → not a && not b ≡ true → (a ≡ false) × (b ≡ false)
-both-parts true b is = absurd cc
-both-parts false true is = absurd cc
-both-parts false false is = (refl, refl)
-
-meant-attempt : (c : List Record) (a : AttemptId) (plan : Plan) (o : Option ℕ) → option_and_then (λ q. catalog.plan c q a.user) o ≡ Some plan → unwrap_or (option_map (λ q. plan.quiz == q) o) true ≡ true
-meant-attempt c a plan None is = refl
-meant-attempt c a plan (Some q) is = eq-eqb plan.quiz q (planned-quiz c q a.user plan is)
-
-meant-named : (c h : List Record) (plan : Plan) (o : Option AttemptId) → option_and_then (λ (a : AttemptId). option_and_then (λ q. catalog.plan c q a.user) (history.quiz h a)) o ≡ Some plan
-    → unwrap_or (option_map (λ q. plan.quiz == q) (option_and_then (history.quiz h) o)) true ≡ true
-meant-named c h plan None is = refl
-meant-named c h plan (Some a) is = meant-attempt c a plan (history.quiz h a) is
-
--- the plan is of the quiz that is meant
-pub plan_meant : (c h : List Record) (user : User) (x : Request) (plan : Plan) → plan_for c h user x ≡ Some plan → is_plan_for h plan x ≡ true
-plan_meant c h user (request.Start q) plan is = eq-eqb plan.quiz q (planned-quiz c q user.number plan is)
-plan_meant c h user (request.Grade q owner) plan is = eq-eqb plan.quiz q (planned-quiz c q owner plan is)
-plan_meant c h user x plan is = meant-named c h plan (attempt_named x) is
-
--- what needs a plan and has none is refused
-planless-answer : (c h : List Record) (now : ℕ) (user : User) (ask : Ask) (x : Request) → goes_to_part x ≡ true → is_keyless x ≡ false → plan_for c h user ask.request ≡ None → answer_by c h now user ask x ≡ reply.Refused (refusal.Unknown thing.Attempt)
-planless-answer c h now user ask (request.Start q) goes keyed none = rw none refl
-planless-answer c h now user ask (request.Save a k certainty response) goes keyed none = rw none refl
-planless-answer c h now user ask (request.Submit a k certainty response) goes keyed none = rw none refl
-planless-answer c h now user ask (request.Again a k) goes keyed none = rw none refl
-planless-answer c h now user ask (request.Finish a) goes keyed none = rw none refl
-planless-answer c h now user ask (request.Mark a k mark) goes keyed none = rw none refl
-planless-answer c h now user ask x goes keyed none = absurd cc
 
 -- a request that its shard answers
 record IsGoing (c : List Record) (ps : List (List Record)) (ask : Ask) (user : User) : Type 0 where
@@ -161,22 +101,8 @@ record IsGoing (c : List Record) (ps : List (List Record)) (ask : Ask) (user : U
   free : first_refusal c user ask.request ≡ None
   inside : part_of (length ps) user ask.request < length ps
 
-pub same-answer : (c h : List Record) (now : ℕ) (ask : Ask) (user : User) (plan : Plan) → catalog.user_of c ask.caller ≡ Some user → first_refusal c user ask.request ≡ None → plan_for c h user ask.request ≡ Some plan → user_answer c h now ask user ≡ answer_here h now user plan ask
-same-answer c h now ask user plan found free planned = sym (rw found refl) ∙ joined_law.reply c h now ask.caller ask.key ask.request user plan found free planned
-
-pub same-list : (c h : List Record) (now : ℕ) (ask : Ask) (user : User) (plan : Plan) → catalog.user_of c ask.caller ≡ Some user → first_refusal c user ask.request ≡ None → plan_for c h user ask.request ≡ Some plan → user_after c h now ask user ≡ list_after h now user plan ask
-same-list c h now ask user plan found free planned = sym (rw found refl) ∙ joined_law.list c h now ask.caller ask.key ask.request user plan found free planned
-
 own-set : (ps : List (List Record)) (user : User) (x : Request) (g : List Record) → part_of (length ps) user x < length ps → own_part (slice_set ps (part_of (length ps) user x) g) user x ≡ g
 own-set ps user x g inside = rw (length-set ps (part_of (length ps) user x) g) (part-set ps (part_of (length ps) user x) g inside)
-
-keyed-by : (ask : Ask) (b : Bool) → is_keyless ask.request ≡ b → is_keyed ask ≡ true → is_some ask.key ≡ true → b ≡ false
-keyed-by ask true is keyed some = absurd (both ask.key (rw is at keyed) some)
-  where
-    both : (key : Option (List ℕ)) → is_none key ≡ true → is_some key ≡ true → ⊥
-    both None none some = absurd cc
-    both (Some key) none some = absurd cc
-keyed-by ask false is keyed some = refl
 
 accepted-stands : (c : List Record) (ps : List (List Record)) (now : ℕ) (ask : Ask) (user : User) (o : Option Plan) (place : ℕ) (d : Done) → IsGoing c ps ask user → plan_for c (own_part ps user ask.request) user ask.request ≡ o → is_some ask.key ≡ true
     → user_answer c (own_part ps user ask.request) now ask user ≡ reply.Ok place d
@@ -262,55 +188,6 @@ part_asks c ps now ask user told g goes keyed found among inside (inr both) =
 
 -- ---- a request to the catalogue
 
-only-first : (o : Option Refusal) → first_some (o ∷ None ∷ []) ≡ o
-only-first None = refl
-only-first (Some r) = refl
-
-anywhere : (n : ℕ) (x : Request) → asks_catalog x ≡ true → missing_shard n x ≡ None
-anywhere n (request.Work job shard) of_catalog = absurd cc
-anywhere n (request.Live shard attempt) of_catalog = absurd cc
-anywhere n x of_catalog = refl
-
-by-catalog : (c : List Record) (ps : List (List Record)) (now : ℕ) (user : User) (ask : Ask) (x : Request) → asks_catalog x ≡ true → answer_among c ps now user ask x ≡ catalog_answer c now user ask
-by-catalog c ps now user ask (request.Start q) of_catalog = absurd cc
-by-catalog c ps now user ask (request.Save a k certainty response) of_catalog = absurd cc
-by-catalog c ps now user ask (request.Submit a k certainty response) of_catalog = absurd cc
-by-catalog c ps now user ask (request.Again a k) of_catalog = absurd cc
-by-catalog c ps now user ask (request.Finish a) of_catalog = absurd cc
-by-catalog c ps now user ask (request.Mark a k mark) of_catalog = absurd cc
-by-catalog c ps now user ask (request.Work job shard) of_catalog = absurd cc
-by-catalog c ps now user ask (request.Settle a) of_catalog = absurd cc
-by-catalog c ps now user ask (request.Live shard attempt) of_catalog = absurd cc
-by-catalog c ps now user ask (request.View a k) of_catalog = absurd cc
-by-catalog c ps now user ask (request.Total a) of_catalog = absurd cc
-by-catalog c ps now user ask (request.Page a) of_catalog = absurd cc
-by-catalog c ps now user ask (request.Grade q u) of_catalog = absurd cc
-by-catalog c ps now user ask (request.Report quiz) of_catalog = absurd cc
-by-catalog c ps now user ask x of_catalog = refl
-
-refused-here : (c : List Record) (now : ℕ) (user : User) (ask : Ask) (r : Refusal) (f m : Option Refusal) → forbidden user ask.request ≡ f → missing_in c ask.request ≡ m → first_some (f ∷ m ∷ []) ≡ Some r → catalog_verdict c now user ask ≡ Denied r
-refused-here c now user ask r (Some s) m may there refused = rw may (ap Denied cc)
-refused-here c now user ask r None (Some s) may there refused = rw (may, there) (ap Denied cc)
-refused-here c now user ask r None None may there refused = absurd cc
-
--- it is answered as the catalogue says, whether it is refused first or not
-record IsRecorded (c : List Record) (ps : List (List Record)) (now : ℕ) (user : User) (ask : Ask) : Type 0 where
-  answer : school_answer_by c ps now ask user ≡ catalog_answer c now user ask
-  list : catalog_list c now ask ≡ catalog_after c now user ask
-
-recorded-by : (c : List Record) (ps : List (List Record)) (now : ℕ) (user : User) (ask : Ask) (o : Option Refusal) → first_refusal c user ask.request ≡ o → asks_catalog ask.request ≡ true → catalog.user_of c ask.caller ≡ Some user → IsRecorded c ps now user ask
-recorded-by c ps now user ask (Some r) first of_catalog found =
-    let verdict = refused-here c now user ask r (forbidden user ask.request) (missing_in c ask.request) refl refl first in
-    let told : school_answer_by c ps now ask user ≡ reply.Refused r = rw first refl in
-    let answer : catalog_answer c now user ask ≡ reply.Refused r = rw verdict refl in
-    let list : catalog_after c now user ask ≡ c = rw verdict refl in
-    let kept : catalog_list c now ask ≡ c = rw (found, first) refl in
-    record { answer = told ∙ sym answer; list = kept ∙ sym list }
-recorded-by c ps now user ask None first of_catalog found = record {
-  answer = rw (first, anywhere (length ps) ask.request of_catalog) (by-catalog c ps now user ask ask.request of_catalog);
-  list = rw (found, first, of_catalog) refl;
-}
-
 no-part-by : (b : Bool) (o : Option ℕ) → o ≡ None → (if b then o else None) ≡ None
 no-part-by true o none = none
 no-part-by false o none = refl
@@ -320,20 +197,6 @@ no-part c ps ask user of_catalog found =
     let a = settled_lists c ps in
     let none : asked_part c (length a.parts) ask ≡ None = rw (found, of_catalog) refl in
     no-part-by (goes_on a ask) (asked_part c (length a.parts) ask) none
-
-planless : (c h : List Record) (user : User) (x : Request) → asks_catalog x ≡ true → plan_for c h user x ≡ None
-planless c h user (request.Start q) of_catalog = absurd cc
-planless c h user (request.Grade q u) of_catalog = absurd cc
-planless c h user (request.Save a k certainty response) of_catalog = absurd cc
-planless c h user (request.Submit a k certainty response) of_catalog = absurd cc
-planless c h user (request.Again a k) of_catalog = absurd cc
-planless c h user (request.Finish a) of_catalog = absurd cc
-planless c h user (request.Mark a k mark) of_catalog = absurd cc
-planless c h user (request.Settle a) of_catalog = absurd cc
-planless c h user (request.View a k) of_catalog = absurd cc
-planless c h user (request.Total a) of_catalog = absurd cc
-planless c h user (request.Page a) of_catalog = absurd cc
-planless c h user x of_catalog = refl
 
 planless-none : {A : Type 0} (o : Option A) (x : A) → o ≡ Some x → o ≡ None → ⊥
 planless-none o x one other = cc

@@ -5,8 +5,9 @@ use Rattle.qz_terms.specs.declared.ask.Ask.{Ask}
 use Rattle.qz_terms.specs.declared.record.Record.{Record}
 use Rattle.qz_terms.specs.declared.reply.Reply.{Reply}
 use Rattle.qz_terms.specs.Serial.{AllMended, Held, Lists, Mended, Turn, adopted, answered, dropped, lists_over, no_memory, put_in_doubt, stayed_in_doubt, stays, with_list}
-use Rattle.qz_school.specs.Asked.{IsAskedOnce, is_keep_fault, is_memory}
+use Rattle.qz_school.specs.Asked.{IsAskedOnce, is_memory}
 use Rattle.qz_school.specs.Solo.{IsSettled, settled_lists}
+use Rattle.qz_serial.specs.Standing.{is_keep_fault}
 
 -- a list without a doubt is mended as it is
 mended-settled : (k m : Held) → k.doubt ≡ None → Mended k m → m ≡ k

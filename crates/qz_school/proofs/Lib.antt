@@ -1,12 +1,8 @@
-pub mod Places
-pub mod Longer
 pub mod Agreeing
 pub mod Callers
 pub mod Slotting
 pub mod Putting
 pub mod Tokens
-pub mod Same
-pub mod Repeating
 pub mod Leaning
 pub mod AlikeInSchool
 pub mod Floors

@@ -1,5 +1,5 @@
 -- How a shard answers under the plan that its catalogue gives.
-use Rattle.std.proofs.Common.{◌≡◌, ◌⊎◌, inl, inr, ℕ, ◌%◌, Bool, true, false, List, [], ◌∷◌, Option, Some, None, Result, Ok, Err, length, option_map, refl, sym, ap, ◌∙◌, subst, eq-eqb}
+use Rattle.std.proofs.Common.{◌≡◌, ◌⊎◌, inl, inr, ℕ, Bool, true, false, List, [], ◌∷◌, Option, Some, None, Result, Ok, Err, length, option_map, refl, sym, ap, ◌∙◌, subst, eq-eqb}
 use Rattle.std.specs.Prelude.{◌==◌, IfErr, IfOk, MatchResult, OnOk, is_none, is_some, option_and_then, unwrap_or}
 use Rattle.qz_grading.specs.declared.refusal.AttemptId.{AttemptId}
 use Rattle.qz_grading.specs.declared.refusal.Refusal.{Refusal}
@@ -16,9 +16,9 @@ use Rattle.qz_terms.specs.declared.reply.Reply.{Reply}
 use Rattle.qz_terms.specs.declared.reply.Reply.TheVariants as reply
 use Rattle.qz_terms.specs.declared.request.Request.{Request}
 use Rattle.qz_terms.specs.declared.request.Request.TheVariants as request
-use Rattle.qz_terms.specs.Answer.{answer_here, attempt_named, list_after, named_user}
+use Rattle.qz_terms.specs.Answer.{answer_here, attempt_named, list_after}
 use Rattle.qz_terms.specs.CatalogAnswer.{asks_catalog}
-use Rattle.qz_terms.specs.SchoolAnswer.{after_by, answer_by, first_refusal, plan_for, user_after, user_answer}
+use Rattle.qz_terms.specs.SchoolAnswer.{after_by, answer_by, plan_for}
 use Rattle.qz_terms.specs.Catalog as catalog
 use Rattle.qz_terms.specs.Cause.{forbidden, missing_in, missing_quiz, missing_user}
 use Rattle.qz_terms.specs.History as history
@@ -29,10 +29,11 @@ use Rattle.qz_shard.specs.Holdings.{Answers, Holding, StartsHere, older}
 use Rattle.qz_school.specs.Agreement.{is_start}
 use Rattle.qz_school.specs.Solo.{IsKeptUnder, IsPlanned, IsSameShard, IsUnplanned, Tells, absent, asks_shard, refused, wants}
 use Rattle.qz_school.proofs.Callers.{caller-placed}
-use Rattle.qz_school.proofs.Desk.{plan_meant, same-answer, same-list}
 use Rattle.qz_school.proofs.Floors.{none_older}
 use Rattle.qz_school.proofs.Leaning.{leaning_law}
-use Rattle.qz_school.proofs.Putting.{agreeing_law, known_law, planned-at, planned-quiz}
+use Rattle.qz_school.proofs.Putting.{agreeing_law, known_law}
+use Rattle.qz_serial.proofs.Answering.{same-answer, same-list}
+use Rattle.qz_serial.proofs.Plans.{planned-at, planned-quiz}
 
 -- ---- under a plan
 

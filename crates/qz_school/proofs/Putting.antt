@@ -3,7 +3,6 @@ use Rattle.std.proofs.Common.{◌≡◌, ℕ, Bool, true, false, ◌||◌, List,
 use Rattle.std.specs.Prelude.{◌==◌, if◌then◌else◌, is_some, not, option_and_then}
 use Rattle.std.proofs.lemmas.Bool.{eqb-true, le-leb}
 use Rattle.std.proofs.lemmas.List.{take-append-drop, take_all}
-use Rattle.qz_grading.specs.declared.outcome.Behaviour.{Behaviour}
 use Rattle.qz_grading.specs.declared.outcome.Moved.{Moved}
 use Rattle.qz_grading.specs.declared.outcome.Moved.TheVariants as moved_as
 use Rattle.qz_grading.specs.declared.refusal.AttemptId.{AttemptId}
@@ -37,33 +36,12 @@ use Rattle.qz_terms.proofs.Walks.{first_told_in}
 use Rattle.qz_school.specs.Agreement.{AttemptsAreKnown, GoesOnAgreeing}
 use Rattle.qz_school.proofs.Agreeing.{all-empty, all-longer, all-push}
 use Rattle.qz_school.proofs.Callers.{caller-placed}
-use Rattle.qz_school.proofs.Longer.{plan-there, quiz-stays, ready-stays, user-stays}
-use Rattle.qz_school.proofs.Places.{some-there}
+use Rattle.qz_serial.proofs.Longer.{plan-there, quiz-stays, ready-stays, user-stays}
+use Rattle.qz_serial.proofs.Places.{some-there}
 use Rattle.qz_school.proofs.Slotting.{both-true, start-learns}
+use Rattle.qz_serial.proofs.Plans.{planned-so}
 
--- ---- what a catalogue's plan tells
-
-record IsPlanned (c : List Record) (q : ℕ) (plan : Plan) : Type 0 where
-  at : plan.at ≡ length c
-  quiz : plan.quiz ≡ q
-  ready : plan.ready ≡ catalog.is_ready c q
-  slots : plan.slots ≡ catalog.slots c q
-  questions : plan.questions ≡ catalog.questions c (catalog.slots c q)
-
-planned-by : (c : List Record) (q u : ℕ) (plan : Plan) (o : Option (List ℕ × Behaviour)) → at_place (catalog.quizzes c) q ≡ o → catalog.plan c q u ≡ Some plan → IsPlanned c q plan
-planned-by c q u plan None is told = let none : None ≡ Some plan = rw is at told in absurd cc
-planned-by c q u plan (Some named) is told =
-    let some : Some _ ≡ Some plan = rw is at told in
-    record { at = cc; quiz = cc; ready = cc; slots = cc; questions = cc }
-
-planned-so : (c : List Record) (q u : ℕ) (plan : Plan) → catalog.plan c q u ≡ Some plan → IsPlanned c q plan
-planned-so c q u plan told = planned-by c q u plan (at_place (catalog.quizzes c) q) refl told
-
-pub planned-at : (c : List Record) (q u : ℕ) (plan : Plan) → catalog.plan c q u ≡ Some plan → plan.at ≡ length c
-planned-at c q u plan told = (planned-so c q u plan told).at
-
-pub planned-quiz : (c : List Record) (q u : ℕ) (plan : Plan) → catalog.plan c q u ≡ Some plan → plan.quiz ≡ q
-planned-quiz c q u plan told = (planned-so c q u plan told).quiz
+-- ---- what is put under it
 
 whole : (c : List Record) (n : ℕ) → n ≡ length c → take n c ≡ c
 whole c n is = take_all n c (omega arith)

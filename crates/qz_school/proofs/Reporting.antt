@@ -1,9 +1,9 @@
 -- The grades of a quiz over all shards, in order of user.
-use Rattle.std.proofs.Common.{◌≡◌, ◌⊎◌, inl, inr, ℕ, zero, suc, ◌+◌, ◌<◌, ◌≤◌, ◌-◌, ◌%◌, Bool, true, false, ◌&&◌, List, [], ◌∷◌, ◌++◌, Option, Some, None, Result, Ok, Err, map, option_map, length, take, get_or, refl, sym, ap, ◌∙◌, subst, append-nil, append_assoc, arith}
+use Rattle.std.proofs.Common.{◌≡◌, ◌⊎◌, inl, inr, ℕ, suc, ◌+◌, ◌<◌, ◌≤◌, ◌-◌, ◌%◌, Bool, true, false, ◌&&◌, List, [], ◌∷◌, ◌++◌, Option, Some, None, Result, Ok, Err, map, option_map, length, take, get_or, refl, sym, ap, ◌∙◌, subst, append-nil, append_assoc, arith}
 use Rattle.std.specs.BTreeMap.{insert_entry}
 use Rattle.std.specs.List.{list_all}
 use Rattle.std.specs.Ordering.{nat_cmp}
-use Rattle.std.specs.Prelude.{ℤ, filter_map, flat_map, ◌==◌, IfErr, IfOk, MatchResult, nat_lt, is_none, is_some, option_and_then, slice_get, slice_set, unwrap_or}
+use Rattle.std.specs.Prelude.{ℤ, filter_map, flat_map, ◌==◌, IfErr, IfOk, MatchResult, nat_lt, is_some, option_and_then, slice_get, slice_set, unwrap_or}
 use Rattle.std.proofs.lemmas.Bool.{eqb-true}
 use Rattle.std.proofs.lemmas.Bool.Decides.{nat_tests}
 use Rattle.std.proofs.lemmas.List.{map-append, set-get_or, take_all}
@@ -28,7 +28,7 @@ use Rattle.qz_terms.specs.Catalog as catalog
 use Rattle.qz_terms.specs.CatalogAnswer.{asks_catalog}
 use Rattle.qz_terms.specs.Cause.{forbidden, is_keyed, missing_quiz}
 use Rattle.qz_terms.specs.History as history
-use Rattle.qz_terms.specs.Legal.{IsLegal, has_its_owner, is_here, owner_by}
+use Rattle.qz_terms.specs.Legal.{IsLegal, is_here, owner_by}
 use Rattle.qz_terms.specs.Lists.{in_order, only_if, placed}
 use Rattle.qz_terms.specs.SchoolAnswer.{first_refusal, part_at, part_of, refusal_among, report_answer, report_row, report_rows, school_answer_by, user_after}
 use Rattle.qz_terms.specs.Serial.{Lists, lists_over, reply_over}
@@ -37,10 +37,12 @@ use Rattle.qz_shard.specs.Holdings.{Holding}
 use Rattle.qz_school.specs.Asked.{IsAskedOnce}
 use Rattle.qz_school.specs.Reports.{all_rows, named_row, rows_in, rows_in_order}
 use Rattle.qz_school.specs.Solo.{IsSolo, records_of, settled_lists, solo_lists}
-use Rattle.qz_school.proofs.Desk.{has_no_key, refused_asks, unchanged, wants_memory}
+use Rattle.qz_school.proofs.Desk.{refused_asks, unchanged, wants_memory}
 use Rattle.qz_school.proofs.Settled.{answers_over, lists-read, part-asked, part-still, said-over}
-use Rattle.qz_school.proofs.Solos.{count_of, records-there}
-use Rattle.qz_school.proofs.Standing.{keyless_stands, own_reply}
+use Rattle.qz_school.proofs.Solos.{count_of}
+use Rattle.qz_school.proofs.Standing.{keyless_stands}
+use Rattle.qz_serial.proofs.Answering.{has_no_key}
+use Rattle.qz_serial.proofs.Growing.{own_reply}
 
 -- ---- rows that each user's grade tells
 

@@ -1,8 +1,8 @@
 -- The lists of a school of which no record is in doubt.
-use Rattle.std.proofs.Common.{◌≡◌, ℕ, zero, suc, ◌<◌, Bool, true, false, not, ◌||◌, List, [], ◌∷◌, ◌++◌, Option, Some, None, length, map, refl, sym, ap, ◌∙◌, subst, arith, append-nil}
-use Rattle.std.specs.List.{AllZip, list_any}
-use Rattle.std.specs.Prelude.{if◌then◌else◌, is_none, is_some, option_map, slice_get, slice_set, unwrap_or}
-use Rattle.std.proofs.lemmas.List.{length-map, map-set, length-set}
+use Rattle.std.proofs.Common.{◌≡◌, ℕ, zero, suc, ◌<◌, Bool, true, false, not, List, [], ◌∷◌, Option, Some, None, length, map, refl, sym, ap, ◌∙◌, subst, arith}
+use Rattle.std.specs.List.{list_any}
+use Rattle.std.specs.Prelude.{if◌then◌else◌, is_none, slice_get, slice_set}
+use Rattle.std.proofs.lemmas.List.{length-map, map-set}
 use Rattle.qz_grading.specs.declared.refusal.Refusal.{Refusal}
 use Rattle.qz_terms.specs.declared.ask.Ask.{Ask}
 use Rattle.qz_terms.specs.declared.people.Caller.{Caller}
@@ -14,10 +14,12 @@ use Rattle.qz_terms.specs.declared.request.Request.{Request}
 use Rattle.qz_terms.specs.declared.request.Request.TheVariants as request
 use Rattle.qz_terms.specs.CatalogAnswer.{asks_catalog}
 use Rattle.qz_terms.specs.SchoolAnswer.{asked_part, catalog_list, part_at, part_of, refusal_among, school_answer, school_answer_by, shard_list, user_after}
-use Rattle.qz_terms.specs.Catalog.{user_of, worker}
+use Rattle.qz_terms.specs.Catalog.{user_of}
 use Rattle.qz_terms.specs.Lists.{up_to_first}
-use Rattle.qz_terms.specs.Serial.{AllMended, Asks, Held, Lists, Mended, Turn, answered, goes_on, held_in, is_catalog, is_in_doubt, is_settled, lists_of, lists_over, part_list, part_read, parts_over, reads_catalog, records_over, reply_over, route, stays, with_list}
+use Rattle.qz_terms.specs.Serial.{Asks, Held, Lists, Turn, answered, goes_on, is_catalog, is_in_doubt, is_settled, lists_of, lists_over, part_list, part_read, reads_catalog, records_over, reply_over, route, stays, with_list}
 use Rattle.qz_school.specs.Solo.{settled_lists}
+use Rattle.qz_serial.proofs.Over.{records_kept}
+use Rattle.qz_serial.proofs.Seats.{all_stay}
 
 -- ---- the parts
 
@@ -54,14 +56,10 @@ part-there (p ∷ ps) (suc k) inside = part-there ps k (let more : suc k < suc (
 
 -- ---- turns
 
-all-stay : (ks : List Held) → AllZip Mended ks ks
-all-stay [] = tt
-all-stay (k ∷ ks) = (stays k, all-stay ks)
-
 pub turns : (a b : Lists) (now : ℕ) (ask : Ask) (r : Reply) → Turn a b now ask r → Asks a b now ask r
 turns a b now ask r t = record {
   mended = a;
-  mends = record { records = stays a.records; parts = all-stay a.parts };
+  mends = record { records = stays a.records; parts = all_stay a.parts };
   keeps = record { records = λ unread. refl; parts = λ k unread. refl };
   turn = t;
 }
@@ -89,18 +87,6 @@ answers_over c ps now ask b r lists said =
 
 -- ---- the catalogue
 
-or-true : (b : Bool) → (b || true) ≡ true
-or-true true = refl
-or-true false = refl
-
--- where nothing is asked of it, the catalogue stays as it is
-pub catalog-kept : (c : List Record) (now : ℕ) (ask : Ask) → asks_catalog ask.request ≡ false → catalog_list c now ask ≡ c
-catalog-kept c now ask other = by (user_of c ask.caller) refl
-  where
-    by : (u : Option User) → user_of c ask.caller ≡ u → catalog_list c now ask ≡ c
-    by None none = rw none refl
-    by (Some user) found = rw (found, other, or-true (is_some (Rattle.qz_terms.specs.SchoolAnswer.first_refusal c user ask.request))) refl
-
 -- a worker may ask nothing of it but which jobs there are
 worker-reads : (c : List Record) (ps : List (List Record)) (now : ℕ) (ask : Ask) (x : Request) → ask.request ≡ x → ask.caller ≡ caller.Worker → list_any is_catalog (up_to_first (is_in_doubt (settled_lists c ps)) (Rattle.qz_terms.specs.Serial.worker_route (settled_lists c ps) ask x)) ≡ false → catalog_list c now ask ≡ c
 worker-reads c ps now ask (request.User name role token) is who unread = rw (who, is) refl
@@ -119,7 +105,7 @@ worker-reads c ps now ask (request.Override quiz whom number opens closes limit 
 worker-reads c ps now ask (request.Regrade quiz) is who unread = rw (who, is) refl
 worker-reads c ps now ask (request.Bank entry version) is who unread = rw (who, is) refl
 worker-reads c ps now ask request.Jobs is who unread = absurd cc
-worker-reads c ps now ask x is who unread = catalog-kept c now ask (rw is refl)
+worker-reads c ps now ask x is who unread = records_kept c now ask (rw is refl)
 
 reads-by : (c : List Record) (ps : List (List Record)) (now : ℕ) (ask : Ask) (who : Caller) → ask.caller ≡ who → list_any is_catalog (up_to_first (is_in_doubt (settled_lists c ps)) (route (settled_lists c ps) ask who)) ≡ false → catalog_list c now ask ≡ c
 reads-by c ps now ask (caller.Token token) who unread = absurd cc
@@ -145,7 +131,7 @@ pub lists-read : (c : List Record) (ps : List (List Record)) (now : ℕ) (ask : 
     → lists_over (settled_lists c ps) now ask ≡ settled_lists c (slice_set ps k (user_after c (part_at ps k) now ask user))
 lists-read c ps now ask user k other found read =
     let after : shard_list c (part_list (settled_lists c ps) k) now ask ≡ user_after c (part_at ps k) now ask user = rw (found, part-settled c ps k) refl in
-    rw (read, records-settled c ps now ask, catalog-kept c now ask other, after) (ap (λ (l : List Held). record { records = with_list c; parts = l }) (set-settled c ps k (user_after c (part_at ps k) now ask user)))
+    rw (read, records-settled c ps now ask, records_kept c now ask other, after) (ap (λ (l : List Held). record { records = with_list c; parts = l }) (set-settled c ps k (user_after c (part_at ps k) now ask user)))
 
 pub said-unknown : (c : List Record) (ps : List (List Record)) (now : ℕ) (ask : Ask) (r : Reply) → user_of c ask.caller ≡ None → reply_over (settled_lists c ps) now ask ≡ school_answer c ps now ask
 said-unknown c ps now ask r none = ap (λ (qs : List (List Record)). school_answer c qs now ask) (lists-settled ps)

@@ -24,7 +24,7 @@ use Rattle.qz_terms.specs.History as history
 use Rattle.qz_terms.specs.Legal.{AskIsAllowed, CatalogEventIsAllowed, IsLegalCatalog, LearnsFrom}
 use Rattle.qz_terms.specs.Lists.{once}
 use Rattle.qz_terms.proofs.Standing.{free-by, never-granted}
-use Rattle.qz_school.proofs.Longer.{both-there, entry-there}
+use Rattle.qz_serial.proofs.Longer.{both-there, entry-there}
 
 -- ---- what a request that is granted tells
 

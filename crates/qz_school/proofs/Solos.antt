@@ -1,7 +1,7 @@
 -- What a school in memory keeps, as its parts change.
-use Rattle.std.proofs.Common.{◌≡◌, ◌⊎◌, inl, inr, ℕ, zero, suc, ◌+◌, ◌<◌, ◌≤◌, ◌%◌, Bool, true, false, not, ◌&&◌, List, [], ◌∷◌, ◌++◌, Option, Some, None, Result, Ok, Err, length, map, option_map, refl, sym, ap, ◌∙◌, subst, arith, eq-eqb, get_or}
+use Rattle.std.proofs.Common.{◌≡◌, ◌⊎◌, inl, inr, ℕ, zero, suc, ◌+◌, ◌<◌, ◌≤◌, ◌%◌, Bool, true, false, not, ◌&&◌, List, [], ◌∷◌, ◌++◌, Option, Some, None, length, map, refl, sym, ap, ◌∙◌, subst, arith, eq-eqb, get_or}
 use Rattle.std.specs.List.{range_with_len}
-use Rattle.std.specs.Prelude.{◌==◌, IfErr, IfOk, MatchResult, filter_map, is_some, nat_le, nat_lt, replicate, slice_get, slice_set}
+use Rattle.std.specs.Prelude.{filter_map, nat_le, nat_lt, replicate, slice_get, slice_set}
 use Rattle.std.proofs.lemmas.Bool.Decides.{nat_tests}
 use Rattle.std.proofs.lemmas.List.{length-map, length-set, map-set}
 use Rattle.std.proofs.lemmas.List.Elements.{filter_map-append}
@@ -31,11 +31,12 @@ use Rattle.qz_catalog.specs.Holdings.{founded}
 use Rattle.qz_catalog.specs.Applying as records
 use Rattle.qz_shard.specs.Holdings.{Holding, is_shard}
 use Rattle.qz_school.specs.Asked.{IsAskedOnce}
-use Rattle.qz_school.specs.Solo.{ArePlaced, IsKeptUnder, IsSameShard, IsSolo, Tells, asks_shard, founded_lists, fresh_shards, records_of, settled_lists, solo_lists}
+use Rattle.qz_school.specs.Solo.{IsKeptUnder, IsSameShard, IsSolo, Tells, asks_shard, founded_lists, fresh_shards, records_of, settled_lists, solo_lists}
 use Rattle.qz_school.proofs.Agreeing.{all-empty, all-longer}
-use Rattle.qz_school.proofs.Desk.{goes_to_part, nowhere_asks, part_asks, records_ask, refused_asks, unknown_asks, wants_memory}
+use Rattle.qz_school.proofs.Desk.{nowhere_asks, part_asks, refused_asks, wants_memory}
 use Rattle.qz_school.proofs.Settled.{count-settled, lists-settled, part-settled, part-still}
-use Rattle.qz_school.proofs.Standing.{Grows, grown_records}
+use Rattle.qz_serial.proofs.Growing.{Grows, grown_records}
+use Rattle.qz_serial.specs.Paths.{goes_to_part}
 
 -- ---- one shard
 

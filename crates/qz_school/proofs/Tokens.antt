@@ -18,7 +18,7 @@ use Rattle.qz_terms.proofs.Readings.{first_of-append}
 use Rattle.qz_terms.proofs.Standing.{bytes-same, free-by, never-granted, unmapped}
 use Rattle.qz_school.specs.Agreement.{UsersHaveTokens}
 use Rattle.qz_school.proofs.Callers.{token-placed}
-use Rattle.qz_school.proofs.Longer.{first-there, later-users, users-append}
+use Rattle.qz_serial.proofs.Longer.{first-there, later-users, users-append}
 
 -- each of these users is found by the own token
 record FindsOwn (us : List User) : Type 0 where

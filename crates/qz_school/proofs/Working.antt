@@ -32,8 +32,8 @@ use Rattle.qz_school.specs.Working.{GoesOnWorking}
 use Rattle.qz_school.proofs.Agreeing.{all-push, job-within}
 use Rattle.qz_school.proofs.AlikeInSchool.{front-stays, version-agrees}
 use Rattle.qz_school.proofs.Callers.{caller-placed}
-use Rattle.qz_school.proofs.Longer.{quiz-stays}
-use Rattle.qz_school.proofs.Places.{some-there}
+use Rattle.qz_serial.proofs.Longer.{quiz-stays}
+use Rattle.qz_serial.proofs.Places.{some-there}
 use Rattle.qz_school.proofs.Slotting.{both-true, has_version, learns-new, slots-have-versions}
 
 -- ---- the record that makes a job

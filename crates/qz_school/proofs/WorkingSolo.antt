@@ -1,13 +1,12 @@
 -- A step of a job in a school in memory.
-use Rattle.std.proofs.Common.{◌≡◌, ◌⊎◌, inl, inr, ℕ, ◌<◌, ◌≤◌, Bool, true, false, List, [], ◌∷◌, Option, Some, None, length, refl, sym, ap, ◌∙◌, subst, arith}
+use Rattle.std.proofs.Common.{◌≡◌, ◌⊎◌, inl, inr, ℕ, ◌<◌, ◌≤◌, true, false, List, Option, Some, None, length, refl, sym, ◌∙◌, subst, arith}
 use Rattle.std.specs.Prelude.{is_none, is_some, nat_le, option_and_then, slice_get, slice_set}
 use Rattle.std.proofs.lemmas.Bool.Decides.{nat_tests}
 use Rattle.std.proofs.lemmas.Option.{slice_get_within}
-use Rattle.qz_grading.specs.declared.question.Question.{Question}
 use Rattle.qz_grading.specs.declared.refusal.Refusal.{Refusal}
 use Rattle.qz_grading.specs.declared.refusal.Refusal.TheVariants as refusal
 use Rattle.qz_grading.specs.declared.refusal.Thing.TheVariants as thing
-use Rattle.qz_grading.specs.Behaviours.{first_some, when}
+use Rattle.qz_grading.specs.Behaviours.{when}
 use Rattle.qz_grading.specs.Grading.{at_place}
 use Rattle.qz_terms.specs.declared.ask.Ask.{Ask}
 use Rattle.qz_terms.specs.declared.people.User.{User}
@@ -17,7 +16,6 @@ use Rattle.qz_terms.specs.declared.reply.Reply.{Reply}
 use Rattle.qz_terms.specs.declared.reply.Reply.TheVariants as reply
 use Rattle.qz_terms.specs.declared.request.Request.{Request}
 use Rattle.qz_terms.specs.declared.request.Request.TheVariants as request
-use Rattle.qz_terms.specs.Answer.{work_after, work_answer}
 use Rattle.qz_terms.specs.SchoolAnswer.{first_refusal, part_of, refusal_among}
 use Rattle.qz_terms.specs.Catalog as catalog
 use Rattle.qz_terms.specs.Cause.{forbidden, is_keyed, missing_in, missing_shard}
@@ -25,8 +23,8 @@ use Rattle.qz_terms.specs.Kept.{IsKeptPlan, is_moment}
 use Rattle.qz_terms.specs.Legal.{AllAgree, IsLegal}
 use Rattle.qz_shard.specs.Holdings.{Holding, IsWorkable, Works}
 use Rattle.qz_school.specs.Asked.{IsAskedOnce}
-use Rattle.qz_school.specs.Solo.{IsKeptUnder, IsSameShard, IsSolo, Tells, records_of, solo_lists}
-use Rattle.qz_school.proofs.Desk.{goes_to_part, nowhere_asks, refused_asks, wants_memory}
+use Rattle.qz_school.specs.Solo.{IsSameShard, IsSolo, Tells, records_of, solo_lists}
+use Rattle.qz_school.proofs.Desk.{nowhere_asks, refused_asks, wants_memory}
 use Rattle.qz_school.proofs.Solos.{changed_asks, changed_solo, count_of, kept_there}
 use Rattle.qz_school.proofs.Working.{working_law}
 

@@ -1,5 +1,4 @@
 pub mod Agreement
-pub mod Repeating
 pub mod Alike
 pub mod Asked
 pub mod Solo

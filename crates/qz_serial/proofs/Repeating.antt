@@ -15,9 +15,9 @@ use Rattle.qz_terms.specs.Catalog.{asked}
 use Rattle.qz_terms.specs.CatalogAnswer.{asks_catalog, catalog_after, catalog_answer, catalog_verdict, is_look_in, keeps_record, looked_in_by, put_in, record_in}
 use Rattle.qz_terms.specs.Cause.{Granted, Repeated, by_key, cause_in, forbidden, has_key, is_keyed, is_keyless, keeps_request, missing_in}
 use Rattle.qz_terms.proofs.Standing.{Comes, by_key-append, by_key-push, bytes-same, comes, keyed-by, never-granted, passes, repeats}
-use Rattle.qz_school.specs.Repeating.{CatalogActsOnce, StandsInCatalog}
-use Rattle.qz_school.proofs.Longer.{found-stays}
-use Rattle.qz_school.proofs.Same.{kept-same}
+use Rattle.qz_serial.specs.Repeating.{CatalogActsOnce, StandsInCatalog}
+use Rattle.qz_serial.proofs.Longer.{found-stays}
+use Rattle.qz_serial.proofs.Same.{kept-same}
 
 -- a record keeps the request that it was asked by
 kept-own : (x : Request) (r : Record) → asked r ≡ Some x → keeps_record x ≡ true → keeps_request x r ≡ true

@@ -24,15 +24,15 @@ use Rattle.qz_terms.specs.declared.request.Request.{Request}
 use Rattle.qz_terms.specs.declared.request.Request.TheVariants as request
 use Rattle.qz_terms.specs.declared.request.Whom.{Whom}
 use Rattle.qz_terms.specs.declared.request.Whom.TheVariants as whom
-use Rattle.qz_terms.specs.Catalog.{Person, asked, changed_by, changes, entries, group_by, groups, has_token, imports_by, is_ready, job, job_with, jobs, latest, made_user, plan, quiz_by, quizzes, readies, regrade_by, slot_by, slots, slots_made, user_of, user_of_token, user_with, users, version}
+use Rattle.qz_terms.specs.Catalog.{Person, asked, changed_by, changes, entries, group_by, groups, has_token, imports_by, is_ready, job, job_with, jobs, made_user, plan, quiz_by, quizzes, readies, regrade_by, slot_by, slots, slots_made, user_of, user_with, users, version}
 use Rattle.qz_terms.specs.Catalog as catalog
 use Rattle.qz_terms.specs.Cause.{forbidden, missing_entry, missing_group, missing_in, missing_quiz, missing_user, missing_whom}
 use Rattle.qz_terms.specs.History as history
 use Rattle.qz_terms.specs.Lists.{first_of}
 use Rattle.qz_terms.specs.SchoolAnswer.{first_refusal, plan_for}
 use Rattle.qz_terms.proofs.Readings.{first_of-append}
-use Rattle.qz_school.specs.Agreement.{StaysThere}
-use Rattle.qz_school.proofs.Places.{at-append, kept-there, numbered-append, numbered-there, numbered-told-append, present-append, some-there}
+use Rattle.qz_serial.specs.Staying.{StaysThere}
+use Rattle.qz_serial.proofs.Places.{at-append, kept-there, numbered-append, numbered-there, numbered-told-append, present-append, some-there}
 
 -- ---- users, entries and versions
 

@@ -1,5 +1,0 @@
-use Rattle.qz_school.proofs.Repeating.{repeating_law}
-use Rattle.qz_school.proofs.laws.catalog_acts_once.Goals as goal
-
-pub returns : goal.returns
-returns c = repeating_law
