@@ -1,5 +1,5 @@
 -- What a reply that fits tells of a school whose one job is done.
-use Rattle.std.proofs.Common.{◌≡◌, ℕ, zero, suc, ◌<◌, Bool, true, false, not, ◌&&◌, ◌||◌, refl, sym, ap, ◌∙◌, subst, eqb-true, ltb-true, leb-true, arith}
+use Rattle.std.proofs.Common.{◌≡◌, ℕ, zero, suc, ◌<◌, Bool, true, false, not, ◌&&◌, ◌||◌, refl, sym, ap, ◌∙◌, subst, eqb-true, ltb-true, leb-true, true≢false, arith}
 use Rattle.std.specs.Prelude.{nat_lt, nat_eq}
 use Rattle.qz_grading.specs.declared.refusal.Refusal.TheVariants as refusal
 use Rattle.qz_grading.specs.declared.refusal.Thing.TheVariants as thing
@@ -10,9 +10,10 @@ use Rattle.qz_terms.specs.declared.reply.Reply.TheVariants as reply
 use Rattle.qz_terms.specs.declared.request.Request.{Request}
 use Rattle.qz_terms.specs.declared.request.Request.TheVariants as request
 use Rattle.qz_terms.specs.History.{is_done}
+use Rattle.qz_terms.specs.Laws.{tells_of_outside}
 use Rattle.qz_terms.specs.Serial.{part_list}
 use Rattle.qz_regrading.specs.ExamplesSchool.{fits, regraded_school}
-use Rattle.qz_regrading.specs.Workers.{TellsWorker, tells_done}
+use Rattle.qz_regrading.specs.Workers.{CountsFault, TellsWorker, tells_done}
 use Rattle.qz_regrading.proofs.Keeping.{keeps-same}
 
 both : (shard : ℕ) → shard < 2 → is_done (part_list regraded_school shard) 1 ≡ true
@@ -38,3 +39,7 @@ fit-tells x r fit = record {
   missing = λ job shard is told. leb-true 2 shard (sym (ap (λ (y : Request). fits y (reply.Refused (refusal.Unknown thing.Shard))) is) ∙ sym (ap (fits x) told) ∙ fit);
   counted = λ place count is told. eqb-true count 1 (sym (ap (λ (y : Request). fits y (reply.Ok place (done.Jobs count))) is) ∙ sym (ap (fits x) told) ∙ fit);
 }
+
+-- an answer that tells of nothing outside counts no fault
+pub counts_none : (n : ℕ) (r : Reply) → tells_of_outside r ≡ false → CountsFault n n r
+counts_none n r own = record { later = omega arith; fault = λ told. absurd (true≢false (sym (ap tells_of_outside told) ∙ own)) }

@@ -1,5 +1,5 @@
 -- What a pass has met, one part after the other.
-use Rattle.std.proofs.Common.{◌≡◌, ℕ, ◌+◌, ◌-◌, ◌^◌, ◌<◌, ◌≤◌, min, Bool, true, false, List, length, Some, None, refl, sym, ap, subst, eqb, ltb, eqb-true, ltb-true, ltb-false, true≢false, arith}
+use Rattle.std.proofs.Common.{◌≡◌, ℕ, ◌+◌, ◌<◌, ◌≤◌, min, Bool, true, false, length, Some, refl, sym, ap, subst, eqb, ltb, eqb-true, ltb-true, ltb-false, true≢false, arith}
 use Rattle.std.proofs.lemmas.Bool.{eqb-false}
 use Rattle.qz_grading.specs.declared.refusal.Refusal.{Refusal}
 use Rattle.qz_grading.specs.declared.refusal.Refusal.TheVariants as refusal

@@ -1,6 +1,6 @@
 -- What replies by the rules tell a worker.
-use Rattle.std.proofs.Common.{◌≡◌, ℕ, zero, suc, ◌<◌, ◌≤◌, ◌⊎◌, Bool, true, false, cond, not, ◌||◌, List, [], ◌∷◌, ◌++◌, Option, Some, None, length, map, refl, sym, ap, ◌∙◌, subst, eq-eqb, leb-true, leb-false, inl, inr, append-nil, arith}
-use Rattle.std.specs.List.{AllZip, list_any}
+use Rattle.std.proofs.Common.{◌≡◌, ℕ, zero, suc, ◌<◌, ◌≤◌, ◌⊎◌, Bool, true, false, cond, ◌||◌, List, [], ◌∷◌, ◌++◌, Option, Some, None, length, refl, sym, ap, ◌∙◌, subst, eq-eqb, leb-true, leb-false, inl, inr, append-nil, arith}
+use Rattle.std.specs.List.{AllZip}
 use Rattle.std.specs.Prelude.{is_none, is_some, nat_le, option_and_then, option_map, option_to_list, slice_get, slice_set, unwrap_or}
 use Rattle.std.proofs.lemmas.Bool.{false≢true}
 use Rattle.std.proofs.lemmas.List.{length-map}
@@ -32,12 +32,12 @@ use Rattle.qz_terms.specs.CatalogAnswer.{asks_catalog}
 use Rattle.qz_terms.specs.SchoolAnswer.{after_by, job_after, job_answer, part_at, plan_for, shard_after, shard_list, user_after}
 use Rattle.qz_terms.specs.Catalog as catalog
 use Rattle.qz_terms.specs.Catalog.{worker}
-use Rattle.qz_terms.specs.Cause.{Denied, Granted, Repeated, Verdict, may_ask}
+use Rattle.qz_terms.specs.Cause.{Denied, Granted, Repeated, Verdict}
 use Rattle.qz_terms.specs.History as history
 use Rattle.qz_terms.specs.Laws.{tells_of_outside}
-use Rattle.qz_terms.specs.Serial.{AllMended, Asks, Held, Lists, Mended, Turn, adopted, answered, doubt_over, doubted, doubted_parts, dropped, lists_of, lists_over, no_memory, part_list, part_read, parts_over, put_in_doubt, reads_catalog, reply_over, stayed_in_doubt, stays, with_list}
+use Rattle.qz_terms.specs.Serial.{Asks, Held, Lists, Mended, Turn, adopted, answered, doubted, doubted_parts, dropped, lists_of, lists_over, no_memory, part_list, part_read, parts_over, put_in_doubt, reads_catalog, reply_over, stayed_in_doubt, stays, with_list}
 use Rattle.qz_regrading.specs.Workers.{AsksKeep, AsksTell, CountsFault, IsFront, ServesWorkers, KeepsParts, TellsWorker, tells_done, worker_asks}
-use Rattle.qz_regrading.proofs.Keeping.{front-same, keeps-more, keeps-same}
+use Rattle.qz_regrading.proofs.Keeping.{front-same, keeps-more}
 
 -- ---- the lists of shards
 

@@ -5,7 +5,6 @@ use Rattle.qz_grading.specs.declared.refusal.Refusal.TheVariants as refusal
 use Rattle.qz_grading.specs.declared.refusal.Thing.{Thing}
 use Rattle.qz_grading.specs.declared.refusal.Thing.TheVariants as thing
 use Rattle.qz_outside.specs.Causes.{HasRisen, counted}
-use Rattle.qz_terms.specs.Catalog.{jobs}
 use Rattle.qz_terms.specs.History.{is_done}
 use Rattle.qz_terms.specs.Serial.{Lists, part_list}
 use Rattle.qz_regrading.specs.declared.ends.LoopEnd.{LoopEnd}

@@ -1,7 +1,8 @@
-ghost use Rattle.std.specs.Prelude.{◌≡◌, true, ⊤};
+ghost use Rattle.std.specs.Prelude.{◌≡◌, false, true, ⊤};
 ghost use Rattle.qz_grading.specs.declared.refusal.Refusal.TheVariants as refusal;
 ghost use Rattle.qz_terms.specs.declared.reply.Reply.TheVariants as reply;
 ghost use Rattle.qz_terms.specs.declared.request.Request.TheVariants as request;
+ghost use Rattle.qz_terms.specs.Laws.{tells_of_outside};
 ghost use Rattle.qz_regrading.specs.ExamplesSchool.{fits, regraded_school};
 ghost use Rattle.qz_regrading.specs.Workers.{CountsFault};
 
@@ -39,7 +40,8 @@ fn accepted(done: Done) -> Reply
 }
 
 fn worked(job: u32, shard: u8) -> Reply
-    ensures { fits (request.Work job shard) result ≡ true }
+    ensures fits { fits (request.Work job shard) result ≡ true }
+    ensures own { tells_of_outside result ≡ false }
 {
     if job != 1 {
         return unknown(Thing::Job);
@@ -50,7 +52,9 @@ fn worked(job: u32, shard: u8) -> Reply
     accepted(Done::AlreadyDone { job })
 }
 
-fn live(shard: u8, after: AttemptId) -> Reply {
+fn live(shard: u8, after: AttemptId) -> Reply
+    ensures { tells_of_outside result ≡ false }
+{
     if shard >= 2 {
         return unknown(Thing::Shard);
     }
@@ -62,7 +66,8 @@ fn live(shard: u8, after: AttemptId) -> Reply {
 impl Scripted<'_> {
     fn work(&mut self, job: u32, shard: u8) -> Reply
         ensures fits { fits (request.Work job shard) result ≡ true }
-        ensures counts { CountsFault self.old.faults self.new.faults result }
+        ensures own { tells_of_outside result ≡ false }
+        ensures kept { self.new.faults ≡ self.old.faults }
     {
         if self.steps > 0 {
             self.steps -= 1;
@@ -73,7 +78,8 @@ impl Scripted<'_> {
 
     fn answer(&mut self, request: &Request) -> Reply
         ensures fits { fits request.now result ≡ true }
-        ensures counts { CountsFault self.old.faults self.new.faults result }
+        ensures own { tells_of_outside result ≡ false }
+        ensures kept { self.new.faults ≡ self.old.faults }
     {
         match request {
             Request::Work { job, shard } => self.work(*job, *shard),
@@ -93,6 +99,7 @@ impl Desk for Scripted<'_> {
 
     ghost answers = { λ a b _ ask r. (fits ask.request r ≡ true) × CountsFault a.faults b.faults r };
 
+    #[tactic(auto, using(crate::proofs::Examples::counts_none))]
     fn ask(&mut self, _alloc: Global, ask: &Ask, _moment: u64) -> Reply {
         self.asked = self.asked.saturating_add(1);
         if self.asked == self.leaves {

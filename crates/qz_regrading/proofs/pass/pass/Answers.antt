@@ -1,4 +1,3 @@
-use Rattle.std.proofs.Common.{arith}
 use Rattle.qz_regrading.proofs.Meeting.{passed-all, passed-first, passed-more}
 use Rattle.qz_regrading.proofs.pass.pass.Goals as goal
 
