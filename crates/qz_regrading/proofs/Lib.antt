@@ -1,0 +1,4 @@
+pub mod Keeping
+pub mod Meeting
+pub mod Telling
+pub mod Examples

@@ -1,0 +1,5 @@
+use Rattle.std.proofs.Common.{◌≤◌}
+use Rattle.qz_regrading.proofs.pass.regrade_loop.Given as goal
+
+abbrev pub invariant-loop : goal.invariant-loop
+invariant-loop g l = g.D.Desk.faults l.fn.desk ≤ g.D.Desk.faults l.desk

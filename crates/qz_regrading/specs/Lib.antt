@@ -1,0 +1,4 @@
+pub mod Workers
+pub mod Passes
+pub mod Loops
+pub mod ExamplesSchool

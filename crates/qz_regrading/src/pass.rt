@@ -1,0 +1,64 @@
+//! The passes of a worker.
+
+ghost use Rattle.qz_regrading.specs.Loops.{LoopEnds};
+ghost use Rattle.qz_regrading.specs.Passes.{PassEnds};
+ghost use Rattle.qz_regrading.specs.Workers.{ServesWorkers, TakesWork};
+
+use crate::met::Met;
+use crate::sweep::sweep;
+use crate::walk::walk;
+use crate::worker::count_jobs;
+use crate::{LoopEnd, Stop};
+use qz_links::Clock;
+use qz_terms::Desk;
+use std::alloc::Global;
+
+/// One pass: works on each job in each shard, settles the attempts whose time is over, and goes on with the jobs that there are then.
+fn pass<D: Desk, C: Clock>(alloc: Global, desk: &mut D, clock: &mut C) -> Met
+    requires takes { TakesWork D.takes }
+    requires serves { ServesWorkers D.lists D.faults D.answers }
+    ensures { PassEnds (D.lists desk.new) (D.faults desk.old) (D.faults desk.new) result }
+{
+    let mut met = Met::nothing();
+    let mut next = walk(alloc, desk, clock, &mut met, 1);
+    sweep(alloc, desk, clock, &mut met);
+    for _ in 0..u64::MAX {
+        match count_jobs(alloc, desk, clock, &mut met) {
+            Some(count) if count >= next => next = walk(alloc, desk, clock, &mut met, next),
+            Some(_) | None => return met,
+        }
+    }
+    met.fall_short();
+    met
+}
+
+/// Makes passes until `stop` is set, then one more, and tells what that last one came to.
+///
+/// A pass works on each job of the catalogue in each shard, step by step, until the job is done there; it settles the attempts that haven't
+/// ended, where their time is over; then it asks how many jobs there are, and goes on with those that came meanwhile. Where a keeper of the
+/// lists fails or memory is wanting, it goes on with the next shard, after a settling with the next attempt, and after the question how
+/// many jobs there are it ends.
+///
+/// With `Done` the desk's lists have each of its catalogue's jobs done in each shard. With `Left` keepers failed in so many requests of the
+/// last pass, at least one, by which the desk's count of faults rose. With `Short` no keeper failed in the last pass, but memory was wanting,
+/// or the desk refused a request as no school does.
+///
+/// The call returns no sooner than `stop` is set.
+pub fn regrade_loop<D: Desk, C: Clock>(
+    alloc: Global,
+    desk: &mut D,
+    clock: &mut C,
+    stop: &Stop,
+) -> LoopEnd
+    requires takes { TakesWork D.takes }
+    requires serves { ServesWorkers D.lists D.faults D.answers }
+    ensures { LoopEnds (D.lists desk.new) (D.faults desk.old) (D.faults desk.new) result }
+{
+    for _ in 0..u64::MAX {
+        if stop.is_set() {
+            break;
+        }
+        pass(alloc, desk, clock);
+    }
+    pass(alloc, desk, clock).end()
+}
