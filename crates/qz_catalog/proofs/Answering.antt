@@ -42,25 +42,6 @@ put-held c es now user ask p none few = record {
   bank = bank-after c es (record_in c now user ask) ask.request p.held.bank refl none;
 }
 
-pub put-answered : (c : List Record) (es : List Entry) (now : ℕ) (user : User) (ask : Ask) (r : Record) (told : Reply) (g : List Record) (gs : List Entry) → IsPosed c es now user ask → bank_cause es ask.request ≡ None → length c + 1 < 2 ^ 32 - 1
-    → r ≡ record_in c now user ask → told ≡ said (c ++ r ∷ []) r → g ≡ c ++ r ∷ [] → gs ≡ bank_after es ask.request → IsAnswered c now user ask told g gs
-put-answered c es now user ask r told g gs p none few is says put bank =
-    let verdict : catalog_verdict c now user ask ≡ Granted = granted c es now user ask p.held.bank p.free none in
-    let answer : catalog_answer c now user ask ≡ said (c ++ record_in c now user ask ∷ []) (record_in c now user ask) = rw (verdict, p.keeps) refl in
-    let after : catalog_after c now user ask ≡ c ++ record_in c now user ask ∷ [] = rw (verdict, p.keeps) refl in
-    let list : g ≡ c ++ record_in c now user ask ∷ [] = put ∙ ap (λ (s : Record). c ++ s ∷ []) is in
-    record {
-      reply = says ∙ ap (λ (s : Record). said (c ++ s ∷ []) s) is ∙ sym answer;
-      list = list ∙ sym after;
-      held = subst (λ (l : List Record). IsHeld l gs) (sym list) (subst (IsHeld (c ++ record_in c now user ask ∷ [])) (sym bank) (put-held c es now user ask p none few));
-    }
-
-pub refused-told : (c : List Record) (es : List Entry) (now : ℕ) (user : User) (ask : Ask) (r : Refusal) → IsPosed c es now user ask → ((r ≡ refusal.Memory) ⊎ (bank_cause es ask.request ≡ Some r)) → (r ≡ refusal.Memory) ⊎ (catalog_verdict c now user ask ≡ Denied r)
-refused-told c es now user ask r p cause = elim cause [
-  | inl memory ↦ inl memory
-  | inr some ↦ inr (refused c es now user ask r p.held.bank p.free some)
-]
-
 -- ---- a record that is told of again
 
 pub repeated-answer : (c : List Record) (user : User) (ask : Ask) (n : ℕ) (r : Record) (told : Reply) → IsRepeated c n (verdict_in c user (stand_in ask.key ask.request) ask) → r ≡ get_or c n r → told ≡ said (take (n + 1) c) r → IsLooked c user ask told
@@ -86,17 +67,3 @@ look-answer c es user ask told held free look says =
       reply = λ now. let answer : catalog_answer c now user ask ≡ reply.Ok (length c) (looked_in_by c ask.request) = rw (verdict now, look) refl in says ∙ sym answer;
       list = λ now. let after : catalog_after c now user ask ≡ c = rw (verdict now, look) (append-nil c) in sym after;
     }
-
--- ---- a refusal
-
-pub denied-answer : (c g : List Record) (now : ℕ) (user : User) (ask : Ask) (r : Refusal) → catalog_verdict c now user ask ≡ Denied r → g ≡ c → Answers c now user ask (reply.Refused r) g
-denied-answer c g now user ask r verdict same =
-    let answer : catalog_answer c now user ask ≡ reply.Refused r = rw verdict refl in
-    let after : catalog_after c now user ask ≡ c = rw verdict refl in
-    inl (sym answer, same ∙ sym after)
-
-pub refused-answer : (c g : List Record) (now : ℕ) (user : User) (ask : Ask) (r : Refusal) → ((r ≡ refusal.Memory) ⊎ (catalog_verdict c now user ask ≡ Denied r)) → g ≡ c → Answers c now user ask (reply.Refused r) g
-refused-answer c g now user ask r cause same = elim cause [
-  | inl memory ↦ inr (ap reply.Refused memory, same)
-  | inr verdict ↦ denied-answer c g now user ask r verdict same
-]

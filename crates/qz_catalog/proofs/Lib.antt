@@ -19,3 +19,5 @@ pub mod PinLemmas
 pub mod AdoptLemmas
 pub mod Allowing
 pub mod LoadLemmas
+pub mod Shortness
+pub mod KeptCalls

@@ -25,7 +25,7 @@ use Rattle.qz_roster.proofs.Telling.{there-is}
 use Rattle.qz_catalog.specs.Applying.{IsAnswered, IsAskedAt, IsLooked, IsPosed, IsRepeated, IsShort, IsToldOver, bank_after, bank_cause, stand_in}
 use Rattle.qz_catalog.specs.Holdings.{AreShown, IsHeld, IsShownBy}
 use Rattle.qz_catalog.specs.Shown.{done_with}
-use Rattle.qz_catalog.proofs.Answering.{put-answered, repeated-answer}
+use Rattle.qz_catalog.proofs.Answering.{repeated-answer}
 use Rattle.qz_catalog.proofs.Bounds.{short}
 use Rattle.qz_catalog.proofs.Granting.{asked-by}
 use Rattle.qz_catalog.proofs.KeyLemmas.{split-at}
@@ -137,17 +137,11 @@ asked-inside c ns n are there = let inside = slice_get_within c n there.item the
 pub put-at : (l g : List Record) (r : Record) (at : ℕ) → g ≡ l ++ r ∷ [] → at ≡ length l → slice_get g at ≡ Some r
 put-at l g r at list place = ap (slice_get g) place ∙ ap (λ (k : List Record). slice_get k (length l)) list ∙ slice_get-push l r
 
-put-said : (c l g : List Record) (r : Record) (told : Reply) (at : ℕ) → l ≡ c → g ≡ l ++ r ∷ [] → at ≡ length l → ((s : Record) → slice_get g at ≡ Some s → told ≡ said (take (at + 1) g) s) → told ≡ said (c ++ r ∷ []) r
+pub put-said : (c l g : List Record) (r : Record) (told : Reply) (at : ℕ) → l ≡ c → g ≡ l ++ r ∷ [] → at ≡ length l → ((s : Record) → slice_get g at ≡ Some s → told ≡ said (take (at + 1) g) s) → told ≡ said (c ++ r ∷ []) r
 put-said c l g r told at same list place says =
     let long : length g ≡ length l + 1 = ap (λ (k : List Record). length k) list ∙ length-append l (r ∷ []) in
     let whole : take (at + 1) g ≡ c ++ r ∷ [] = take_all (at + 1) g (omega arith) ∙ list ∙ ap (λ (k : List Record). k ++ r ∷ []) same in
     says r (put-at l g r at list place) ∙ ap (λ (k : List Record). said k r) whole
-
--- a reply over a list that has one record more is the answer
-pub put-done : (c l g : List Record) (es gs : List Entry) (now : ℕ) (user : User) (ask : Ask) (r : Record) (told : Reply) (at : ℕ) → IsPosed c es now user ask → bank_cause es ask.request ≡ None → length l + 1 < 2 ^ 32 - 1
-    → r ≡ record_in c now user ask → l ≡ c → g ≡ l ++ r ∷ [] → at ≡ length l → ((s : Record) → slice_get g at ≡ Some s → told ≡ said (take (at + 1) g) s) → gs ≡ bank_after es ask.request → IsAnswered c now user ask told g gs
-put-done c l g es gs now user ask r told at p none few made same list place says bank =
-    put-answered c es now user ask r told g gs p none (subst (λ (k : List Record). length k + 1 < 2 ^ 32 - 1) same few) made (put-said c l g r told at same list place says) (list ∙ ap (λ (k : List Record). k ++ r ∷ []) same) bank
 
 pub none-asked : (e : Event) → ((x : Request) → e ≡ event.Asked x → ⊥) → asked_by e ≡ None
 none-asked (event.Asked x) none = absurd (none x refl)

@@ -19,7 +19,7 @@ use Rattle.qz_terms.specs.declared.request.Request.TheVariants as request
 use Rattle.qz_terms.specs.Catalog as catalog
 use Rattle.qz_terms.specs.CatalogAnswer.{asks_catalog, catalog_after, catalog_answer, is_look_in}
 use Rattle.qz_terms.specs.Cause.{Verdict, Denied, Repeated, by_key, cause_in, forbidden, is_keyed, keeps_request, missing_in, most_for_kind, verdict_in}
-use Rattle.qz_terms.specs.Kept.{KeepsAsked, asks_described, is_moment}
+use Rattle.qz_terms.specs.Kept.{IsKept, KeepsAsked, asks_described, is_moment}
 use Rattle.qz_terms.specs.Legal.{IsLegalCatalog}
 use Rattle.qz_roster.specs.Roster.{HasRoom, IsNext, IsRosterOf}
 use Rattle.qz_catalog.specs.declared.book.Book.{Book}
@@ -140,6 +140,13 @@ pub record IsReady (b : Book) (r : Record) (p : Option Prepared) : Type 0 where
   pub records : vec_len b.records < vec_capacity b.records
   pub numbers : vec_len b.shown < vec_capacity b.shown
   pub pins : vec_len b.pinned < vec_capacity b.pinned
+
+-- the record may stand behind those of a book, and the change prepared is what it does to the bank
+pub record CanPut (b : Book) (r : Record) (p : Option Prepared) : Type 0 where
+  pub next : IsNext b.records.items r
+  pub kept : IsKept r
+  pub change : MayPut b.entries p
+  pub held : length b.records.items + 1 < 2 ^ 32 - 1 → IsHeld (b.records.items ++ r ∷ []) (bank_with b.entries p)
 
 -- the records and their bank, and a request that nothing stands against but a new version's own causes
 pub record IsPosed (c : List Record) (es : List Entry) (now : ℕ) (user : User) (ask : Ask) : Type 0 where

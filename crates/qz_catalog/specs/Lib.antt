@@ -4,3 +4,4 @@ pub mod Readings
 pub mod Applying
 pub mod Allowed
 pub mod Loads
+pub mod Keeping

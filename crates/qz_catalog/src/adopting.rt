@@ -9,10 +9,11 @@ ghost use Rattle.qz_catalog.specs.Applying.{MayPut, bank_cause, bank_told, bank_
 ghost use Rattle.qz_catalog.specs.Holdings.{IsBook, keeps_described};
 
 use crate::book::Book;
-use crate::pins::pin_of;
-use crate::putting::{append, make_book_room, prepare};
+use crate::putting::{append, make_book_room, prepare, put_record};
 use qz_bank::{Entries, Prepared};
+use qz_disks::KeepErr;
 use qz_grading::Refusal;
+use qz_keeper::Unrecorded;
 use qz_roster::Roster;
 use qz_terms::{Event, Record};
 use qz_text::NoMemory;
@@ -50,10 +51,11 @@ pub(crate) fn adopt(alloc: Global, book: &mut Book, record: Record) -> Result<()
     ensures book { IsBook book.new }
 {
     let prepared = prepare_allowed(alloc, &book.entries, &record)?;
-    let pin = pin_of(alloc, book, &record)?;
-    make_book_room(alloc, book, &record)?;
-    append(alloc, book, record, prepared, pin);
-    Ok(())
+    match put_record(alloc, book, record, prepared, &mut Unrecorded) {
+        Ok(()) => Ok(()),
+        Err(KeepErr::Memory) => Err(NoMemory),
+        Err(KeepErr::Fault) => unreachable!(),
+    }
 }
 
 /// The book of a first record, which is a founding.

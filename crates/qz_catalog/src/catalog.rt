@@ -1,303 +1,246 @@
-//! The catalogue and what is asked of it.
+//! A catalogue whose list a keeper keeps, and what is asked of it.
 
-ghost use Rattle.std.specs.List.{list_all};
-ghost use Rattle.std.specs.Prelude.{◌≡◌, ◌⊎◌, ◌≤◌, [], ◌∷◌, ◌++◌, true, false, length, map, Some, None, option_copied, option_map, All, IfOk, IfErr, OnErr, OnOk};
-ghost use Rattle.qz_decimal.specs.Numbers.{IsMaxSum, IsQuizGrade};
-ghost use Rattle.qz_grading.specs.declared.refusal.Refusal.TheVariants as refusal;
-ghost use Rattle.qz_grading.specs.Behaviours.{first_some};
-ghost use Rattle.qz_terms.specs.declared.people.User.{User};
-ghost use Rattle.qz_terms.specs.Catalog.{job, plan, policy, user_of_token, users, version};
-ghost use Rattle.qz_terms.specs.CatalogAnswer.{asks_catalog, catalog_after, catalog_answer, catalog_verdict, is_look_in};
-ghost use Rattle.qz_terms.specs.Cause.{Denied, missing_quiz, missing_user};
-ghost use Rattle.qz_terms.specs.Kept.{IsKept, IsKeptPlan};
-ghost use Rattle.qz_terms.specs.Legal.{IsAllowedInCatalog, IsLegalCatalog};
-ghost use Rattle.qz_catalog.specs.Applying.{Answers, IsAsked, IsDecision, IsFree, IsLooked};
-ghost use Rattle.qz_catalog.specs.declared.decision.Decision.TheVariants as decision;
-ghost use Rattle.qz_catalog.specs.Loads.{IsListFault, IsRead};
-ghost use Rattle.qz_catalog.specs.Holdings.{founded, keeps_described, lean};
-ghost use Rattle.qz_catalog.specs.Readings.{ready_settings};
+ghost use Rattle.std.specs.Prelude.{◌≡◌, ◌≤◌, length, [], Ok, Err, None, unwrap_or, IfOk, IfErr, IfSome};
+ghost use Rattle.qz_keeper.specs.Lists.{CallEnds, EachMayStand, IsStored, Looks, OneCall, Settles};
+ghost use Rattle.qz_keeper.specs.Recording.{GoesOn, HasFailed};
+ghost use Rattle.qz_record.specs.Lengths.{NamesBriefly};
+ghost use Rattle.qz_terms.specs.declared.reply.Reply.TheVariants as reply;
+ghost use Rattle.qz_terms.specs.Legal.{IsLegalCatalog};
+ghost use Rattle.qz_catalog.specs.Applying.{IsAsked};
+ghost use Rattle.qz_catalog.specs.Keeping.{IsOpened, IsTold, IsUnopened, TellsJob, TellsNames, TellsPlan, TellsPolicy, TellsUser};
 
-use crate::adopting::{adopt, begin};
-use crate::book::Book;
-use crate::decision::{Decision, decide};
-use crate::jobs::job;
-use crate::loading::load;
-use crate::people::{names, user, user_of_token};
-use crate::planning::{plan, policy_of, ready_settings, version};
-use crate::putting::put;
-use crate::replies::{look, said};
-use qz_grading::{Question, Refusal, Thing};
+use crate::catalog_core::CatalogCore;
+use qz_disks::{KeepErr, Keeper};
+use qz_grading::Refusal;
+use qz_keeper::{RecordKeeper, refusal_of, reply_of};
 use qz_record::ListFault;
-use qz_terms::{Ask, Event, Job, Plan, Policy, Record, Reply, Request, Settings, User};
-use qz_text::{Bytes, Listed, NoMemory, Text, TryCopy};
+use qz_terms::{Ask, Job, Plan, Policy, Reply, User};
+use qz_text::{Bytes, Listed, Text, TryCopy};
 use std::alloc::Global;
 use std::marker::Model;
 
-/// The records of a school's users, bank and quizzes, seen as their list.
+/// The records of a school's users, bank and quizzes, and their keeper.
 ///
-/// Beside the list it keeps the bank that the records make, and what else they tell, by number, by token and by key. A call costs
-/// what it touches, and not the whole list, but for `names`. A record is put in two moves: what may refuse it is decided and all
-/// that takes memory is made first, and what follows takes none, so that nothing is ever undone.
+/// A record is kept before anything is changed, and after all that takes memory. Where keeping it failed it is in doubt: whether it is
+/// kept isn't known. The next call finds that out and mends the list: it takes the record where it is kept, and else drops it. A call
+/// answers `KeepFault` only where the keeper failed in that call, and then puts nothing.
 #[derive(Drop)]
-pub struct CatalogCore {
-    book: Book,
+pub struct Catalog<K: Keeper> {
+    core: CatalogCore,
+    keeper: RecordKeeper<K>,
 }
 
-impl Model for CatalogCore {
-    ghost use Rattle.std.specs.Prelude.{List};
-    ghost use Rattle.qz_terms.specs.declared.record.Record.{Record};
-    ghost use Rattle.qz_catalog.specs.Holdings.{IsBook};
+impl<K: Keeper> Model for Catalog<K> {
+    ghost use Rattle.qz_keeper.specs.Lists.{IsKeptList, held_in};
+    ghost use Rattle.qz_catalog.specs.Keeping.{Keeping, MayFollow};
 
-    ghost Value = { List Record };
+    ghost Value = { Keeping K };
 
-    ghost view = { λ c. c.book.records.items };
+    ghost view = { λ c. record { held = held_in c.core c.keeper; keeper = c.keeper.keeper } };
 
-    ghost invariant = { λ c. IsBook c.book };
+    ghost invariant = { λ c. IsKeptList K.kept MayFollow c.core c.keeper };
 }
 
-/// The record of a school that is founded.
-fn founding(alloc: Global, shards: u8, token: &Text) -> Result<Record, NoMemory>
-    ensures { IfOk result (λ made. made ∷ [] ≡ founded shards token.now) }
-{
-    Ok(Record {
-        moment: 0,
-        caller: 0,
-        owner: 0,
-        key: None,
-        terms: None,
-        event: Event::Founded {
-            shards,
-            token: token.try_copy(alloc)?,
-        },
-    })
-}
-
-impl CatalogCore {
-    /// The catalogue of a school that is founded with so many shards, from 1 to 64, and its manager's token. The manager is the first
-    /// user.
-    pub fn new(alloc: Global, shards: u8, token: &Text) -> Result<CatalogCore, NoMemory>
-        requires some { 1 ≤ shards }
-        requires few { shards ≤ 64 }
-        ensures { IfOk result (λ catalog. catalog ≡ founded shards token.now) }
-    {
-        CatalogCore::begin(alloc, founding(alloc, shards, token)?)
-    }
-
-    /// The catalogue of a first record, which is a founding, as it is read of a file.
-    pub fn begin(alloc: Global, record: Record) -> Result<CatalogCore, NoMemory>
-        requires allowed { IsAllowedInCatalog [] «record» }
-        requires kept { IsKept «record» }
-        ensures { IfOk result (λ catalog. catalog ≡ «record» ∷ []) }
-    {
-        Ok(CatalogCore {
-            book: begin(alloc, record)?,
-        })
-    }
-
-    /// Puts a record at the end that is allowed behind those that stand, as it is read of a file. Where memory is wanting the list
-    /// is as before.
-    pub fn adopt(&mut self, alloc: Global, record: Record) -> Result<(), NoMemory>
-        requires allowed { IsAllowedInCatalog self.old «record» }
-        requires kept { IsKept «record» }
-        requires described { keeps_described «record» ≡ true }
-        ensures list { OnOk result (self.new ≡ self.old ++ «record» ∷ []) }
-        ensures unchanged { OnErr result (self.new ≡ self.old) }
-    {
-        adopt(alloc, &mut self.book, record)
-    }
-
-    /// Reads a catalogue's list, whose records these payloads spell, in order. Where there are no payloads there is no catalogue.
+impl<K: Keeper> Catalog<K> {
+    /// Reads a catalogue's list, whose records these payloads spell, in order. They are those that the keeper keeps.
     ///
     /// Each record has to be one that may stand behind those before it. `Illegal` names the first payload, from 1, that spells no such
-    /// record.
-    pub fn load(alloc: Global, payloads: &[Bytes]) -> Result<Option<CatalogCore>, ListFault>
-        ensures loaded { IfOk result (IsRead payloads.now) }
-        ensures illegal { IfErr result (IsListFault payloads.now) }
+    /// record. Where there are no payloads there is no catalogue, and no fault either. The keeper is given back with it.
+    pub fn load(
+        alloc: Global,
+        keeper: K,
+        payloads: &[Bytes],
+    ) -> Result<Catalog<K>, (K, Option<ListFault>)>
+        requires settled { K.doubt keeper ≡ None }
+        requires kept { IfSome (K.kept keeper) (λ told. told ≡ payloads.now) }
+        ensures opened { IfOk result (IsOpened payloads.now keeper) }
+        ensures unopened { IfErr result (λ f. IsUnopened payloads.now f.1) }
+        ensures back { IfErr result (λ f. f.0 ≡ keeper) }
     {
-        match load(alloc, payloads)? {
-            Some(book) => Ok(Some(CatalogCore { book })),
-            None => Ok(None),
+        match CatalogCore::load(alloc, payloads) {
+            Ok(Some(core)) => Ok(Catalog {
+                core,
+                keeper: RecordKeeper::new(keeper),
+            }),
+            Ok(None) => Err((keeper, None)),
+            Err(fault) => Err((keeper, Some(fault))),
         }
     }
 
-    /// The number of records.
+    /// The number of records, without one in doubt. The list is legal, also with a record that is in doubt.
     pub fn len(&self) -> u64
-        ensures count { result ≡ length self.now }
-        ensures legal { IsLegalCatalog self.now }
+        ensures count { result ≡ length self.now.held.list }
+        ensures legal { EachMayStand IsLegalCatalog self.now.held }
     {
-        self.book.records.len() as u64
+        self.core.len()
     }
 
-    /// A copy of the user who is known by a token. Where there is none it is `UnknownToken`.
-    pub fn user(&self, alloc: Global, token: &Text) -> Result<User, Refusal>
-        ensures there { IfOk result (λ user. user_of_token self.now token.now ≡ Some user) }
-        ensures refused { IfErr result (λ r. (r ≡ Refusal.Memory) ⊎ ((r ≡ Refusal.UnknownToken) × (user_of_token self.now token.now ≡ None))) }
+    /// The records, without one in doubt, to be read.
+    pub fn core(&self) -> &CatalogCore
+        ensures { result.now ≡ self.now.held.list }
     {
-        match user_of_token(&self.book, token) {
-            Some(made) => Ok(user(alloc, &made)?),
-            None => Err(Refusal::UnknownToken),
+        &self.core
+    }
+
+    /// The keeper, as it keeps the list.
+    pub fn into_keeper(self) -> K
+        ensures keeper { result ≡ self.keeper }
+        ensures stored { IsStored (K.kept result) (K.doubt result) self.held }
+    {
+        self.keeper.into_keeper()
+    }
+
+    /// Finds out what became of the record in doubt, and takes it where it is kept. After an error all is as it was.
+    fn settle(&mut self, alloc: Global) -> Result<(), KeepErr>
+        ensures settles { Settles (HasFailed (K.sound self.old.keeper)
+            (K.faults self.old.keeper) (K.faults self.new.keeper))
+            self.old.held self.new.held result }
+        ensures goes_on { GoesOn (K.sound self.old.keeper) (K.sound self.new.keeper)
+            (K.faults self.old.keeper) (K.faults self.new.keeper) }
+    {
+        self.keeper.find(alloc, self.core.len())?;
+        let Some(found) = self.keeper.found() else {
+            return Ok(());
+        };
+        let made = found.try_copy(alloc)?;
+        self.core.adopt(alloc, made)?;
+        self.keeper.settle();
+        Ok(())
+    }
+
+    /// Mends the list: finds out what became of the record in doubt, takes it where it is kept, and else drops it. After an error all
+    /// is as it was.
+    pub fn mend(&mut self, alloc: Global) -> Result<(), Refusal>
+        ensures mended { OneCall (HasFailed (K.sound self.old.keeper)
+            (K.faults self.old.keeper) (K.faults self.new.keeper)) (λ r. Err r)
+            (Looks (λ _ told. told ≡ Ok tt)) self.old.held self.new.held result }
+        ensures goes_on { GoesOn (K.sound self.old.keeper) (K.sound self.new.keeper)
+            (K.faults self.old.keeper) (K.faults self.new.keeper) }
+    {
+        match self.settle(alloc) {
+            Ok(()) => Ok(()),
+            Err(why) => Err(refusal_of(why)),
         }
+    }
+}
+
+impl<K: Keeper> Catalog<K> {
+    /// A copy of the user who is known by a token. Where there is none it is `UnknownToken`. The list is mended first.
+    pub fn user(&mut self, alloc: Global, token: &Text) -> Result<User, Refusal>
+        ensures told { OneCall (HasFailed (K.sound self.old.keeper)
+            (K.faults self.old.keeper) (K.faults self.new.keeper)) (λ r. Err r)
+            (Looks (TellsUser token.now)) self.old.held self.new.held result }
+        ensures goes_on { GoesOn (K.sound self.old.keeper) (K.sound self.new.keeper)
+            (K.faults self.old.keeper) (K.faults self.new.keeper) }
+    {
+        self.mend(alloc)?;
+        self.core.user(alloc, token)
     }
 
     /// The plan of a quiz for a user, over all the records. It has the questions of its slots, in order, where it is to be whole, and
     /// else none. All its numbers are in range, and its questions keep what every question keeps.
     ///
-    /// A quiz that isn't there is `Unknown`, and then a user who isn't there.
-    pub fn plan(&self, alloc: Global, quiz: u32, user: u32, whole: bool) -> Result<Plan, Refusal>
-        ensures plan { IfOk result (λ p. option_map (lean whole) (plan self.now quiz user) ≡ Some p) }
-        ensures kept { IfOk result IsKeptPlan }
-        ensures each { IfOk result (λ p. whole ≡ true → length p.questions ≡ length p.slots) }
-        ensures free { OnOk result (first_some (missing_quiz self.now quiz ∷ missing_user self.now user ∷ []) ≡ None) }
-        ensures refused { IfErr result (λ r. (r ≡ Refusal.Memory) ⊎ (first_some (missing_quiz self.now quiz ∷ missing_user self.now user ∷ []) ≡ Some r)) }
+    /// A quiz that isn't there is `Unknown`, and then a user who isn't there. The list is mended first.
+    pub fn plan(
+        &mut self,
+        alloc: Global,
+        quiz: u32,
+        user: u32,
+        whole: bool,
+    ) -> Result<Plan, Refusal>
+        ensures told { OneCall (HasFailed (K.sound self.old.keeper)
+            (K.faults self.old.keeper) (K.faults self.new.keeper)) (λ r. Err r)
+            (Looks (TellsPlan quiz user whole)) self.old.held self.new.held result }
+        ensures goes_on { GoesOn (K.sound self.old.keeper) (K.sound self.new.keeper)
+            (K.faults self.old.keeper) (K.faults self.new.keeper) }
     {
-        plan(alloc, &self.book, quiz, user, whole)
+        self.mend(alloc)?;
+        self.core.plan(alloc, quiz, user, whole)
     }
-}
 
-impl CatalogCore {
-    /// The users' names, in order of number. `Memory` is the only error.
-    pub fn names(&self, alloc: Global) -> Result<Listed<Text>, Refusal>
-        ensures names { IfOk result (λ names. names ≡ map (λ (u : User). u.name) (users self.now)) }
-        ensures wants { IfErr result (λ r. r ≡ Refusal.Memory) }
+    /// The users' names, in order of number. The list is mended first.
+    pub fn names(&mut self, alloc: Global) -> Result<Listed<Text>, Refusal>
+        ensures told { OneCall (HasFailed (K.sound self.old.keeper)
+            (K.faults self.old.keeper) (K.faults self.new.keeper)) (λ r. Err r)
+            (Looks TellsNames) self.old.held self.new.held result }
+        ensures goes_on { GoesOn (K.sound self.old.keeper) (K.sound self.new.keeper)
+            (K.faults self.old.keeper) (K.faults self.new.keeper) }
     {
-        Ok(names(alloc, &self.book.records)?)
+        self.mend(alloc)?;
+        self.core.names(alloc)
     }
 
     /// How a quiz is graded, over all the records: the policy that each plan of it has, whoever the user is.
     ///
-    /// A quiz that isn't there is `Unknown`.
-    pub fn policy(&self, alloc: Global, quiz: u32) -> Result<Policy, Refusal>
-        ensures policy { IfOk result (λ p. p ≡ policy self.now quiz) }
-        ensures grade { IfOk result (λ p. IsQuizGrade p.grade) }
-        ensures sum { IfOk result (λ p. IsMaxSum p.sum) }
-        ensures there { OnOk result (missing_quiz self.now quiz ≡ None) }
-        ensures refused { IfErr result (λ r. (r ≡ Refusal.Memory) ⊎ (missing_quiz self.now quiz ≡ Some r)) }
+    /// A quiz that isn't there is `Unknown`. The list is mended first.
+    pub fn policy(&mut self, alloc: Global, quiz: u32) -> Result<Policy, Refusal>
+        ensures told { OneCall (HasFailed (K.sound self.old.keeper)
+            (K.faults self.old.keeper) (K.faults self.new.keeper)) (λ r. Err r)
+            (Looks (TellsPolicy quiz)) self.old.held self.new.held result }
+        ensures goes_on { GoesOn (K.sound self.old.keeper) (K.sound self.new.keeper)
+            (K.faults self.old.keeper) (K.faults self.new.keeper) }
     {
-        policy_of(alloc, &self.book, quiz)
+        self.mend(alloc)?;
+        self.core.policy(alloc, quiz)
     }
 
     /// A job: its position, and the plan of its quiz over the records up to there, with the quiz's own settings and a question for
     /// each slot. All its numbers are in range, and its questions keep what every question keeps.
     ///
-    /// A job that isn't there is `Unknown`.
-    pub fn job(&self, alloc: Global, number: u32) -> Result<Job, Refusal>
-        ensures job { IfOk result (λ j. job self.now number ≡ Some j) }
-        ensures kept { IfOk result (λ j. IsKeptPlan j.plan) }
-        ensures each { IfOk result (λ j. length j.plan.questions ≡ length j.plan.slots) }
-        ensures refused { IfErr result (λ r. (r ≡ Refusal.Memory) ⊎ ((r ≡ Refusal.Unknown Thing.Job) × (job self.now number ≡ None))) }
+    /// A job that isn't there is `Unknown`. The list is mended first.
+    pub fn job(&mut self, alloc: Global, number: u32) -> Result<Job, Refusal>
+        ensures told { OneCall (HasFailed (K.sound self.old.keeper)
+            (K.faults self.old.keeper) (K.faults self.new.keeper)) (λ r. Err r)
+            (Looks (TellsJob number)) self.old.held self.new.held result }
+        ensures goes_on { GoesOn (K.sound self.old.keeper) (K.sound self.new.keeper)
+            (K.faults self.old.keeper) (K.faults self.new.keeper) }
     {
-        job(alloc, &self.book, number)
+        self.mend(alloc)?;
+        self.core.job(alloc, number)
     }
 }
 
-impl CatalogCore {
-    /// The records, in order: one at least.
-    pub fn records(&self) -> &[Record]
-        ensures list { result.now ≡ self.now }
-        ensures kept { All IsKept self.now }
-        ensures described { list_all keeps_described self.now ≡ true }
-        ensures some { 1 ≤ length self.now }
-        ensures legal { IsLegalCatalog self.now }
-    {
-        self.book.records.as_slice()
-    }
-
-    /// A version of an entry, if it is there.
-    pub fn version(&self, entry: u32, number: u32) -> Option<&Question>
-        ensures { option_copied result ≡ version self.now entry number }
-    {
-        version(&self.book, entry, number)
-    }
-
-    /// The settings of a quiz that is ready, for a user of this number, who needn't be there. There are none where it isn't ready.
-    pub fn ready_settings(
-        &self,
-        alloc: Global,
-        quiz: u32,
-        user: u32,
-    ) -> Result<Option<Settings>, NoMemory>
-        ensures { IfOk result (λ found. found ≡ ready_settings self.now quiz user) }
-    {
-        ready_settings(alloc, &self.book, quiz, user)
-    }
-}
-
-/// Whether a request only looks.
-fn is_look(request: &Request) -> bool
-    ensures { result ≡ is_look_in request.now }
-{
-    matches!(request, Request::Jobs | Request::Bank { .. })
-}
-
-impl CatalogCore {
+impl<K: Keeper> Catalog<K> {
     /// Answers a request to the catalogue, at this moment by the clock, in seconds since 1970: the fourteen that put a record, and
-    /// the looks at the jobs and at a version of an entry. No description that it brings has a general feedback.
+    /// the looks at the jobs and at a version of an entry. The list is mended first. The request's key has at most 64 bytes, a name
+    /// that it brings 255 and a token 64, and no description that it brings has a general feedback.
     ///
-    /// The user is the one whom the request's caller stands for. The reply is the answer over the list before, and the list afterwards
-    /// has the request's record at its end where the answer puts one. A refusal adds nothing, and neither does a request whose
-    /// caller and key stand with the same request already: it gets the reply of that one. Where memory is wanting the reply is
-    /// `Memory` and the list is as before.
+    /// The user is the one whom the request's caller stands for. The reply is the answer over the mended list, and the list
+    /// afterwards has the request's record at its end where the answer puts one. A refusal adds nothing, and neither does a request
+    /// whose caller and key stand with the same request already: it gets the reply of that one. Where memory is wanting the reply is
+    /// `Memory` and nothing is put. Where the keeper fails it is `KeepFault`, nothing is put, and one record is in doubt: that of
+    /// the answer, or the one that was.
     pub fn apply(&mut self, alloc: Global, user: &User, ask: &Ask, moment: u64) -> Reply
-        requires { IsAsked self.old user.now ask.now moment }
-        ensures { Answers self.old moment user.now ask.now result self.new }
+        requires asked { EachMayStand (λ c. IsAsked c user.now ask.now moment) self.old.held }
+        requires brief { length (unwrap_or ask.now.key []) ≤ 64 }
+        requires names { NamesBriefly ask.now.request }
+        ensures answer { OneCall (HasFailed (K.sound self.old.keeper)
+            (K.faults self.old.keeper) (K.faults self.new.keeper))
+            reply.Refused (IsTold moment user.now ask.now) self.old.held self.new.held result }
+        ensures goes_on { GoesOn (K.sound self.old.keeper) (K.sound self.new.keeper)
+            (K.faults self.old.keeper) (K.faults self.new.keeper) }
     {
-        match self.answer(alloc, user, ask, moment) {
-            Ok(reply) => reply,
-            Err(refusal) => Reply::Refused(refusal),
+        if let Err(why) = self.settle(alloc) {
+            return Reply::Refused(refusal_of(why));
         }
+        self.answer(alloc, user, ask, moment)
     }
 
-    /// Answers a request, and puts the record that it makes. Where it is refused or memory is wanting the list is as before.
-    fn answer(&mut self, alloc: Global, user: &User, ask: &Ask, now: u64) -> Result<Reply, Refusal>
-        requires { IsAsked self.old user.now ask.now now }
-        ensures reply { IfOk result (λ told. told ≡ catalog_answer self.old now user.now ask.now) }
-        ensures list { OnOk result (self.new ≡ catalog_after self.old now user.now ask.now) }
-        ensures refused { IfErr result (λ r. (r ≡ Refusal.Memory) ⊎ (catalog_verdict self.old now user.now ask.now ≡ Denied r)) }
-        ensures unchanged { OnErr result (self.new ≡ self.old) }
+    /// Answers a request over a list that was mended.
+    fn answer(&mut self, alloc: Global, user: &User, ask: &Ask, moment: u64) -> Reply
+        requires settled { self.old.held.doubt ≡ None }
+        requires asked { IsAsked self.old.held.list user.now ask.now moment }
+        requires brief { length (unwrap_or ask.now.key []) ≤ 64 }
+        requires names { NamesBriefly ask.now.request }
+        ensures ends { CallEnds (HasFailed (K.sound self.old.keeper)
+            (K.faults self.old.keeper) (K.faults self.new.keeper))
+            reply.Refused (IsTold moment user.now ask.now) self.old.held self.new.held result }
+        ensures goes_on { GoesOn (K.sound self.old.keeper) (K.sound self.new.keeper)
+            (K.faults self.old.keeper) (K.faults self.new.keeper) }
     {
-        match self.decide(user, ask) {
-            Decision::Refused(refusal) => Err(refusal),
-            Decision::Repeated(at) => Ok(self.said_again(user, ask, at)),
-            Decision::Free if is_look(&ask.request) => Ok(self.look(alloc, user, ask)?),
-            Decision::Free => self.put(alloc, user, ask, now),
-        }
-    }
-
-    /// What is done with a request.
-    fn decide(&self, user: &User, ask: &Ask) -> Decision
-        requires { asks_catalog ask.now.request ≡ true }
-        ensures { IsDecision self.now user.now ask.now result }
-    {
-        decide(&self.book, user, ask)
-    }
-
-    /// What is said of a record that a request repeats.
-    fn said_again(&self, user: &User, ask: &Ask, at: usize) -> Reply
-        requires { IsDecision self.now user.now ask.now (decision.Repeated at) }
-        ensures { IsLooked self.now user.now ask.now result }
-    {
-        said(&self.book, at)
-    }
-
-    /// The reply to a request that only looks.
-    fn look(&self, alloc: Global, user: &User, ask: &Ask) -> Result<Reply, NoMemory>
-        requires free { IsFree self.now user.now ask.now }
-        requires look { is_look_in ask.now.request ≡ true }
-        ensures { IfOk result (λ told. IsLooked self.now user.now ask.now told) }
-    {
-        look(alloc, &self.book, &ask.request)
-    }
-
-    /// Puts the record that a request makes.
-    fn put(&mut self, alloc: Global, user: &User, ask: &Ask, now: u64) -> Result<Reply, Refusal>
-        requires asked { IsAsked self.old user.now ask.now now }
-        requires keeps { is_look_in ask.now.request ≡ false }
-        requires free { IsFree self.old user.now ask.now }
-        ensures reply { IfOk result (λ told. told ≡ catalog_answer self.old now user.now ask.now) }
-        ensures list { OnOk result (self.new ≡ catalog_after self.old now user.now ask.now) }
-        ensures refused { IfErr result (λ r. (r ≡ Refusal.Memory) ⊎ (catalog_verdict self.old now user.now ask.now ≡ Denied r)) }
-        ensures unchanged { OnErr result (self.new ≡ self.old) }
-    {
-        put(alloc, &mut self.book, now, user, ask)
+        let told = self
+            .core
+            .answer(alloc, user, ask, moment, &mut self.keeper);
+        reply_of(told)
     }
 }

@@ -5,6 +5,7 @@ mod absent;
 mod adopting;
 mod book;
 mod catalog;
+mod catalog_core;
 mod causes;
 mod decision;
 mod jobs;
@@ -21,7 +22,10 @@ mod replies;
 mod settings;
 mod sizes;
 
-pub use catalog::CatalogCore;
+pub use catalog::Catalog;
+pub use catalog_core::CatalogCore;
 
+#[cfg(test)]
+mod kept_tests;
 #[cfg(test)]
 mod tests;

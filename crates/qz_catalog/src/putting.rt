@@ -1,20 +1,26 @@
 //! How a record is made and put at the end of the list.
 
 ghost use Rattle.std.specs.Prelude.{◌≡◌, ◌+◌, ◌-◌, ◌^◌, ◌<◌, ◌++◌, ◌∷◌, [], ◌⊎◌, length, slice_get, None, Some, IfOk, IfErr, OnErr, OnOk, vec_len, vec_capacity};
-ghost use Rattle.qz_terms.specs.CatalogAnswer.{catalog_after, catalog_answer, catalog_verdict, moment_in, record_in};
-ghost use Rattle.qz_terms.specs.Cause.{Denied};
+ghost use Rattle.qz_disks.specs.declared.keeper.KeepErr.TheVariants as fault;
+ghost use Rattle.qz_grading.specs.declared.refusal.Refusal.TheVariants as refusal;
+ghost use Rattle.qz_terms.specs.declared.reply.Reply.TheVariants as reply;
+ghost use Rattle.qz_terms.specs.CatalogAnswer.{catalog_after, moment_in, record_in};
 ghost use Rattle.qz_terms.specs.declared.record.Record.{Record};
 ghost use Rattle.qz_terms.specs.declared.request.Request.{Request};
 ghost use Rattle.qz_terms.specs.Catalog.{asked};
 ghost use Rattle.qz_roster.specs.Roster.{HasRoom, IsNext, IsRosterOf};
-ghost use Rattle.qz_catalog.specs.Applying.{IsPosed, IsReady, MayPut, bank_after, bank_cause, bank_with};
+ghost use Rattle.qz_catalog.specs.Applying.{CanPut, IsPosed, IsReady, MayPut, bank_after, bank_cause, bank_with};
 ghost use Rattle.qz_catalog.specs.Holdings.{IsBook, IsIndexed, IsPin, IsShownBy};
+ghost use Rattle.qz_catalog.specs.Keeping.{IsReadyToPut, IsTold, MayFollow};
+ghost use Rattle.qz_keeper.specs.Recording.{IsRecorded, Recorded, failure};
 
 use crate::book::Book;
 use crate::pins::{keep_pin, pin_of};
 use crate::replies::{number_of, said};
 use qz_bank::{Entries, Prepared};
+use qz_disks::KeepErr;
 use qz_grading::Refusal;
+use qz_keeper::Recorder;
 use qz_terms::{Ask, Event, Plan, Record, Reply, Request, User, copy_of_text, make_room};
 use qz_text::{NoMemory, TryCopy};
 use std::alloc::Global;
@@ -148,29 +154,68 @@ pub(crate) fn append(
     keep_pin(&mut book.pinned, pin);
 }
 
-/// Puts the record that a request makes at the end, and changes the bank with it. Before anything is changed, what may still refuse
-/// it is decided and all growth is made: where it is refused or memory is wanting, the list and the bank are as before.
-pub(crate) fn put(
+/// Puts a record at the end, once it is recorded, with the change of the bank that was prepared for it. All that takes memory is
+/// made first: where it is wanting or the record can't be recorded, the list and the bank are as before.
+pub(crate) fn put_record<R: Recorder>(
+    alloc: Global,
+    book: &mut Book,
+    record: Record,
+    prepared: Option<Prepared>,
+    recorder: &mut R,
+) -> Result<(), KeepErr>
+    requires book { IsBook book.old }
+    requires can { CanPut book.old «record» prepared }
+    requires ready { R.ready recorder.old «record» }
+    ensures list { OnOk result (book.new.records.items ≡ book.old.records.items ++ «record» ∷ []) }
+    ensures recorded { IsRecorded R.records «record» recorder.old recorder.new (failure result) }
+    ensures unchanged { OnErr result (book.new.records.items ≡ book.old.records.items) }
+    ensures book { IsBook book.new }
+{
+    let pin = pin_of(alloc, book, &record)?;
+    make_book_room(alloc, book, &record)?;
+    let record = recorder.take(alloc, record)?;
+    // What follows takes no memory, and none of it fails.
+    append(alloc, book, record, prepared, pin);
+    Ok(())
+}
+
+/// What is told of a refusal, unless memory was wanting: that isn't an answer.
+fn refused(why: Refusal) -> Result<Reply, KeepErr>
+    ensures told { IfOk result (λ told. (told ≡ reply.Refused why) × (why ≡ refusal.Memory → ⊥)) }
+    ensures wanting { IfErr result (λ e. e ≡ fault.Memory) }
+{
+    match why {
+        Refusal::Memory => Err(KeepErr::Memory),
+        refusal => Ok(Reply::Refused(refusal)),
+    }
+}
+
+/// Puts the record that a request makes at the end, once it is recorded, and changes the bank with it. What may still refuse it is
+/// decided before anything is changed. Where memory is wanting or the record can't be recorded, the list and the bank are as before.
+pub(crate) fn put<R: Recorder>(
     alloc: Global,
     book: &mut Book,
     now: u64,
     user: &User,
     ask: &Ask,
-) -> Result<Reply, Refusal>
+    recorder: &mut R,
+) -> Result<Reply, KeepErr>
     requires book { IsBook book.old }
     requires posed { IsPosed book.old.records.items book.old.entries now user.now ask.now }
-    ensures reply { IfOk result (λ told. told ≡ catalog_answer book.old.records.items now user.now ask.now) }
-    ensures list { OnOk result (book.new.records.items ≡ catalog_after book.old.records.items now user.now ask.now) }
-    ensures refused { IfErr result (λ r. (r ≡ Refusal.Memory) ⊎ (catalog_verdict book.old.records.items now user.now ask.now ≡ Denied r)) }
+    requires ready { IsReadyToPut R.ready recorder.old book.old.records.items now user.now ask.now }
+    ensures told { IfOk result (λ told. IsTold now user.now ask.now book.old.records.items told book.new.records.items) }
+    ensures recorded { Recorded R.records (MayFollow book.old.records.items) book.old.records.items
+        (catalog_after book.old.records.items now user.now ask.now)
+        recorder.old recorder.new (failure result) }
     ensures unchanged { OnErr result (book.new.records.items ≡ book.old.records.items) }
     ensures book { IsBook book.new }
 {
-    let prepared = prepare(alloc, &book.entries, &ask.request)?;
+    let prepared = match prepare(alloc, &book.entries, &ask.request) {
+        Ok(prepared) => prepared,
+        Err(why) => return refused(why),
+    };
     let record = record_of(alloc, &book.records, now, user, ask)?;
-    let pin = pin_of(alloc, book, &record)?;
-    make_book_room(alloc, book, &record)?;
-    // Here a keeper's journal will take the record. What follows takes no memory, and none of it fails.
     let at = book.records.len();
-    append(alloc, book, record, prepared, pin);
+    put_record(alloc, book, record, prepared, recorder)?;
     Ok(said(book, at))
 }

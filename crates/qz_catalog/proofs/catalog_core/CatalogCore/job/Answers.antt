@@ -3,7 +3,7 @@ use Rattle.qz_terms.specs.declared.plan.Job.{Job}
 use Rattle.qz_terms.specs.Catalog.{job}
 use Rattle.qz_terms.specs.Kept.{IsKeptPlan}
 use Rattle.qz_catalog.proofs.Kept.{if_ok-more, job-sound}
-use Rattle.qz_catalog.proofs.catalog.CatalogCore.job.Goals as goal
+use Rattle.qz_catalog.proofs.catalog_core.CatalogCore.job.Goals as goal
 
 pub returns-clause-kept : goal.returns-clause-kept
 returns-clause-kept c =

@@ -6,7 +6,7 @@ use Rattle.qz_terms.specs.Catalog.{plan}
 use Rattle.qz_terms.specs.Kept.{IsKeptPlan}
 use Rattle.qz_catalog.specs.Holdings.{lean}
 use Rattle.qz_catalog.proofs.Kept.{if_ok-more, plan-sound}
-use Rattle.qz_catalog.proofs.catalog.CatalogCore.plan.Goals as goal
+use Rattle.qz_catalog.proofs.catalog_core.CatalogCore.plan.Goals as goal
 
 pub returns-clause-kept : goal.returns-clause-kept
 returns-clause-kept c =

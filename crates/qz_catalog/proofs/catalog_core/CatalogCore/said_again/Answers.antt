@@ -3,7 +3,7 @@ use Rattle.qz_terms.specs.Cause.{verdict_in}
 use Rattle.qz_catalog.specs.Applying.{IsLooked, IsRepeated, stand_in}
 use Rattle.qz_terms.specs.declared.record.Record.{Record}
 use Rattle.qz_catalog.proofs.ShownLemmas.{again-looked, asked-at}
-use Rattle.qz_catalog.proofs.catalog.CatalogCore.said_again.Goals as goal
+use Rattle.qz_catalog.proofs.catalog_core.CatalogCore.said_again.Goals as goal
 
 pub said-requires-clause-asked : goal.said-requires-clause-asked
 said-requires-clause-asked c =

@@ -3,7 +3,7 @@ use Rattle.qz_decimal.specs.Numbers.{IsMaxSum, IsQuizGrade}
 use Rattle.qz_terms.specs.declared.grades.Policy.{Policy}
 use Rattle.qz_terms.specs.Catalog.{policy}
 use Rattle.qz_catalog.proofs.Kept.{grade-within, if_ok-more, sum-within}
-use Rattle.qz_catalog.proofs.catalog.CatalogCore.policy.Goals as goal
+use Rattle.qz_catalog.proofs.catalog_core.CatalogCore.policy.Goals as goal
 
 pub returns-clause-grade : goal.returns-clause-grade
 returns-clause-grade c =
