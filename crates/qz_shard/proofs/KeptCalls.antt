@@ -1,9 +1,9 @@
 -- What the calls of a shard that a keeper keeps come to.
-use Rattle.std.proofs.Common.{◌≡◌, ◌≤◌, ◌+◌, ℕ, arith, true, List, [], Option, Some, None, IfSome, IfOk, OnErr, MatchResult, Result, Ok, Err, length, refl, sym, ap, subst, ◌∙◌}
+use Rattle.std.proofs.Common.{◌≡◌, ◌≤◌, ◌+◌, ℕ, arith, true, List, [], ◌∷◌, ◌++◌, Option, Some, None, IfSome, IfOk, OnErr, MatchResult, Result, Ok, Err, length, refl, sym, ap, subst, ◌∙◌}
 use Rattle.std.specs.Prelude.{unwrap_or}
 use Rattle.qz_disks.specs.declared.keeper.KeepErr.{KeepErr}
 use Rattle.qz_keeper.specs.Custody.{Custody, pending, pending_of}
-use Rattle.qz_keeper.specs.Lists.{IsKeptList}
+use Rattle.qz_keeper.specs.Lists.{EachMayStand, IsKeptList, held_in}
 use Rattle.qz_keeper.specs.Recording.{CanTake, IsReadyFor}
 use Rattle.qz_keeper.proofs.Settling.{IsFoundIn, ready_of}
 use Rattle.qz_terms.specs.declared.ask.Ask.{Ask}
@@ -13,6 +13,7 @@ use Rattle.qz_terms.specs.declared.plan.Plan.{Plan}
 use Rattle.qz_terms.specs.declared.record.Record.{Record}
 use Rattle.qz_terms.specs.declared.reply.Reply.{Reply}
 use Rattle.qz_terms.specs.Answer.{answer_here, list_after, work_after, work_answer}
+use Rattle.qz_terms.specs.Legal.{IsLegal}
 use Rattle.qz_terms.specs.Serial.{Held, stays}
 use Rattle.qz_shard.specs.Answering.{IsAnswered, IsPosed}
 use Rattle.qz_shard.specs.Holdings.{Holding, IsHeld}
@@ -20,6 +21,7 @@ use Rattle.qz_shard.specs.Keeping.{CountsFew, IsTold}
 use Rattle.qz_shard.specs.Nexts.{IsNext}
 use Rattle.qz_shard.specs.Works.{IsWorked}
 use Rattle.qz_shard.proofs.Alone.{answered_alone}
+use Rattle.qz_lives.proofs.Legality.{legal-push}
 use Rattle.qz_shard.proofs.Shortness.{next-short}
 
 -- a settled keeper takes each record that may stand next and has a brief key
@@ -59,3 +61,13 @@ counts_none most old new n = record { mended = old; mends = stays old; few = ome
 -- what was found may stand next
 pub found_next : {K : Type 0} (kept : K → Option (List (List ℕ))) (MayFollow : List Record → Record → Type 0) (list : List Record) (c d : Custody K) (x : Record) → IsFoundIn kept MayFollow list c d → d.found ≡ Some x → MayFollow list x
 found_next kept MayFollow list c d x f is = subst (λ p. IfSome p (MayFollow list)) (ap (λ p. pending_of p d.found) f.no_doubt ∙ is) f.keeps.next
+
+-- ---- what may stand
+
+legal_with : (index count : ℕ) (l : List Record) (doubt : Option Record) → IsLegal index count l → IfSome doubt (IsNext index count l) → IfSome doubt (λ r. IsLegal index count (l ++ r ∷ []))
+legal_with index count l None legal next = tt
+legal_with index count l (Some r) legal next = legal-push index count l r legal next.allowed
+
+-- a record that is in doubt may stand behind a legal list
+pub legal_held : {K : Type 0} (kept : K → Option (List (List ℕ))) (index count : ℕ) (h : List Record) (c : Custody K) → IsKeptList kept (IsNext index count) h c → IsLegal index count h → EachMayStand (IsLegal index count) (held_in h c)
+legal_held kept index count h c k legal = record { without = legal; with_doubt = legal_with index count h (pending c) legal k.next }

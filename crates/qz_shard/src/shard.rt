@@ -5,6 +5,7 @@ ghost use Rattle.qz_decimal.specs.Numbers.{IsMaxSum, IsQuizGrade};
 ghost use Rattle.qz_keeper.specs.Lists.{CallEnds, EachMayStand, IsStored, Settles};
 ghost use Rattle.qz_keeper.specs.Recording.{GoesOn, HasFailed};
 ghost use Rattle.qz_terms.specs.History.{live_after};
+ghost use Rattle.qz_terms.specs.Legal.{IsLegal};
 ghost use Rattle.qz_terms.specs.declared.reply.Reply.TheVariants as reply;
 ghost use Rattle.qz_shard.specs.Answering.{IsPosed};
 ghost use Rattle.qz_shard.specs.Holdings.{is_shard, is_change, is_look, IsAsked, IsWorkable, StartsHere};
@@ -19,7 +20,7 @@ use qz_disks::{KeepErr, Keeper};
 use qz_grading::{AttemptId, Refusal, Steps};
 use qz_keeper::{RecordKeeper, refusal_of, reply_of};
 use qz_record::ListFault;
-use qz_terms::{Ask, Job, Plan, Policy, Reply, Request, User};
+use qz_terms::{Ask, Job, Plan, Policy, Record, Reply, Request, User};
 use qz_text::{Bytes, Listed, TryCopy};
 use std::alloc::Global;
 use std::marker::{Brand, Model};
@@ -91,11 +92,20 @@ impl<K: Keeper> Shard<K> {
         }
     }
 
-    /// The number of records, without one in doubt.
+    /// The number of records, without one in doubt. The list is legal for this shard, also with a record that is in doubt.
     pub fn len(&self) -> u64
-        ensures { result ≡ length self.now.held.list }
+        ensures count { result ≡ length self.now.held.list }
+        ensures shard { is_shard self.now.index self.now.count ≡ true }
+        ensures legal { EachMayStand (IsLegal self.now.index self.now.count) self.now.held }
     {
         self.core.len()
+    }
+
+    /// The records, in order, without one in doubt.
+    pub fn records(&self) -> &[Record]
+        ensures { result.now ≡ self.now.held.list }
+    {
+        self.core.records()
     }
 
     /// The keeper, as it keeps the list.

@@ -178,6 +178,13 @@ impl ShardCore {
         self.book.len()
     }
 
+    /// The records, in order.
+    pub(crate) fn records(&self) -> &[Record]
+        ensures { result.now ≡ self.now.records }
+    {
+        self.book.as_slice()
+    }
+
     /// The quiz of an attempt. Where there is no such attempt it is `Unknown`.
     pub fn quiz_of(&mut self, attempt: AttemptId) -> Result<u32, Refusal>
         ensures there { IfOk result (λ q. quiz self.old.records attempt ≡ Some q) }

@@ -368,16 +368,32 @@ fn is_stepped(told: Option<Reply>, at: u64) -> bool {
     }
 }
 
+/// Whether a save, a submit and a try again are answered.
+fn are_stepped(
+    shard: &mut ShardCore,
+    alloc: Global,
+    ann: &User,
+    plan: &Plan,
+) -> Result<bool, NoMemory>
+    requires { IsKeptPlan plan.now }
+{
+    let saved = is_stepped(save(shard, alloc, ann, plan)?, 2);
+    let submitted = is_stepped(submit(shard, alloc, ann, plan)?, 3);
+    let tried = is_stepped(again(shard, alloc, ann, plan)?, 4);
+    Ok(saved && submitted && tried)
+}
+
+// The shard and what is asked with are dropped before anything is told: so each has one end.
 #[test]
 fn a_student_tries(rt: HostRuntime) -> Result<(), Fail> {
     let alloc = rt.alloc();
     let ann = user(alloc, 2, Role::Student);
     let plan = plan(alloc)?;
     let (mut shard, told) = begun(alloc, &ann, &plan)?;
+    let stepped = are_stepped(&mut shard, alloc, &ann, &plan);
+    drop(shard);
     assert!(rt; is_started(told));
-    assert!(rt; is_stepped(save(&mut shard, alloc, &ann, &plan)?, 2));
-    assert!(rt; is_stepped(submit(&mut shard, alloc, &ann, &plan)?, 3));
-    assert!(rt; is_stepped(again(&mut shard, alloc, &ann, &plan)?, 4));
+    assert!(rt; stepped?);
     Ok(())
 }
 
@@ -412,14 +428,30 @@ fn is_marked(told: Option<Reply>) -> bool {
     }
 }
 
+/// Whether an attempt is finished, and then marked.
+fn are_marked(
+    shard: &mut ShardCore,
+    alloc: Global,
+    ann: &User,
+    root: &User,
+    plan: &Plan,
+) -> Result<bool, NoMemory>
+    requires { IsKeptPlan plan.now }
+{
+    let finished = is_finished(finish(shard, alloc, ann, plan)?);
+    let marked = is_marked(mark(shard, alloc, root, plan)?);
+    Ok(finished && marked)
+}
+
 #[test]
 fn a_teacher_marks(rt: HostRuntime) -> Result<(), Fail> {
     let alloc = rt.alloc();
     let (ann, root) = (user(alloc, 2, Role::Student), user(alloc, 1, Role::Teacher));
     let plan = plan(alloc)?;
     let (mut shard, _) = begun(alloc, &ann, &plan)?;
-    assert!(rt; is_finished(finish(&mut shard, alloc, &ann, &plan)?));
-    assert!(rt; is_marked(mark(&mut shard, alloc, &root, &plan)?));
+    let marked = are_marked(&mut shard, alloc, &ann, &root, &plan);
+    drop(shard);
+    assert!(rt; marked?);
     Ok(())
 }
 
@@ -488,35 +520,33 @@ fn is_grade(told: Option<Reply>) -> bool {
     }
 }
 
+/// Whether each look at the attempt is shown.
+fn are_shown(shard: &mut ShardCore, alloc: Global, ann: &User, plan: &Plan) -> bool
+    requires { IsKeptPlan plan.now }
+{
+    let (attempt, slot) = (FIRST, 1);
+    let view = look(shard, alloc, ann, plan, Request::View { attempt, slot });
+    let total = look(shard, alloc, ann, plan, Request::Total { attempt });
+    let page = look(shard, alloc, ann, plan, Request::Page { attempt });
+    let row = look(shard, alloc, ann, plan, Request::Grade { quiz: 1, user: 2 });
+    let slot_shown = is_slot(view);
+    let total_shown = is_total(total);
+    let page_shown = is_page(page);
+    let grade_shown = is_grade(row);
+    slot_shown && total_shown && page_shown && grade_shown
+}
+
 #[test]
 fn looks_are_shown(rt: HostRuntime) -> Result<(), Fail> {
     let alloc = rt.alloc();
     let (ann, root) = (user(alloc, 2, Role::Student), user(alloc, 1, Role::Teacher));
     let plan = plan(alloc)?;
     let (mut shard, _) = begun(alloc, &ann, &plan)?;
-    let _ = finish(&mut shard, alloc, &ann, &plan)?;
-    let _ = mark(&mut shard, alloc, &root, &plan)?;
-    let (attempt, slot) = (FIRST, 1);
-    assert!(rt;
-        is_slot(look(
-            &mut shard,
-            alloc,
-            &ann,
-            &plan,
-            Request::View { attempt, slot }
-        ))
-    );
-    assert!(rt; is_total(look(&mut shard, alloc, &ann, &plan, Request::Total { attempt })));
-    assert!(rt; is_page(look(&mut shard, alloc, &ann, &plan, Request::Page { attempt })));
-    assert!(rt;
-        is_grade(look(
-            &mut shard,
-            alloc,
-            &ann,
-            &plan,
-            Request::Grade { quiz: 1, user: 2 }
-        ))
-    );
+    let marked = are_marked(&mut shard, alloc, &ann, &root, &plan);
+    let shown = are_shown(&mut shard, alloc, &ann, &plan);
+    drop(shard);
+    assert!(rt; marked?);
+    assert!(rt; shown);
     Ok(())
 }
 
@@ -555,6 +585,31 @@ fn grade(shard: &mut ShardCore, alloc: Global, ann: &User, plan: &Plan) -> Optio
     }
 }
 
+/// Whether the grade that is shown follows the marks.
+fn are_followed(
+    shard: &mut ShardCore,
+    alloc: Global,
+    ann: &User,
+    root: &User,
+    plan: &Plan,
+) -> Result<bool, NoMemory>
+    requires { IsKeptPlan plan.now }
+{
+    let first = grade(shard, alloc, ann, plan);
+    drop(finish(shard, alloc, ann, plan)?);
+    let second = grade(shard, alloc, ann, plan);
+    drop(mark(shard, alloc, root, plan)?);
+    let third = grade(shard, alloc, ann, plan);
+    drop(mark_lower(shard, alloc, root, plan)?);
+    let fourth = grade(shard, alloc, ann, plan);
+    Ok(
+        first == None
+            && second == Some(Grade(0))
+            && third == Some(Grade(666_667))
+            && fourth == Some(Grade(333_333)),
+    )
+}
+
 /// The highest of 10 over 0, then 2, then 1 of 3.
 #[test]
 fn a_grade_follows_each_mark(rt: HostRuntime) -> Result<(), Fail> {
@@ -562,13 +617,9 @@ fn a_grade_follows_each_mark(rt: HostRuntime) -> Result<(), Fail> {
     let (ann, root) = (user(alloc, 2, Role::Student), user(alloc, 1, Role::Teacher));
     let plan = plan(alloc)?;
     let (mut shard, _) = begun(alloc, &ann, &plan)?;
-    assert!(rt; grade(&mut shard, alloc, &ann, &plan).is_none());
-    let _ = finish(&mut shard, alloc, &ann, &plan)?;
-    assert!(rt; grade(&mut shard, alloc, &ann, &plan) == Some(Grade(0)));
-    let _ = mark(&mut shard, alloc, &root, &plan)?;
-    assert!(rt; grade(&mut shard, alloc, &ann, &plan) == Some(Grade(666_667)));
-    let _ = mark_lower(&mut shard, alloc, &root, &plan)?;
-    assert!(rt; grade(&mut shard, alloc, &ann, &plan) == Some(Grade(333_333)));
+    let followed = are_followed(&mut shard, alloc, &ann, &root, &plan);
+    drop(shard);
+    assert!(rt; followed?);
     Ok(())
 }
 
@@ -604,6 +655,17 @@ fn live(shard: &mut ShardCore) -> Option<AttemptId> {
     shard.live(AttemptId { user: 0, nth: 0 }).ok()?
 }
 
+/// Whether an attempt goes on to its due moment, and is abandoned behind it.
+fn is_settled(shard: &mut ShardCore, alloc: Global, root: &User, plan: &Plan) -> bool
+    requires { IsKeptPlan plan.now }
+{
+    let early = is_idle(settle(shard, alloc, root, plan, 160));
+    let going = live(shard) == Some(FIRST);
+    let late = is_abandoned(settle(shard, alloc, root, plan, 161));
+    let ended = live(shard) == None;
+    early && going && late && ended
+}
+
 /// It is due at the moment 160.
 #[test]
 fn an_attempt_is_settled(rt: HostRuntime) -> Result<(), Fail> {
@@ -611,9 +673,8 @@ fn an_attempt_is_settled(rt: HostRuntime) -> Result<(), Fail> {
     let (ann, root) = (user(alloc, 2, Role::Student), user(alloc, 1, Role::Teacher));
     let plan = plan(alloc)?;
     let (mut shard, _) = begun(alloc, &ann, &plan)?;
-    assert!(rt; is_idle(settle(&mut shard, alloc, &root, &plan, 160)));
-    assert!(rt; live(&mut shard) == Some(FIRST));
-    assert!(rt; is_abandoned(settle(&mut shard, alloc, &root, &plan, 161)));
-    assert!(rt; live(&mut shard) == None);
+    let settled = is_settled(&mut shard, alloc, &root, &plan);
+    drop(shard);
+    assert!(rt; settled);
     Ok(())
 }
