@@ -90,6 +90,8 @@ first_part a u one = let none : u % 1 ≡ 0 = omega arith in rw (one, none) refl
 
 pub bulk_ends : (n : ℕ) (old new : Option (List ℕ)) (before now : ℕ) (s : Stop) → BulkEnds n old new before now (Some s) → ¬ HasRisen before now → (status_of (Some s) ≡ 0) ⊎ (status_of (Some s) ≡ 8)
 bulk_ends n old new before now stop.BadWords ends quiet = absurd ends
+bulk_ends n old new before now stop.ShelfFault ends quiet = absurd ends
+bulk_ends n old new before now stop.Refused ends quiet = absurd ends
 bulk_ends n old new before now stop.DoorFault ends quiet = absurd ends
 bulk_ends n old new before now (stop.Malformed line) ends quiet = absurd ends
 bulk_ends n old new before now (stop.Unreadable line rule) ends quiet = absurd ends

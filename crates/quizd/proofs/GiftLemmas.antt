@@ -45,6 +45,8 @@ past_limit n m limit a b c = omega (arith, a, b, c)
 
 pub gifts_all : (writes : Bool) (old new : Outside) (s : Stop) → GiftEnds writes old new (Some s) → GiftsAll old new (status_of (Some s))
 gifts_all writes old new stop.BadWords h = absurd h
+gifts_all writes old new stop.ShelfFault h = absurd h
+gifts_all writes old new stop.Refused h = absurd h
 gifts_all writes old new stop.DoorFault h = absurd h
 gifts_all writes old new (stop.Malformed line) h = absurd h
 gifts_all writes old new (stop.Unreadable line rule) h = record {

@@ -126,6 +126,8 @@ none_left bytes few = drop_all 0 bytes few
 -- no more could be read
 pub stops_next : (old mid : Buffer) (left between rest : Option (List ℕ)) (before during later : ℕ) (line : ScriptLine) (s : Stop) → IsHeldLine old left between before during line mid.read mid.limit → FillStops mid between rest during later s → NextStops old left rest before later s
 stops_next old mid left between rest before during later line stop.BadWords h f = absurd f
+stops_next old mid left between rest before during later line stop.ShelfFault h f = absurd f
+stops_next old mid left between rest before during later line stop.Refused h f = absurd f
 stops_next old mid left between rest before during later line stop.DoorFault h f = absurd f
 stops_next old mid left between rest before during later line (stop.Unreadable n rule) h f = absurd f
 stops_next old mid left between rest before during later line (stop.Malformed n) h f = absurd f

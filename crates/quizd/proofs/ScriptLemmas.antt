@@ -40,6 +40,8 @@ answers a b old new before now line r (Ok x) goes says = record { reply = r; goe
 answers a b old new before now line r (Err stop.SinkFault) goes says = (record { reply = r; goes = goes; written = says.0 }, says.1)
 answers a b old new before now line r (Err stop.Memory) goes says = inr (record { reply = r; goes = goes; written = none_written old new (reply_line r) says })
 answers a b old new before now line r (Err stop.BadWords) goes says = absurd says
+answers a b old new before now line r (Err stop.ShelfFault) goes says = absurd says
+answers a b old new before now line r (Err stop.Refused) goes says = absurd says
 answers a b old new before now line r (Err stop.DoorFault) goes says = absurd says
 answers a b old new before now line r (Err (stop.Unreadable n rule)) goes says = absurd says
 answers a b old new before now line r (Err (stop.Malformed n)) goes says = absurd says
@@ -179,6 +181,8 @@ ends_done a b left between rest holds written before during now early late old n
 pub ends_reading : (a b : Lists) (left between rest holds written : Option (List ℕ)) (before during now early late : ℕ) (old : Buffer) (limit : ℕ) (s : Stop) → IsServed a b left between holds written before during early late old limit
     → NextStops old between rest during now s → ServeEnds limit a (outside left before holds early) (outside rest now written late) (Some s)
 ends_reading a b left between rest holds written before during now early late old limit stop.BadWords s n = absurd n
+ends_reading a b left between rest holds written before during now early late old limit stop.ShelfFault s n = absurd n
+ends_reading a b left between rest holds written before during now early late old limit stop.Refused s n = absurd n
 ends_reading a b left between rest holds written before during now early late old limit stop.DoorFault s n = absurd n
 ends_reading a b left between rest holds written before during now early late old limit (stop.Unreadable k rule) s n = absurd n
 ends_reading a b left between rest holds written before during now early late old limit (stop.Malformed k) s n = absurd n
@@ -269,6 +273,8 @@ left_line a b c left rest holds written wrote before now early late limit bytes 
 stops_line : (a b c : Lists) (left rest holds written wrote : Option (List ℕ)) (before now early mid late limit : ℕ) (bytes output front : List ℕ) (lines : List (List ℕ)) (line : ScriptLine) (s : Stop) → Consumes left rest bytes → length bytes ≤ limit → Answered a b lines output → Appends holds written output
     → early ≤ mid → AreFirst lines bytes rest → AreFirst (lines ++ front ∷ []) bytes rest → line ≡ kept front → AnswerStops b c written wrote mid late line s → ServeEnds limit a (outside left before holds early) (outside rest now wrote late) (Some s)
 stops_line a b c left rest holds written wrote before now early mid late limit bytes output front lines line stop.BadWords taken within answered appends later without with_it line_is o = absurd o
+stops_line a b c left rest holds written wrote before now early mid late limit bytes output front lines line stop.ShelfFault taken within answered appends later without with_it line_is o = absurd o
+stops_line a b c left rest holds written wrote before now early mid late limit bytes output front lines line stop.Refused taken within answered appends later without with_it line_is o = absurd o
 stops_line a b c left rest holds written wrote before now early mid late limit bytes output front lines line stop.DoorFault taken within answered appends later without with_it line_is o = absurd o
 stops_line a b c left rest holds written wrote before now early mid late limit bytes output front lines line (stop.Unreadable n rule) taken within answered appends later without with_it line_is o = absurd o
 stops_line a b c left rest holds written wrote before now early mid late limit bytes output front lines line (stop.Malformed n) taken within answered appends later without with_it line_is o = absurd o
@@ -327,6 +333,8 @@ serves_within : (limit : ℕ) (a : Lists) (old new : Outside) (s : Option Stop) 
     → ¬ HasRisen old.source_faults new.source_faults → ¬ HasRisen old.sink_faults new.sink_faults → (status_of s ≡ 0) ⊎ (status_of s ≡ 8)
 serves_within limit a old new None text e is within source sink = inl refl
 serves_within limit a old new (Some stop.BadWords) text e is within source sink = absurd e
+serves_within limit a old new (Some stop.ShelfFault) text e is within source sink = absurd e
+serves_within limit a old new (Some stop.Refused) text e is within source sink = absurd e
 serves_within limit a old new (Some stop.DoorFault) text e is within source sink = absurd e
 serves_within limit a old new (Some (stop.Unreadable n rule)) text e is within source sink = absurd e
 serves_within limit a old new (Some (stop.Malformed n)) text e is within source sink = absurd e

@@ -15,6 +15,8 @@ stopped_then serves doors after old new before now stop.SourceFault e = e
 stopped_then serves doors after old new before now stop.SinkFault e = e
 stopped_then serves doors after old new before now stop.Memory e = inl e
 stopped_then serves doors after old new before now stop.TooLong e = e
+stopped_then serves doors after old new before now stop.ShelfFault e = e
+stopped_then serves doors after old new before now stop.Refused e = e
 stopped_then serves doors after old new before now stop.DoorFault e = e
 
 -- where the sink's count didn't rise
@@ -28,4 +30,6 @@ serving_ends serves doors after old new before now (Some stop.SourceFault) e qui
 serving_ends serves doors after old new before now (Some stop.SinkFault) e quiet = absurd (quiet e.says.1)
 serving_ends serves doors after old new before now (Some stop.Memory) e quiet = inr (inl refl)
 serving_ends serves doors after old new before now (Some stop.TooLong) e quiet = absurd e.says
+serving_ends serves doors after old new before now (Some stop.ShelfFault) e quiet = absurd e.says
+serving_ends serves doors after old new before now (Some stop.Refused) e quiet = absurd e.says
 serving_ends serves doors after old new before now (Some stop.DoorFault) e quiet = inr (inr refl)

@@ -20,6 +20,10 @@ pub enum Stop {
     SourceFault,
     /// The sink failed: status 5.
     SinkFault,
+    /// The shelf failed, or a disk of it: status 6.
+    ShelfFault,
+    /// What stands in the folder doesn't allow it: status 7.
+    Refused,
     /// Memory was wanting: status 8.
     Memory,
     /// The source held more bytes than the limit: status 9.
@@ -41,6 +45,8 @@ impl Stop {
             Stop::Malformed { .. } | Stop::Unreadable { .. } => 3,
             Stop::SourceFault => 4,
             Stop::SinkFault => 5,
+            Stop::ShelfFault => 6,
+            Stop::Refused => 7,
             Stop::Memory => 8,
             Stop::TooLong => 9,
             Stop::DoorFault => 10,

@@ -10,6 +10,8 @@ fn each_stop_has_its_status(rt: HostRuntime) {
         (Stop::Unreadable { line: 7, rule: 5 }, 3),
         (Stop::SourceFault, 4),
         (Stop::SinkFault, 5),
+        (Stop::ShelfFault, 6),
+        (Stop::Refused, 7),
         (Stop::Memory, 8),
         (Stop::TooLong, 9),
         (Stop::DoorFault, 10),

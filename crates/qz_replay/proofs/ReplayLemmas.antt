@@ -46,6 +46,8 @@ module _ (number : ℕ) (p : Play) (lines rest : List (List ℕ)) (line front : 
   fails_more stop.Memory reads = tt
   fails_more (stop.Malformed n) reads = stops_at n reads
   fails_more stop.BadWords reads = absurd reads
+  fails_more stop.ShelfFault reads = absurd reads
+  fails_more stop.Refused reads = absurd reads
   fails_more stop.DoorFault reads = absurd reads
   fails_more (stop.Unreadable n rule) reads = absurd reads
   fails_more stop.SourceFault reads = absurd reads

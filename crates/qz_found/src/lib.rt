@@ -1,0 +1,9 @@
+//! The command that founds a school in a folder.
+#![tactic(auto)]
+
+mod founding;
+
+pub use founding::found_folder;
+
+#[cfg(test)]
+mod tests;
