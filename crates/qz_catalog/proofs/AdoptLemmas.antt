@@ -1,7 +1,6 @@
 -- A record that is allowed behind others, and is put there.
-use Rattle.std.proofs.Common.{◌≡◌, ℕ, ◌+◌, ◌-◌, ◌<◌, ◌≤◌, ◌^◌, Bool, true, false, List, [], ◌∷◌, ◌++◌, Option, Some, None, length, refl, sym, ap, subst, ◌∙◌, arith, All}
-use Rattle.std.specs.List.{list_all}
-use Rattle.std.specs.Prelude.{◌==◌, nat_le, ◌&&◌, vec_len, vec_capacity}
+use Rattle.std.proofs.Common.{◌≡◌, ℕ, ◌+◌, ◌-◌, ◌<◌, ◌≤◌, ◌^◌, Bool, true, false, List, [], ◌∷◌, ◌++◌, Option, Some, None, length, refl, sym, ap, subst, ◌∙◌, arith}
+use Rattle.std.specs.Prelude.{◌==◌, nat_le, vec_len, vec_capacity}
 use Rattle.std.proofs.lemmas.Bool.{le-leb}
 use Rattle.std.proofs.lemmas.List.Elements.{All-nil, All-push}
 use Rattle.std.proofs.lemmas.List.Folds.{list_all-append}
@@ -23,7 +22,7 @@ use Rattle.qz_roster.specs.Roster.{HasRoom, IsNext, IsRosterOf}
 use Rattle.qz_catalog.specs.declared.book.Book.{Book}
 use Rattle.qz_catalog.specs.Applying.{IsReady, bank_cause, bank_told}
 use Rattle.qz_catalog.specs.Holdings.{ArePinned, AreShown, IsBook, IsHeld, IsPin, founded, keeps_described}
-use Rattle.qz_catalog.proofs.Accepted.{accepted, asked-event}
+use Rattle.qz_catalog.proofs.Accepted.{accepted}
 use Rattle.qz_catalog.proofs.Answering.{longer}
 use Rattle.qz_catalog.proofs.Deciding.{bank-after}
 use Rattle.qz_catalog.proofs.Granting.{legal-push}

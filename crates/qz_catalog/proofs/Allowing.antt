@@ -1,5 +1,5 @@
 -- The tests of which records may stand behind a catalogue's.
-use Rattle.std.proofs.Common.{◌≡◌, ℕ, zero, suc, ◌+◌, ◌-◌, ◌≤◌, Bool, true, false, not, List, [], ◌∷◌, Option, Some, None, length, map, option_map, refl, sym, ap, subst, ◌∙◌, arith}
+use Rattle.std.proofs.Common.{◌≡◌, ℕ, zero, suc, ◌+◌, ◌-◌, ◌≤◌, Bool, true, false, not, List, [], ◌∷◌, Option, Some, None, length, map, option_map, refl, sym, ap, ◌∙◌, arith}
 use Rattle.std.specs.Bool.{Decides}
 use Rattle.std.specs.List.{enumerate_from}
 use Rattle.std.specs.Prelude.{◌==◌, ◌&&◌, filter_map, if◌then◌else◌, is_none, is_some, slice_get, unwrap_or}
@@ -20,7 +20,7 @@ use Rattle.qz_terms.specs.Catalog.{Person, made_user, user_with, users}
 use Rattle.qz_terms.specs.CatalogAnswer.{keeps_record, moment_in}
 use Rattle.qz_terms.specs.Cause.{Granted, Verdict, by_key, cause_in, denied, forbidden, keeps_request, missing_in, role_may, rule_of}
 use Rattle.qz_terms.specs.Kept.{IsKept, KeepsEvent}
-use Rattle.qz_terms.specs.Legal.{AskIsAllowed, CatalogEventIsAllowed, IsAllowedInCatalog, ask_of}
+use Rattle.qz_terms.specs.Legal.{AskIsAllowed, CatalogEventIsAllowed, IsAllowedInCatalog}
 use Rattle.qz_terms.proofs.Standing.{free-by, never-granted}
 use Rattle.qz_bank.specs.declared.entry.Entry.{Entry}
 use Rattle.qz_bank.specs.Laws.{IsBankOf}

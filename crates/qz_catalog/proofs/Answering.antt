@@ -1,10 +1,8 @@
 -- What is answered, and what the list and its bank are afterwards.
-use Rattle.std.proofs.Common.{◌≡◌, ℕ, ◌+◌, ◌-◌, ◌<◌, ◌^◌, ◌⊎◌, inl, inr, true, List, [], ◌∷◌, ◌++◌, Some, None, length, take, get_or, refl, sym, ap, subst, ◌∙◌, arith, length-append, append-nil}
+use Rattle.std.proofs.Common.{◌≡◌, ℕ, ◌+◌, ◌-◌, ◌<◌, ◌^◌, true, List, [], ◌∷◌, ◌++◌, None, length, take, get_or, refl, sym, ap, ◌∙◌, arith, length-append, append-nil}
 use Rattle.std.proofs.lemmas.List.Elements.{All-push}
 use Rattle.std.proofs.lemmas.List.Folds.{list_all-append}
 use Rattle.std.proofs.lemmas.Option.{get_or_from_slice_get}
-use Rattle.qz_grading.specs.declared.refusal.Refusal.{Refusal}
-use Rattle.qz_grading.specs.declared.refusal.Refusal.TheVariants as refusal
 use Rattle.qz_terms.specs.declared.ask.Ask.{Ask}
 use Rattle.qz_terms.specs.declared.people.User.{User}
 use Rattle.qz_terms.specs.declared.record.Record.{Record}
@@ -14,13 +12,13 @@ use Rattle.qz_terms.specs.declared.request.Request.{Request}
 use Rattle.qz_terms.specs.declared.request.Request.TheVariants as request
 use Rattle.qz_terms.specs.Answer.{said}
 use Rattle.qz_terms.specs.CatalogAnswer.{catalog_after, catalog_answer, catalog_verdict, is_look_in, looked_in_by, record_in}
-use Rattle.qz_terms.specs.Cause.{Denied, Granted, Repeated, verdict_in}
+use Rattle.qz_terms.specs.Cause.{Granted, Repeated, verdict_in}
 use Rattle.qz_terms.specs.Kept.{IsKept}
 use Rattle.qz_terms.specs.Legal.{IsLegalCatalog}
 use Rattle.qz_bank.specs.declared.entry.Entry.{Entry}
-use Rattle.qz_catalog.specs.Applying.{Answers, IsAnswered, IsFree, IsLooked, IsPosed, IsRepeated, bank_after, bank_cause, stand_in}
+use Rattle.qz_catalog.specs.Applying.{IsFree, IsLooked, IsPosed, IsRepeated, bank_after, bank_cause, stand_in}
 use Rattle.qz_catalog.specs.Holdings.{IsHeld, keeps_described}
-use Rattle.qz_catalog.proofs.Deciding.{bank-after, granted, refused, verdict-same}
+use Rattle.qz_catalog.proofs.Deciding.{bank-after, granted, verdict-same}
 use Rattle.qz_catalog.proofs.Granting.{allowed, kept, legal-push}
 
 -- ---- a record that is put

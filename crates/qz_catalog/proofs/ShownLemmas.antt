@@ -1,5 +1,5 @@
 -- Numbers that replies show, and what a record that is put owes.
-use Rattle.std.proofs.Common.{◌≡◌, ℕ, zero, suc, ◌+◌, ◌-◌, ◌<◌, ◌^◌, ◌⊎◌, inl, inr, Bool, true, false, List, [], ◌∷◌, ◌++◌, Some, None, length, take, get_or, refl, sym, ap, subst, ◌∙◌, arith, length-append}
+use Rattle.std.proofs.Common.{◌≡◌, ℕ, zero, suc, ◌+◌, ◌<◌, ◌⊎◌, inl, inr, Bool, true, false, List, [], ◌∷◌, ◌++◌, Some, None, length, take, get_or, refl, sym, ap, subst, ◌∙◌, arith, length-append}
 use Rattle.std.specs.Prelude.{is_some, slice_get, slice_index, ◌||◌}
 use Rattle.std.proofs.lemmas.List.{length-take-le, take-append-le, take_all}
 use Rattle.std.proofs.lemmas.Option.{get_or_from_slice_get, slice_get_within}
@@ -22,7 +22,7 @@ use Rattle.qz_bank.specs.declared.entry.Entry.{Entry}
 use Rattle.qz_roster.specs.Roster.{IsNext}
 use Rattle.qz_roster.proofs.Reading.{get-kept, some-same}
 use Rattle.qz_roster.proofs.Telling.{there-is}
-use Rattle.qz_catalog.specs.Applying.{IsAnswered, IsAskedAt, IsLooked, IsPosed, IsRepeated, IsShort, IsToldOver, bank_after, bank_cause, stand_in}
+use Rattle.qz_catalog.specs.Applying.{IsAskedAt, IsLooked, IsPosed, IsRepeated, IsShort, IsToldOver, stand_in}
 use Rattle.qz_catalog.specs.Holdings.{AreShown, IsHeld, IsShownBy}
 use Rattle.qz_catalog.specs.Shown.{done_with}
 use Rattle.qz_catalog.proofs.Answering.{repeated-answer}

@@ -1,5 +1,5 @@
 -- A catalogue whose list a keeper keeps: what it is seen as, and what its calls say over a list.
-use Rattle.std.specs.Prelude.{◌≡◌, ℕ, Bool, true, false, List, ◌∷◌, [], length, map, Ok, Some, None, Option, option_map, Result, MatchResult}
+use Rattle.std.specs.Prelude.{◌≡◌, ℕ, Bool, true, List, ◌∷◌, [], length, map, Ok, Some, None, Option, option_map, Result, MatchResult}
 use Rattle.qz_decimal.specs.Numbers.{IsMaxSum, IsQuizGrade}
 use Rattle.qz_grading.specs.declared.refusal.Refusal.{Refusal}
 use Rattle.qz_grading.specs.declared.refusal.Refusal.TheVariants as refusal

@@ -1,4 +1,4 @@
-use Rattle.std.proofs.Common.{List, Bool, ℕ, subst}
+use Rattle.std.proofs.Common.{List, ℕ, subst}
 use Rattle.qz_catalog.specs.Loads.{IsBegun, IsTaken}
 use Rattle.qz_catalog.proofs.LoadLemmas.{first-illegal, read-illegal, read-more}
 use Rattle.qz_catalog.proofs.loading.book_of.Goals as goal

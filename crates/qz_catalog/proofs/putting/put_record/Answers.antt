@@ -1,8 +1,8 @@
-use Rattle.std.proofs.Common.{◌≡◌, ◌+◌, ◌-◌, ◌<◌, ◌≤◌, ◌^◌, List, [], ◌∷◌, ◌++◌, length, ap, sym, subst, ◌∙◌}
+use Rattle.std.proofs.Common.{◌+◌, ◌-◌, ◌<◌, ◌≤◌, ◌^◌, List, [], ◌∷◌, ◌++◌, length, sym, subst}
 use Rattle.qz_terms.specs.declared.record.Record.{Record}
 use Rattle.qz_terms.specs.Catalog.{entries}
 use Rattle.qz_bank.specs.declared.entry.Entry.{Entry}
-use Rattle.qz_roster.specs.Roster.{HasRoom, IsNext}
+use Rattle.qz_roster.specs.Roster.{IsNext}
 use Rattle.qz_catalog.specs.Applying.{IsReady, MayPut, bank_with}
 use Rattle.qz_catalog.specs.Holdings.{ArePinned, AreShown, IsHeld, IsPin}
 use Rattle.qz_catalog.proofs.AdoptLemmas.{room-book}

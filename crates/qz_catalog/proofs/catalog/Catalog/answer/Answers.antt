@@ -1,4 +1,3 @@
-use Rattle.std.proofs.Common.{ap, subst, sym, ◌∙◌}
 use Rattle.qz_keeper.proofs.Calls.{recorded_call}
 use Rattle.qz_keeper.proofs.Settling.{call_kept, list_ends, ready_of}
 use Rattle.qz_terms.specs.declared.reply.Reply.TheVariants as reply

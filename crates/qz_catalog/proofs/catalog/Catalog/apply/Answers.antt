@@ -1,4 +1,3 @@
-use Rattle.std.proofs.Common.{ap, subst, sym}
 use Rattle.qz_keeper.proofs.Calls.{mended_call, unsettled_call}
 use Rattle.qz_catalog.proofs.catalog.Catalog.apply.Goals as goal
 

@@ -1,4 +1,3 @@
-use Rattle.std.proofs.Common.{subst, sym}
 use Rattle.qz_keeper.proofs.Settling.{stored}
 use Rattle.qz_catalog.specs.Keeping.{MayFollow}
 use Rattle.qz_catalog.proofs.catalog.Catalog.into_keeper.Goals as goal

@@ -1,6 +1,3 @@
-use Rattle.std.proofs.Common.{subst}
-use Rattle.qz_keeper.specs.Lists.{EachMayStand}
-use Rattle.qz_terms.specs.Legal.{IsLegalCatalog}
 use Rattle.qz_catalog.proofs.KeptCalls.{legal_held}
 use Rattle.qz_catalog.proofs.catalog.Catalog.len.Goals as goal
 

@@ -1,4 +1,3 @@
-use Rattle.std.proofs.Common.{ap, subst, sym, Err}
 use Rattle.qz_keeper.proofs.Calls.{unsettled_call}
 use Rattle.qz_catalog.proofs.catalog.Catalog.mend.Goals as goal
 

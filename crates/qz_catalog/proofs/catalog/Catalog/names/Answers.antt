@@ -1,4 +1,4 @@
-use Rattle.std.proofs.Common.{Err, refl, sym, subst}
+use Rattle.std.proofs.Common.{Err, refl}
 use Rattle.qz_keeper.specs.Lists.{Looks}
 use Rattle.qz_keeper.proofs.Calls.{looked_call}
 use Rattle.qz_catalog.specs.Keeping.{TellsNames}

@@ -1,4 +1,3 @@
-use Rattle.std.proofs.Common.{subst}
 use Rattle.qz_catalog.proofs.catalog_core.CatalogCore.put.Goals as goal
 
 pub returns-clause-recorded : goal.returns-clause-recorded
