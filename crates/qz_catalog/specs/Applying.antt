@@ -155,12 +155,6 @@ pub record IsPosed (c : List Record) (es : List Entry) (now : ℕ) (user : User)
   pub keeps : is_look_in ask.request ≡ false
   pub free : IsFree c user ask
 
--- the reply is the answer, and the records and their bank are what it leaves
-pub record IsAnswered (c : List Record) (now : ℕ) (user : User) (ask : Ask) (told : Reply) (g : List Record) (gs : List Entry) : Type 0 where
-  pub reply : told ≡ catalog_answer c now user ask
-  pub list : g ≡ catalog_after c now user ask
-  pub held : IsHeld g gs
-
 -- ---- the numbers of a reply
 
 -- so many entries a request imports

@@ -238,9 +238,7 @@ impl<K: Keeper> Catalog<K> {
         ensures goes_on { GoesOn (K.sound self.old.keeper) (K.sound self.new.keeper)
             (K.faults self.old.keeper) (K.faults self.new.keeper) }
     {
-        let told = self
-            .core
-            .answer(alloc, user, ask, moment, &mut self.keeper);
+        let told = self.core.answer(alloc, user, ask, moment, &mut self.keeper);
         reply_of(told)
     }
 }
