@@ -1,4 +1,5 @@
-//! What one request does to the lists of a school, from what single calls did to single lists.
+//! What one request does to the lists of a school, from what single calls did to single lists. `F` is whatever it means that a keeper
+//! failed.
 
 ghost use Rattle.qz_serial.specs.Calls.{RepliesCompose};
 ghost use Rattle.qz_serial.specs.Once.{ActsOnceInLists};
@@ -20,7 +21,8 @@ pub fn catalog_acts_once()
     ensures { CatalogActsOnce }
 {}
 
-/// Calls at one list compose: it is mended once, a look leaves it as it is, and a look alone is the whole call.
+/// Calls at one list compose: a list of which no record is in doubt is read as it is, behind another call it isn't mended again, and what
+/// is told is no answer only where the keeper failed or memory was wanting.
 pub fn replies_compose<F>()
     ensures { RepliesCompose F }
 {}
