@@ -1,0 +1,10 @@
+pub mod Results
+pub mod Finding
+pub mod Standing
+pub mod Refusing
+pub mod Counting
+pub mod Sounding
+pub mod GivingBack
+pub mod OpeningParts
+pub mod Listing
+pub mod Returning

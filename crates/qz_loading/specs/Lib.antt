@@ -1,0 +1,5 @@
+pub mod Places
+pub mod Reading
+pub mod Telling
+pub mod Opening
+pub mod Closing
