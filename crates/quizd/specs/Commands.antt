@@ -1,56 +1,36 @@
 -- The commands of the command line, and how a run of each ends.
-use Rattle.std.specs.Prelude.{ℕ, ◌≤◌, Bool, true, false, ◌&&◌, if◌then◌else◌, List, [], ◌∷◌, ◌++◌, Option, Some, None, option_map, bytes_eq, codes, ◌≡◌, ◌⊎◌}
+use Rattle.std.specs.Prelude.{◌≡◌, ◌⊎◌, ℕ, Bool, true, false, ◌&&◌, ◌==◌, if◌then◌else◌, List, ◌++◌, Option, Some, None, bytes_eq, codes}
 use Rattle.std.specs.Io.KnownBytes.{Appends, Keeps}
 use Rattle.qz_outside.specs.Causes.{HasRisen}
 use Rattle.qz_outside.specs.Sources.{AppendsFront}
-use Rattle.quizd.specs.declared.command.Command.{Command}
-use Rattle.quizd.specs.declared.command.Command.TheVariants as command
+use Rattle.qz_command.specs.declared.command.Command.{Command}
+use Rattle.qz_command.specs.declared.command.Command.TheVariants as command
+use Rattle.qz_command.specs.Commands.{command_of}
 use Rattle.qz_ending.specs.declared.stop.Stop.{Stop}
 use Rattle.qz_ending.specs.declared.stop.Stop.TheVariants as stop
 use Rattle.qz_ending.specs.Endings.{Outside}
-use Rattle.qz_wire.specs.Lines.{newline, number_within}
+use Rattle.qz_wire.specs.Lines.{newline}
 use Rattle.quizd.specs.Bulk.{BulkEnds}
 use Rattle.quizd.specs.Solo.{first_lists}
 use Rattle.qz_replay.specs.ReplayEndings.{ReplayEnds, ReplaysAll}
+use Rattle.qz_disks.specs.Shelves.{Files, Place}
+use Rattle.qz_found.specs.FoundEndings.{School}
 use Rattle.quizd.specs.Scripts.{ServeEnds, ServesAll, script_limit}
 use Rattle.quizd.specs.GiftEndings.{GiftEnds, GiftsAll}
 
--- what is done with a GIFT text
-abbrev pub gift_command : List ℕ → Option Command
-gift_command word = if bytes_eq word (codes "check") then Some command.GiftCheck else (if bytes_eq word (codes "fmt") then Some command.GiftFormat else None)
+-- So far a script is answered and links are served over a school in memory alone, by one worker and without a regrader.
+abbrev pub is_built : Command → Bool
+is_built (command.Script folder) = bytes_eq folder (codes "memory")
+is_built (command.Serve folder port workers regraders links) = bytes_eq folder (codes "memory") && ((workers == 1) && (regraders == 0))
+is_built c = true
 
--- a school of 1 to 2,000 students
-abbrev pub bulk_command : List ℕ → Option Command
-bulk_command word = option_map command.Bulk (number_within 1 2000 word)
+abbrev pub if_built : Option Command → Option Command
+if_built None = None
+if_built (Some c) = if is_built c then Some c else None
 
-abbrev pub served_at : Option ℕ → Option ℕ → Option Command
-served_at (Some port) (Some links) = Some (command.Serve port links)
-served_at (Some port) None = None
-served_at None links = None
-
--- a school in memory at a port, for so many links
-abbrev pub serve_command : List ℕ → List ℕ → Option Command
-serve_command port links = served_at (number_within 1 65535 port) (number_within 1 1000000000 links)
-
--- one worker serves, and nobody regrades
-abbrev pub serves_alone : List ℕ → List ℕ → List ℕ → List ℕ → Bool
-serves_alone word folder workers regraders =
-    bytes_eq word (codes "serve") && (bytes_eq folder (codes "memory") && (bytes_eq workers (codes "1") && bytes_eq regraders (codes "0")))
-
--- the command that these words are; any others are none
-abbrev pub command_of : List (List ℕ) → Option Command
-command_of (word ∷ []) = if bytes_eq word (codes "replay") then Some command.Replay else None
-command_of (word ∷ second ∷ []) =
-    if bytes_eq word (codes "script") && bytes_eq second (codes "memory") then Some command.Script
-    else (if bytes_eq word (codes "gift") then gift_command second
-    else (if bytes_eq word (codes "bulk") then bulk_command second else None))
-command_of (word ∷ folder ∷ port ∷ workers ∷ regraders ∷ links ∷ []) = if serves_alone word folder workers regraders then serve_command port links else None
-command_of words = None
-
--- the numbers of a command are in their ranges
-abbrev pub IsInRange : Command → Type 0
-IsInRange (command.Bulk count) = count ≤ 2000
-IsInRange c = Unit {0}
+-- the command that these words are, of those that are built; any others are none
+abbrev pub built_command : List (List ℕ) → Option Command
+built_command words = if_built (command_of words)
 
 -- ---- words that are no command
 
@@ -74,32 +54,56 @@ UsageEnds old new (Some s) = UsageShown old new s
 
 -- ---- how a run ends, and what it does where nothing fails
 
--- all commands but one that serves links
+-- no file of a shelf is out
+pub record NoneOut (files : Files) : Type 0 where
+  pub each : (at : Place) → files.is_out at ≡ false
+
+-- what a run is given beside words, source and sink
+pub record Beside (D F : Type 0) : Type 0 where
+  pub doors : D
+  pub shelf : F
+
+-- all commands but one that serves links, and one that founds a school
 abbrev pub CommandEnds : Option Command → Outside → Outside → Option Stop → Type 0
 CommandEnds None old new s = UsageEnds old new s
 CommandEnds (Some command.Replay) old new s = ReplayEnds old new s
-CommandEnds (Some command.Script) old new s = ServeEnds script_limit first_lists old new s
 CommandEnds (Some command.GiftCheck) old new s = GiftEnds false old new s
 CommandEnds (Some command.GiftFormat) old new s = GiftEnds true old new s
+CommandEnds (Some (command.Script folder)) old new s = ServeEnds script_limit first_lists old new s
+CommandEnds (Some (command.Found folder shards token)) old new s = ⊥
+CommandEnds (Some (command.Serve folder port workers regraders links)) old new s = ⊥
 CommandEnds (Some (command.Bulk count)) old new s = Keeps old.left new.left × BulkEnds count old.holds new.holds old.sink_faults new.sink_faults s
-CommandEnds (Some (command.Serve port links)) old new s = ⊥
 
--- One that serves links reads nothing of the source, and serves at the doors. Any other leaves the doors as they are.
-abbrev pub CommandEndsAt : {A : Type 0} → (ℕ → Option Stop → Type 0) → A → A → Option Command → Outside → Outside → Option Stop → Type 0
-CommandEndsAt serving doors after (Some (command.Serve port links)) old new s = Keeps old.left new.left × serving links s
-CommandEndsAt serving doors after c old new s = CommandEnds c old new s × (after ≡ doors)
+-- One that serves links serves at the doors, and one that founds a school founds it on the shelf; both read nothing of the source. Else
+-- doors and shelf are left as they are.
+abbrev pub CommandEndsAt : {D F : Type 0} → (School → Option Stop → Type 0) → (ℕ → Option Stop → Type 0) → Beside D F → Beside D F → Option Command → Outside → Outside → Option Stop → Type 0
+CommandEndsAt founding serving at after (Some (command.Found folder shards token)) old new s =
+    Keeps old.left new.left × (after.doors ≡ at.doors) × founding (record { folder = folder; shards = shards; token = token }) s
+CommandEndsAt founding serving at after (Some (command.Serve folder port workers regraders links)) old new s =
+    Keeps old.left new.left × (after.shelf ≡ at.shelf) × serving links s
+CommandEndsAt founding serving at after c old new s = CommandEnds c old new s × (after ≡ at)
 
-abbrev pub RunEnds : {A : Type 0} → (ℕ → Option Stop → Type 0) → A → A → List (List ℕ) → Outside → Outside → Option Stop → Type 0
-RunEnds serving doors after words old new s = CommandEndsAt serving doors after (command_of words) old new s
+-- memory was wanting for the words, and nothing was done
+pub record WordsUnread {D F : Type 0} (at after : Beside D F) (old new : Outside) (s : Option Stop) : Type 0 where
+  pub memory : s ≡ Some stop.Memory
+  pub stays : after ≡ at
+  pub unread : Keeps old.left new.left
+  pub unwritten : Keeps old.holds new.holds
 
-abbrev pub CommandDoesAll : Option Command → Outside → Outside → ℕ → Type 0
-CommandDoesAll None old new status = Unit {0}
-CommandDoesAll (Some command.Replay) old new status = ReplaysAll old new status
-CommandDoesAll (Some command.Script) old new status = ServesAll script_limit old new status
-CommandDoesAll (Some command.GiftCheck) old new status = GiftsAll old new status
-CommandDoesAll (Some command.GiftFormat) old new status = GiftsAll old new status
-CommandDoesAll (Some (command.Bulk count)) old new status = ¬ HasRisen old.sink_faults new.sink_faults → (status ≡ 0) ⊎ (status ≡ 8)
-CommandDoesAll (Some (command.Serve port links)) old new status = ¬ HasRisen old.sink_faults new.sink_faults → (status ≡ 0) ⊎ ((status ≡ 8) ⊎ (status ≡ 10))
+abbrev pub RunEnds : {D F : Type 0} → (School → Option Stop → Type 0) → (ℕ → Option Stop → Type 0) → Beside D F → Beside D F → List (List ℕ) → Outside → Outside → Option Stop → Type 0
+RunEnds founding serving at after words old new s =
+    CommandEndsAt founding serving at after (built_command words) old new s ⊎ WordsUnread at after old new s
 
-abbrev pub RunsAll : List (List ℕ) → Outside → Outside → ℕ → Type 0
-RunsAll words old new status = CommandDoesAll (command_of words) old new status
+abbrev pub CommandDoesAll : (School → ℕ → Type 0) → Option Command → Outside → Outside → ℕ → Type 0
+CommandDoesAll founds None old new status = Unit {0}
+CommandDoesAll founds (Some command.Replay) old new status = ReplaysAll old new status
+CommandDoesAll founds (Some command.GiftCheck) old new status = GiftsAll old new status
+CommandDoesAll founds (Some command.GiftFormat) old new status = GiftsAll old new status
+CommandDoesAll founds (Some (command.Script folder)) old new status = ServesAll script_limit old new status
+CommandDoesAll founds (Some (command.Found folder shards token)) old new status = founds (record { folder = folder; shards = shards; token = token }) status
+CommandDoesAll founds (Some (command.Serve folder port workers regraders links)) old new status =
+    ¬ HasRisen old.sink_faults new.sink_faults → (status ≡ 0) ⊎ ((status ≡ 8) ⊎ (status ≡ 10))
+CommandDoesAll founds (Some (command.Bulk count)) old new status = ¬ HasRisen old.sink_faults new.sink_faults → (status ≡ 0) ⊎ (status ≡ 8)
+
+abbrev pub RunsAll : (School → ℕ → Type 0) → List (List ℕ) → Outside → Outside → ℕ → Type 0
+RunsAll founds words old new status = CommandDoesAll founds (built_command words) old new status

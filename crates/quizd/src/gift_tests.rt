@@ -1,4 +1,5 @@
 use super::*;
+use qz_disks::MemoryShelf;
 use qz_outside::{MemorySink, MemorySource};
 use qz_text::{Bytes, Listed};
 use std::test::Fail;
@@ -11,7 +12,15 @@ fn told(alloc: Global, word: &str, text: &[u8]) -> Result<(u8, String), NoMemory
     let mut source = MemorySource::new(Bytes::of(alloc, text)?, Listed::empty(alloc), 65_536);
     let mut sink = MemorySink::new(alloc, 1 << 20, Listed::empty(alloc), 65_536)?;
     let mut doors = no_doors(alloc)?;
-    let status = run(alloc, &words, &mut source, &mut sink, &mut doors);
+    let mut shelf = MemoryShelf::new(alloc, Listed::empty(alloc));
+    let status = run(
+        alloc,
+        &words,
+        &mut source,
+        &mut sink,
+        &mut doors,
+        &mut shelf,
+    );
     Ok((status, String::from_utf8_lossy(alloc, sink.bytes())?))
 }
 

@@ -3,8 +3,8 @@
 
 ghost use Rattle.std.specs.Prelude.{◌≡◌, length, IfOk};
 
+mod built;
 mod bulk;
-mod command;
 mod gift;
 #[cfg(test)]
 mod gift_tests;
@@ -20,11 +20,14 @@ mod serve;
 #[cfg(test)]
 mod usage_tests;
 
+use built::built_command;
 pub use bulk::bulk;
-use command::{Command, command_of};
 pub use gift::gift;
+use qz_command::{Command, WordsFault};
+use qz_disks::FolderShelf;
 use qz_ending::Stop;
-use qz_links::{BindFault, MemoryClock, MemoryDoor, MemoryLink, StdClock, TcpDoor};
+pub use qz_found::found_folder;
+use qz_links::{BindFault, Clock, Door, MemoryClock, MemoryDoor, MemoryLink, StdClock, TcpDoor};
 use qz_outside::{StdSink, StdSource};
 pub use qz_replay::replay;
 use qz_text::{Listed, NoMemory, Text};
@@ -112,22 +115,64 @@ fn tell(rt: &HostRuntime, port: u16, why: Doorless) -> Stop {
     Stop::DoorFault
 }
 
+/// Says on standard error that a folder can't be used, where a run ended for that.
+fn tell_folder(rt: &HostRuntime, folder: &Text, status: u8) {
+    if status == Stop::ShelfFault.status() {
+        let folder = folder.as_str();
+        // Where standard error fails too, the status tells it.
+        let _ = eprintln!(rt;
+            "quizd: the folder {folder} can't be used: it or its file can't be opened, read or written, or another program holds it"
+        );
+    }
+}
+
+/// Runs the words over standard input and output, some doors and the folders of the system.
+fn run_at<R: Door, C: Clock>(rt: HostRuntime, words: &[Text], doors: &mut Vec<(R, C)>) -> u8
+    requires { length doors.old.items ≡ DOORS }
+{
+    let alloc = rt.alloc();
+    let mut source = StdSource::new(rt.reader());
+    let mut sink = StdSink::new(io::writer(&rt));
+    let mut shelf = FolderShelf::new(alloc, &rt);
+    run(alloc, words, &mut source, &mut sink, doors, &mut shelf)
+}
+
+/// The same where nobody comes to any door.
+fn run_alone(rt: HostRuntime, words: &[Text]) -> u8 {
+    match no_doors(rt.alloc()) {
+        Ok(mut doors) => run_at(rt, words, &mut doors),
+        Err(NoMemory) => Stop::Memory.status(),
+    }
+}
+
+/// The same with doors at this port.
+fn run_at_port(rt: HostRuntime, words: &[Text], port: u16) -> u8 {
+    match open_doors(rt, port) {
+        Ok(mut doors) => run_at(rt, words, &mut doors),
+        Err(why) => tell(&rt, port, why).status(),
+    }
+}
+
 fn main(rt: HostRuntime) -> ExitCode {
     let Ok(words) = arguments(&rt) else {
         return ExitCode::from(Stop::Memory.status());
     };
-    let alloc = rt.alloc();
-    let mut source = StdSource::new(rt.reader());
-    let mut sink = StdSink::new(io::writer(&rt));
-    let status = match command_of(&words) {
-        Some(Command::Serve { port, .. }) => match open_doors(rt, port) {
-            Ok(mut doors) => run(alloc, &words, &mut source, &mut sink, &mut doors),
-            Err(why) => tell(&rt, port, why).status(),
-        },
-        _ => match no_doors(alloc) {
-            Ok(mut doors) => run(alloc, &words, &mut source, &mut sink, &mut doors),
-            Err(NoMemory) => Stop::Memory.status(),
-        },
+    let status = match built_command(rt.alloc(), &words) {
+        Ok(Command::Serve { port, .. }) => run_at_port(rt, &words, port),
+        Ok(Command::Found { folder, .. }) => {
+            let status = run_alone(rt, &words);
+            tell_folder(&rt, &folder, status);
+            status
+        }
+        Ok(
+            Command::Replay
+            | Command::GiftCheck
+            | Command::GiftFormat
+            | Command::Script { .. }
+            | Command::Bulk { .. },
+        )
+        | Err(WordsFault::BadWords) => run_alone(rt, &words),
+        Err(WordsFault::Memory) => Stop::Memory.status(),
     };
     ExitCode::from(status)
 }

@@ -3,6 +3,7 @@ ghost use Rattle.std.specs.Prelude.{◌≡◌, ◌<◌, ◌≤◌, length, None,
 ghost use Rattle.qz_outside.specs.Causes.{HasCause, HasRisen};
 
 use super::*;
+use qz_disks::MemoryShelf;
 use qz_outside::{Failed, Sink, Source};
 use std::cell::Cell;
 use std::test::Fail;
@@ -76,7 +77,15 @@ fn answered(alloc: Global, pieces: &[&str]) -> Result<(u8, usize), NoMemory> {
     };
     let mut sink = Counting { replies: &replies };
     let mut doors = no_doors(alloc)?;
-    let status = run(alloc, &words, &mut source, &mut sink, &mut doors);
+    let mut shelf = MemoryShelf::new(alloc, Listed::empty(alloc));
+    let status = run(
+        alloc,
+        &words,
+        &mut source,
+        &mut sink,
+        &mut doors,
+        &mut shelf,
+    );
     Ok((status, replies.get()))
 }
 

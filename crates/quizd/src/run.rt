@@ -1,19 +1,23 @@
 //! The command line.
 
-ghost use Rattle.quizd.specs.Commands.{UsageWritten, RunEnds, RunsAll};
+ghost use Rattle.quizd.specs.Commands.{UsageWritten, NoneOut, RunEnds, RunsAll};
 ghost use Rattle.std.specs.Prelude.{◌≡◌, length};
 ghost use Rattle.qz_doors.specs.Answers.{Asks};
 ghost use Rattle.qz_doors.specs.Doors.{ServesDoor};
 ghost use Rattle.qz_ending.specs.Endings.{Ended};
+ghost use Rattle.qz_found.specs.FoundEndings.{FoundEnds, FoundsAll};
 ghost use Rattle.qz_school.specs.Asked.{IsAskedOnce};
 ghost use Rattle.quizd.specs.Serving.{DoorsEnd};
 
+use crate::built::built_command;
 use crate::bulk::bulk;
-use crate::command::{Command, command_of};
 use crate::gift::gift;
 use crate::script::script;
 use crate::serve::serve;
+use qz_command::{Command, WordsFault};
+use qz_disks::Shelf;
 use qz_ending::Stop;
+use qz_found::found_folder;
 use qz_links::{Clock, Door};
 use qz_outside::{Sink, Source, write_all};
 use qz_replay::replay;
@@ -23,44 +27,73 @@ use std::alloc::Global;
 const USAGE: &str =
     "usage: quizd replay | gift check | gift fmt | script FOLDER | found FOLDER SHARDS TOKEN | serve FOLDER PORT WORKERS REGRADERS LINKS | bulk N\n";
 
-/// Runs the command that the words name, over a source, a sink and sixteen doors with a clock each, and answers its exit status.
+/// Runs the command that the words name, over a source, a sink, sixteen doors with a clock each, and a shelf of which no file is out, and
+/// answers its exit status.
 ///
-/// The commands so far are `replay`, `gift check`, `gift fmt`, `script memory`, `bulk N` and `serve memory PORT 1 0 LINKS`, which serves the first
-/// of the doors. Words that are no command are status 2: nothing is read, and the usage line is written. Where the sink fails under the usage
-/// line the status is 5.
-pub fn run<S: Source, O: Sink, R: Door, C: Clock>(
+/// The commands so far are `replay`, `gift check`, `gift fmt`, `script memory`, `found FOLDER SHARDS TOKEN`, `bulk N` and
+/// `serve memory PORT 1 0 LINKS`, which serves the first of the doors. Words that are no command are status 2: nothing is read, and the usage
+/// line is written. Where the sink fails under the usage line the status is 5. Where memory is wanting for the words it is 8, and nothing is done.
+pub fn run<S: Source, O: Sink, R: Door, C: Clock, F: Shelf>(
     alloc: Global,
     words: &[Text],
     source: &mut S,
     sink: &mut O,
     doors: &mut Vec<(R, C)>,
+    shelf: &mut F,
 ) -> u8
     requires doors { length doors.old.items ≡ 16 }
+    requires none_out { NoneOut (F.files shelf.old) }
     ensures ended { Ended
-        (RunEnds (λ links. DoorsEnd (λ door served a b end. ServesDoor (Asks C.tells IsAskedOnce)
+        (RunEnds (λ school. FoundEnds school
+        (record { files = F.files shelf.old; faults = F.faults shelf.old })
+        (record { files = F.files shelf.new; faults = F.faults shelf.new })
+        (record { holds = O.holds sink.old; faults = O.faults sink.old })
+        (record { holds = O.holds sink.new; faults = O.faults sink.new }))
+        (λ links. DoorsEnd (λ door served a b end. ServesDoor (Asks C.tells IsAskedOnce)
         (λ link. record { left = R.Link.left link; holds = R.Link.holds link; faults = R.Link.faults link })
         links
         (record { left = R.left door; returned = R.returned door; returns = R.returns door; out = R.out door; faults = R.faults door })
         (record { left = R.left served; returned = R.returned served; returns = R.returns served; out = R.out served; faults = R.faults served })
         a b end) doors.old.items doors.new.items (O.holds sink.old) (O.holds sink.new) (O.faults sink.old) (O.faults sink.new))
-        doors.old.items doors.new.items words.now
+        (record { doors = doors.old.items; shelf = shelf.old }) (record { doors = doors.new.items; shelf = shelf.new }) words.now
         (record { left = S.left source.old; source_faults = S.faults source.old; holds = O.holds sink.old; sink_faults = O.faults sink.old })
         (record { left = S.left source.new; source_faults = S.faults source.new; holds = O.holds sink.new; sink_faults = O.faults sink.new }))
         result }
-    ensures complete { RunsAll words.now
+    ensures complete { RunsAll (λ school status. FoundsAll school
+        (record { files = F.files shelf.old; faults = F.faults shelf.old })
+        (record { files = F.files shelf.new; faults = F.faults shelf.new })
+        (record { holds = O.holds sink.old; faults = O.faults sink.old })
+        (record { holds = O.holds sink.new; faults = O.faults sink.new }) status) words.now
         (record { left = S.left source.old; source_faults = S.faults source.old; holds = O.holds sink.old; sink_faults = O.faults sink.old })
         (record { left = S.left source.new; source_faults = S.faults source.new; holds = O.holds sink.new; sink_faults = O.faults sink.new })
         result }
     ensures doors { length doors.new.items ≡ 16 }
+    ensures none_out { NoneOut (F.files shelf.new) }
 {
-    match command_of(words) {
-        Some(Command::Replay) => replay(alloc, source, sink),
-        Some(Command::Script) => script(alloc, source, sink),
-        Some(Command::GiftCheck) => gift(alloc, false, source, sink),
-        Some(Command::GiftFormat) => gift(alloc, true, source, sink),
-        Some(Command::Bulk { count }) => bulk(alloc, count, sink),
-        Some(Command::Serve { port: _port, links }) => serve(alloc, links as u64, sink, doors),
-        None => show_usage(sink).status(),
+    match built_command(alloc, words) {
+        Ok(Command::Replay) => replay(alloc, source, sink),
+        Ok(Command::GiftCheck) => gift(alloc, false, source, sink),
+        Ok(Command::GiftFormat) => gift(alloc, true, source, sink),
+        Ok(Command::Script { folder: _folder }) => script(alloc, source, sink),
+        Ok(
+            Command::Found {
+                folder,
+                shards,
+                token,
+            },
+        ) => found_folder(alloc, folder.as_bytes(), shards, &token, sink, shelf),
+        Ok(
+            Command::Serve {
+                folder: _folder,
+                port: _port,
+                workers: _workers,
+                regraders: _regraders,
+                links,
+            },
+        ) => serve(alloc, links as u64, sink, doors),
+        Ok(Command::Bulk { count }) => bulk(alloc, count, sink),
+        Err(WordsFault::BadWords) => show_usage(sink).status(),
+        Err(WordsFault::Memory) => Stop::Memory.status(),
     }
 }
 

@@ -2,6 +2,7 @@ ghost use Rattle.std.specs.Prelude.{◌<◌, ◌^◌};
 
 use super::*;
 use crate::script::serve;
+use qz_disks::MemoryShelf;
 use qz_outside::{MemorySink, MemorySource};
 use qz_school::Solo;
 use qz_text::{Bytes, Listed};
@@ -43,7 +44,15 @@ fn scripted(alloc: Global, text: &[u8], outer: Outer) -> Result<(u8, String), No
     let mut source = source_of(alloc, text, outer)?;
     let mut sink = sink_for(alloc, outer)?;
     let mut doors = no_doors(alloc)?;
-    let status = run(alloc, &words, &mut source, &mut sink, &mut doors);
+    let mut shelf = MemoryShelf::new(alloc, Listed::empty(alloc));
+    let status = run(
+        alloc,
+        &words,
+        &mut source,
+        &mut sink,
+        &mut doors,
+        &mut shelf,
+    );
     Ok((status, String::from_utf8_lossy(alloc, sink.bytes())?))
 }
 

@@ -1,36 +1,77 @@
+ghost use Rattle.std.specs.Prelude.{IfOk};
+ghost use Rattle.qz_disks.specs.Slots.{memory_files};
+ghost use Rattle.quizd.specs.Commands.{NoneOut};
+
 use super::*;
+use qz_disks::MemoryShelf;
 use qz_outside::{MemorySink, MemorySource};
 use qz_text::{Bytes, Listed};
 use std::test::Fail;
 
-/// What a word alone shows, with nothing to read: the status and what was written, 9 bytes a call, of which the call with this number
-/// fails (0 for none).
-fn shown(alloc: Global, word: &str, failing: u64) -> Result<(u8, String), NoMemory> {
-    let mut words = Vec::new(alloc);
-    words.push(Text::of(alloc, word)?)?;
-    let unfailing = Listed {
-        items: Vec::new(alloc),
-    };
-    let mut source = MemorySource::new(Bytes::of(alloc, b"")?, unfailing, 1);
+const USAGE: &str =
+    "usage: quizd replay | gift check | gift fmt | script FOLDER | found FOLDER SHARDS TOKEN | serve FOLDER PORT WORKERS REGRADERS LINKS | bulk N\n";
+
+/// What these words show, with nothing to read, over a shelf: the status and what was written, 9 bytes a call, of which the call with this
+/// number fails (0 for none).
+fn shown(
+    alloc: Global,
+    words: &[&str],
+    failing: u64,
+    shelf: &mut MemoryShelf,
+) -> Result<(u8, String), NoMemory>
+    requires { NoneOut (memory_files shelf.old.slots) }
+    ensures { IfOk result (λ _. NoneOut (memory_files shelf.new.slots)) }
+{
+    let mut texts = Vec::new(alloc);
+    for word in words {
+        texts.push(Text::of(alloc, word)?)?;
+    }
+    let mut source = MemorySource::new(Bytes::of(alloc, b"")?, Listed::empty(alloc), 1);
     let failing = Listed {
         items: vec![in alloc; failing; 1]?,
     };
     let mut sink = MemorySink::new(alloc, 1 << 20, failing, 9)?;
     let mut doors = no_doors(alloc)?;
-    let status = run(alloc, &words, &mut source, &mut sink, &mut doors);
+    let status = run(alloc, &texts, &mut source, &mut sink, &mut doors, shelf);
     Ok((status, String::from_utf8_lossy(alloc, sink.bytes())?))
 }
 
 #[test]
 fn other_words_show_the_usage_line(rt: HostRuntime) -> Result<(), Fail> {
     let alloc = rt.alloc();
-    let usage =
-        "usage: quizd replay | gift check | gift fmt | script FOLDER | found FOLDER SHARDS TOKEN | serve FOLDER PORT WORKERS REGRADERS LINKS | bulk N\n";
-    for word in ["", "Replay", "replay ", "--help", "gift", "script"] {
-        let (status, written) = shown(alloc, word, 0)?;
-        assert_eq!(rt; (status, written.as_str()), (2, usage));
+    let rows: [&[&str]; 13] = [
+        &[],
+        &[""],
+        &["Replay"],
+        &["replay "],
+        &["--help"],
+        &["gift"],
+        &["script"],
+        &["script", "folder"],
+        &["found", "school", "0", "root"],
+        &["found", "school", "65", "root"],
+        &["serve", "folder", "8080", "1", "0", "1"],
+        &["serve", "memory", "8080", "2", "0", "1"],
+        &["serve", "memory", "8080", "1", "1", "1"],
+    ];
+    for words in rows {
+        let mut shelf = MemoryShelf::new(alloc, Listed::empty(alloc));
+        let (status, written) = shown(alloc, words, 0, &mut shelf)?;
+        assert_eq!(rt; (status, written.as_str()), (2, USAGE));
     }
-    let (status, written) = shown(alloc, "help", 2)?;
+    let mut shelf = MemoryShelf::new(alloc, Listed::empty(alloc));
+    let (status, written) = shown(alloc, &["help"], 2, &mut shelf)?;
     assert_eq!(rt; (status, written.as_str()), (5, "usage: qu"));
+    Ok(())
+}
+
+#[test]
+fn a_school_is_founded_on_the_shelf(rt: HostRuntime) -> Result<(), Fail> {
+    let alloc = rt.alloc();
+    let mut shelf = MemoryShelf::new(alloc, Listed::empty(alloc));
+    let (status, written) = shown(alloc, &["found", "school", "2", "root"], 0, &mut shelf)?;
+    assert_eq!(rt; (status, written.as_str()), (0, "founded 2\n"));
+    let (status, written) = shown(alloc, &["found", "school", "3", "root"], 0, &mut shelf)?;
+    assert_eq!(rt; (status, written.as_str()), (7, "founded already\n"));
     Ok(())
 }

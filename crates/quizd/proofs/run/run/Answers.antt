@@ -1,30 +1,51 @@
--- Other words show the usage line.
-use Rattle.std.proofs.Common.{rules, ◌≡◌, None, Some, refl, sym, ◌∙◌}
+-- Each command ends as its part of the definition says.
+use Rattle.std.proofs.Common.{rules, ◌≡◌, None, Some, inl, inr, refl}
 use Rattle.std.proofs.KnownBytes.{Keeps-refl}
-use Rattle.quizd.specs.declared.command.Command.TheVariants as command
-use Rattle.quizd.specs.Commands.{command_of}
+use Rattle.qz_command.specs.declared.command.Command.TheVariants as command
+use Rattle.qz_ending.specs.declared.stop.Stop.TheVariants as stop
+use Rattle.quizd.specs.Commands.{built_command}
 use Rattle.quizd.proofs.ServingLemmas.{serving_ends}
 use Rattle.quizd.proofs.run.run.Goals as goal
 
-pub returns-in-None-clause-ended : goal.returns-in-None-clause-ended
-returns-in-None-clause-ended g c =
-    let other : command_of c.args.words.now ≡ None = sym c.command_of.ensures.value ∙ c.in-None.is in
-    record { stop = Some c.show_usage.result; status_is = c.status.ensures; cause = rw other (record { unread = Keeps-refl _; written = c.show_usage.ensures }, refl) }
+pub returns-in-Ok-Found-clause-ended : goal.returns-in-Ok-Found-clause-ended
+returns-in-Ok-Found-clause-ended g c =
+    let is : built_command c.args.words.now ≡ Some (command.Found c.in-Ok-Found.folder c.in-Ok-Found.shards c.in-Ok-Found.token) = search rules in
+    let e = rw c.as_bytes.ensures at c.found_folder.ensures.ended in
+    record { stop = e.stop; status_is = e.status_is; cause = inl (rw is (Keeps-refl _, refl, e.cause)) }
 
-pub returns-in-Some-Bulk-clause-ended : goal.returns-in-Some-Bulk-clause-ended
-returns-in-Some-Bulk-clause-ended g c =
-    let is : command_of c.args.words.now ≡ Some (command.Bulk c.in-Some-Bulk.count) = search rules in
+pub returns-in-Ok-Bulk-clause-ended : goal.returns-in-Ok-Bulk-clause-ended
+returns-in-Ok-Bulk-clause-ended g c =
+    let is : built_command c.args.words.now ≡ Some (command.Bulk c.in-Ok-Bulk.count) = search rules in
     let e = c.bulk.ensures.ended in
-    record { stop = e.stop; status_is = e.status_is; cause = rw is ((Keeps-refl _, e.cause), refl) }
+    record { stop = e.stop; status_is = e.status_is; cause = inl (rw is ((Keeps-refl _, e.cause), refl)) }
 
-pub returns-in-Some-Serve-clause-ended : goal.returns-in-Some-Serve-clause-ended
-returns-in-Some-Serve-clause-ended g c =
-    let is : command_of c.args.words.now ≡ Some (command.Serve c.in-Some-Serve._port c.in-Some-Serve.links) = search rules in
+pub returns-in-Ok-Bulk-clause-complete : goal.returns-in-Ok-Bulk-clause-complete
+returns-in-Ok-Bulk-clause-complete g c =
+    let is : built_command c.args.words.now ≡ Some (command.Bulk c.in-Ok-Bulk.count) = search rules in
+    rw is c.bulk.ensures.complete
+
+pub returns-in-Ok-Serve-clause-ended : goal.returns-in-Ok-Serve-clause-ended
+returns-in-Ok-Serve-clause-ended g c =
+    let s = c.in-Ok-Serve in
+    let is : built_command c.args.words.now ≡ Some (command.Serve s._folder s._port s._workers s._regraders s.links) = search rules in
     let e = c.serve.ensures.ended in
-    record { stop = e.stop; status_is = e.status_is; cause = rw is (Keeps-refl _, e.cause) }
+    record { stop = e.stop; status_is = e.status_is; cause = inl (rw is (Keeps-refl _, refl, e.cause)) }
 
-pub returns-in-Some-Serve-clause-complete : goal.returns-in-Some-Serve-clause-complete
-returns-in-Some-Serve-clause-complete g c =
-    let is : command_of c.args.words.now ≡ Some (command.Serve c.in-Some-Serve._port c.in-Some-Serve.links) = search rules in
+pub returns-in-Ok-Serve-clause-complete : goal.returns-in-Ok-Serve-clause-complete
+returns-in-Ok-Serve-clause-complete g c =
+    let s = c.in-Ok-Serve in
+    let is : built_command c.args.words.now ≡ Some (command.Serve s._folder s._port s._workers s._regraders s.links) = search rules in
     let e = c.serve.ensures.ended in
     rw is (λ quiet. rw e.status_is (serving_ends _ _ _ _ _ _ _ e.stop e.cause quiet))
+
+pub returns-in-Err-BadWords-clause-ended : goal.returns-in-Err-BadWords-clause-ended
+returns-in-Err-BadWords-clause-ended g c =
+    let other : built_command c.args.words.now ≡ None = search rules in
+    record { stop = Some c.show_usage.result; status_is = c.status.ensures; cause = inl (rw other (record { unread = Keeps-refl _; written = c.show_usage.ensures }, refl)) }
+
+pub returns-in-Err-Memory-clause-ended : goal.returns-in-Err-Memory-clause-ended
+returns-in-Err-Memory-clause-ended g c = record {
+  stop = Some stop.Memory;
+  status_is = c.status-in-Err-Memory.ensures;
+  cause = inr (record { memory = refl; stays = refl; unread = Keeps-refl _; unwritten = Keeps-refl _ });
+}
