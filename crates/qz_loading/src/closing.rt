@@ -29,7 +29,8 @@ pub(crate) fn give_back_catalog<F: Shelf>(
     ensures faults { RisesBy (F.Disk.faults catalog.keeper.disk)
         (F.faults shelf.old) (F.faults shelf.new) }
     ensures stays_sound { F.Disk.sound catalog.keeper.disk → F.Disk.faults catalog.keeper.disk ≡ 0
-        → StaysSound (F.sound shelf.old) (F.sound shelf.new) (F.faults shelf.old) (F.faults shelf.new) ⊥ }
+        → StaysSound (F.sound shelf.old) (F.sound shelf.new)
+        (F.faults shelf.old) (F.faults shelf.new) ⊥ }
 {
     give_back(shelf, folder, catalog_name(), catalog.into_keeper());
 }
@@ -41,11 +42,13 @@ fn give_back_part<F: Shelf>(shelf: &mut F, folder: &[u8], index: u8, shard: Shar
     ensures here { (F.files shelf.new).is_out (part_place folder.now index) ≡ false }
     ensures back { IsBack shard.keeper shard.held
         ((F.files shelf.new).file (part_place folder.now index)) }
-    ensures others { ChangesAt (part_place folder.now index) (F.files shelf.old) (F.files shelf.new) }
+    ensures others { ChangesAt (part_place folder.now index)
+        (F.files shelf.old) (F.files shelf.new) }
     ensures faults { RisesBy (F.Disk.faults shard.keeper.disk)
         (F.faults shelf.old) (F.faults shelf.new) }
     ensures stays_sound { F.Disk.sound shard.keeper.disk → F.Disk.faults shard.keeper.disk ≡ 0
-        → StaysSound (F.sound shelf.old) (F.sound shelf.new) (F.faults shelf.old) (F.faults shelf.new) ⊥ }
+        → StaysSound (F.sound shelf.old) (F.sound shelf.new)
+        (F.faults shelf.old) (F.faults shelf.new) ⊥ }
 {
     let name = part_name(index);
     give_back(shelf, folder, &name, shard.into_keeper());
@@ -66,7 +69,8 @@ pub(crate) fn give_back_parts<F: Shelf>(
     ensures faults { RisesBy (sum_by (λ s. F.Disk.faults s.keeper.disk) shards.items)
         (F.faults shelf.old) (F.faults shelf.new) }
     ensures stays_sound { AreSound F.Disk.sound F.Disk.faults shards.items
-        → StaysSound (F.sound shelf.old) (F.sound shelf.new) (F.faults shelf.old) (F.faults shelf.new) ⊥ }
+        → StaysSound (F.sound shelf.old) (F.sound shelf.new)
+        (F.faults shelf.old) (F.faults shelf.new) ⊥ }
 {
     let mut rest = shards;
     while let Some(shard) = rest.pop() {
@@ -92,7 +96,8 @@ pub fn close<F: Shelf>(shelf: &mut F, folder: &[u8], loaded: Loaded<F::Disk>)
     ensures stays_sound { F.Disk.sound loaded.catalog.keeper.disk
         → F.Disk.faults loaded.catalog.keeper.disk ≡ 0
         → AreSound F.Disk.sound F.Disk.faults loaded.shards.items
-        → StaysSound (F.sound shelf.old) (F.sound shelf.new) (F.faults shelf.old) (F.faults shelf.new) ⊥ }
+        → StaysSound (F.sound shelf.old) (F.sound shelf.new)
+        (F.faults shelf.old) (F.faults shelf.new) ⊥ }
 {
     let Loaded { catalog, shards } = loaded;
     give_back_catalog(shelf, folder, catalog);

@@ -147,7 +147,8 @@ pub fn open_part<F: Shelf>(
     ensures back { OnErr result ((F.files shelf.new).is_out (part_place folder.now index) ≡ false) }
     ensures stays { OnErr result (StaysLike ((F.files shelf.old).file (part_place folder.now index))
         ((F.files shelf.new).file (part_place folder.now index))) }
-    ensures others { ChangesAt (part_place folder.now index) (F.files shelf.old) (F.files shelf.new) }
+    ensures others { ChangesAt (part_place folder.now index)
+        (F.files shelf.old) (F.files shelf.new) }
     ensures why { IfErr result
         (IsPartFault ((F.files shelf.old).file (part_place folder.now index)) index count) }
     ensures cause { IsCaused Fault (F.faults shelf.old) (F.faults shelf.new) result }

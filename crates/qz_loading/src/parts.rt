@@ -73,8 +73,8 @@ pub(crate) fn open_parts<F: Shelf>(
         (F.files shelf.old) (F.files shelf.new)) }
     ensures why { IfErr result (IsPartsFault folder.now (F.files shelf.old) count) }
     ensures cause { IsCaused Fault (F.faults shelf.old) (F.faults shelf.new) result }
-    ensures sound { IfOk result (λ shards. F.sound shelf.old → AreSoundOut F.Disk.sound F.Disk.faults
-        folder.now (F.files shelf.old) shards.items) }
+    ensures sound { IfOk result (λ shards. F.sound shelf.old
+        → AreSoundOut F.Disk.sound F.Disk.faults folder.now (F.files shelf.old) shards.items) }
     ensures stays_sound { StaysSound (F.sound shelf.old) (F.sound shelf.new)
         (F.faults shelf.old) (F.faults shelf.new) (IsErrOf result Fault) }
 {
