@@ -34,6 +34,9 @@ fn pass<D: Desk, C: Clock>(alloc: Global, desk: &mut D, clock: &mut C) -> Met
 
 /// Makes passes until `stop` is set, then one more, and tells what that last one came to.
 ///
+/// The desk takes whatever a worker may ask, at each moment that is allowed, and tells workers what they need; others may ask it in between.
+/// Each request is asked at the moment that the clock tells, or at 4,102,444,799 where it tells a later one.
+///
 /// A pass works on each job of the catalogue in each shard, step by step, until the job is done there; it settles the attempts that haven't
 /// ended, where their time is over; then it asks how many jobs there are, and goes on with those that came meanwhile. Where a keeper of the
 /// lists fails or memory is wanting, it goes on with the next shard, after a settling with the next attempt, and after the question how

@@ -22,7 +22,8 @@ fn sweep_shard<D: Desk, C: Clock>(
 ) -> bool
     requires takes { TakesWork D.takes }
     requires serves { ServesWorkers D.lists D.faults D.answers }
-    ensures { Meets (D.lists desk.old) (D.lists desk.new) (D.faults desk.old) (D.faults desk.new) met.old met.new }
+    ensures { Meets (D.lists desk.old) (D.lists desk.new)
+        (D.faults desk.old) (D.faults desk.new) met.old met.new }
 {
     let mut attempt = AttemptId { user: 0, nth: 0 };
     for _ in 0..u64::MAX {
@@ -46,7 +47,8 @@ fn sweep_shard<D: Desk, C: Clock>(
 pub fn sweep<D: Desk, C: Clock>(alloc: Global, desk: &mut D, clock: &mut C, met: &mut Met)
     requires takes { TakesWork D.takes }
     requires serves { ServesWorkers D.lists D.faults D.answers }
-    ensures { Meets (D.lists desk.old) (D.lists desk.new) (D.faults desk.old) (D.faults desk.new) met.old met.new }
+    ensures { Meets (D.lists desk.old) (D.lists desk.new)
+        (D.faults desk.old) (D.faults desk.new) met.old met.new }
 {
     for shard in 0..SHARDS {
         if !sweep_shard(alloc, desk, clock, met, shard) {

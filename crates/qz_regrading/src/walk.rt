@@ -44,7 +44,8 @@ fn work_jobs<D: Desk, C: Clock>(
     ensures keeps { KeepsParts (D.lists desk.old) (D.lists desk.new) }
     ensures later { D.faults desk.old ≤ D.faults desk.new }
     ensures done { AreDone (D.lists desk.new) shard from result.next }
-    ensures refused { IsRefused (D.lists desk.new) (D.faults desk.old) (D.faults desk.new) shard result.why }
+    ensures refused { IsRefused (D.lists desk.new)
+        (D.faults desk.old) (D.faults desk.new) shard result.why }
 {
     for job in from..u32::MAX {
         if let Err(why) = work(alloc, desk, clock, job, shard) {
@@ -69,7 +70,8 @@ pub fn walk<D: Desk, C: Clock>(
 ) -> u32
     requires takes { TakesWork D.takes }
     requires serves { ServesWorkers D.lists D.faults D.answers }
-    ensures meets { Meets (D.lists desk.old) (D.lists desk.new) (D.faults desk.old) (D.faults desk.new) met.old met.new }
+    ensures meets { Meets (D.lists desk.old) (D.lists desk.new)
+        (D.faults desk.old) (D.faults desk.new) met.old met.new }
     ensures done { IsClean met.new → AreDoneInAll (D.lists desk.new) from result }
 {
     let mut next = u32::MAX;

@@ -55,7 +55,8 @@ pub fn work<D: Desk, C: Clock>(
     requires serves { ServesWorkers D.lists D.faults D.answers }
     ensures keeps { KeepsParts (D.lists desk.old) (D.lists desk.new) }
     ensures later { D.faults desk.old ≤ D.faults desk.new }
-    ensures ends { MatchResult result (λ _. is_done (part_list (D.lists desk.new) shard) job ≡ true)
+    ensures ends { MatchResult result
+        (λ _. is_done (part_list (D.lists desk.new) shard) job ≡ true)
         (IsRefused (D.lists desk.new) (D.faults desk.old) (D.faults desk.new) shard) }
 {
     for _ in 0..u64::MAX {
@@ -83,7 +84,8 @@ pub fn live_after<D: Desk, C: Clock>(
     requires serves { ServesWorkers D.lists D.faults D.answers }
     ensures keeps { KeepsParts (D.lists desk.old) (D.lists desk.new) }
     ensures later { D.faults desk.old ≤ D.faults desk.new }
-    ensures refused { MatchResult result (λ _. Unit {0}) (λ why. CountsFault (D.faults desk.old) (D.faults desk.new) (reply.Refused why)) }
+    ensures refused { MatchResult result (λ _. Unit {0})
+        (λ why. CountsFault (D.faults desk.old) (D.faults desk.new) (reply.Refused why)) }
 {
     match ask(alloc, desk, clock, Request::Live { shard, attempt }) {
         Reply::Ok {
@@ -105,7 +107,8 @@ pub fn settle<D: Desk, C: Clock>(
 )
     requires takes { TakesWork D.takes }
     requires serves { ServesWorkers D.lists D.faults D.answers }
-    ensures { Meets (D.lists desk.old) (D.lists desk.new) (D.faults desk.old) (D.faults desk.new) met.old met.new }
+    ensures { Meets (D.lists desk.old) (D.lists desk.new)
+        (D.faults desk.old) (D.faults desk.new) met.old met.new }
 {
     let reply = ask(alloc, desk, clock, Request::Settle { attempt });
     if let Reply::Refused(why) = &reply {
@@ -122,8 +125,10 @@ pub fn count_jobs<D: Desk, C: Clock>(
 ) -> Option<u32>
     requires takes { TakesWork D.takes }
     requires serves { ServesWorkers D.lists D.faults D.answers }
-    ensures meets { Meets (D.lists desk.old) (D.lists desk.new) (D.faults desk.old) (D.faults desk.new) met.old met.new }
-    ensures counted { MatchOption result (IsClean met.new → ⊥) (λ count. count ≡ length (jobs (D.lists desk.new).records.list)) }
+    ensures meets { Meets (D.lists desk.old) (D.lists desk.new)
+        (D.faults desk.old) (D.faults desk.new) met.old met.new }
+    ensures counted { MatchOption result (IsClean met.new → ⊥)
+        (λ count. count ≡ length (jobs (D.lists desk.new).records.list)) }
 {
     match ask(alloc, desk, clock, Request::Jobs) {
         Reply::Ok {
