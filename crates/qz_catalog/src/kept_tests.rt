@@ -1,3 +1,5 @@
+ghost use Rattle.std.specs.Prelude.{◌≡◌, IfOk, None};
+
 use super::*;
 use qz_disks::{KeepErr, Keeper};
 use qz_grading::{Refusal, Thing};
@@ -65,7 +67,9 @@ fn founding(alloc: Global) -> Result<Bytes, NoMemory> {
 }
 
 /// A keeper of that record alone.
-fn keeper(alloc: Global, first: &Bytes, keeps: bool) -> Result<FailsOnce, NoMemory> {
+fn keeper(alloc: Global, first: &Bytes, keeps: bool) -> Result<FailsOnce, NoMemory>
+    ensures { IfOk result (λ made. made.doubt ≡ None) }
+{
     let mut payloads = Listed::empty(alloc);
     payloads.items.push(first.try_copy(alloc)?)?;
     Ok(FailsOnce {

@@ -41,6 +41,17 @@ none_left_out folder count old mid new out here changes back keeps = record { ea
     each_name : (name : List ℕ) → new.is_out (place folder name) ≡ false
     each_name name = ⊎_elim (λ found. ap new.is_out found.2 ∙ back.each found.0 found.1) (no_part name) (find_part folder count (place folder name))
 
+-- the catalogue's file was out alone, and is back
+pub none_out_again : (folder : List ℕ) (count : ℕ) (old mid left new : Files) → NoneOutIn folder old → ChangesAt (catalog_place folder) old mid → PartsStay folder count mid left → new.is_out (catalog_place folder) ≡ false → ChangesAt (catalog_place folder) left new → NoneOutIn folder new
+none_out_again folder count old mid left new free changes stay here again = record { each = each_name }
+  where
+    each_name : (name : List ℕ) → new.is_out (place folder name) ≡ false
+    each_name name =
+        ⊎_elim
+        (λ same. ap new.is_out same ∙ here)
+        (λ other. again.is_out (place folder name) other ∙ (stay.is_out (place folder name) ∙ (changes.is_out (place folder name) other ∙ free.each name)))
+        (is_place (place folder name) (catalog_place folder))
+
 -- ---- shards that were opened, and given back since one wasn't
 
 pub part_stays : {D : Type 0} (moment : D → ℕ) (left_at : D → ℕ → List ℕ → Type 0) (folder : List ℕ) (old new : Files) (count : ℕ) (parts : List (part.Keeping (Ledger D))) → ArePartsOf moment left_at folder old count parts → PartsAreBack folder parts new

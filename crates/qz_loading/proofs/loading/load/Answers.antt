@@ -1,6 +1,6 @@
 use Rattle.qz_disks.specs.Shelves.{place}
 use Rattle.qz_folders.specs.Names.{catalog_name}
-use Rattle.qz_loading.proofs.Returning.{catalog_stays, elsewhere_same, others_kept, out_now, out_same, stay_closed, stay_unopened}
+use Rattle.qz_loading.proofs.Returning.{catalog_stays, elsewhere_same, none_out_again, others_kept, out_now, out_same, stay_closed, stay_unopened}
 use Rattle.qz_loading.proofs.Listing.{beside_catalog, catalog_in, disagreement_fault, is_loaded, lists_in, parts_fault, parts_legal, parts_of_like}
 use Rattle.qz_loading.proofs.Results.{by_err, by_ok, on_err, risen_within, told_as}
 use Rattle.qz_loading.specs.Places.{catalog_place}
@@ -103,3 +103,8 @@ returns-in-Err-clause-cause g c = record {
   later = omega (arith, c.open_catalog.ensures.cause.later, c.open_parts.ensures.cause.later, c.give_back_catalog.ensures.faults.later);
   failed = λ is. risen_within _ _ _ _ c.open_catalog.ensures.cause.later (c.open_parts.ensures.cause.failed (told_as c.open_parts.result c.in-Err.fault Fault c.in-Err.is is)) c.give_back_catalog.ensures.faults.later;
 }
+
+pub returns-in-Err-clause-none_out : goal.returns-in-Err-clause-none_out
+returns-in-Err-clause-none_out g c =
+    none_out_again c.args.folder.now c.shard_count.result (g.F.Shelf.files c.args.shelf.now) (g.F.Shelf.files c.open_catalog.new.shelf) (g.F.Shelf.files c.open_parts.new.shelf) (g.F.Shelf.files c.give_back_catalog.new.shelf)
+    c.requires c.open_catalog.ensures.others c.in-Err.ensures.stay c.give_back_catalog.ensures.here c.give_back_catalog.ensures.others
