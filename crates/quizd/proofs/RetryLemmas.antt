@@ -9,7 +9,8 @@ use Rattle.qz_terms.specs.declared.reply.Reply.TheVariants as reply
 use Rattle.qz_terms.specs.Serial.{Asking, Goes, Line, Lists, Serial, Unread, ended, next}
 use Rattle.quizd.specs.ScriptLines.{line_item}
 use Rattle.qz_wire.specs.Replies.{reply_line}
-use Rattle.qz_school.specs.Asked.{IsSaidAgain, StandsIn, is_keep_fault}
+use Rattle.qz_school.specs.Asked.{IsSaidAgain}
+use Rattle.qz_serial.specs.Standing.{StandsIn, is_keep_fault}
 use Rattle.quizd.specs.Retries.{ActOnce, AllStand, GoesOnce, IsAccepted}
 use Rattle.quizd.specs.Scripts.{Answered}
 

@@ -5,7 +5,8 @@ use Rattle.qz_terms.specs.declared.reply.Done.{Done}
 use Rattle.qz_terms.specs.declared.reply.Reply.{Reply}
 use Rattle.qz_terms.specs.declared.reply.Reply.TheVariants as reply
 use Rattle.qz_terms.specs.Serial.{Asking, Goes, Line, Lists, Unread}
-use Rattle.qz_school.specs.Asked.{IsAskedOnce, IsSaidAgain, StandsIn}
+use Rattle.qz_school.specs.Asked.{IsAskedOnce, IsSaidAgain}
+use Rattle.qz_serial.specs.Standing.{StandsIn}
 use Rattle.qz_wire.specs.Asking.{CanBeAsked}
 
 -- whatever a line can ask may be asked

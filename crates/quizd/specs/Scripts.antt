@@ -14,7 +14,7 @@ use Rattle.qz_ending.specs.Endings.{Outside}
 use Rattle.quizd.specs.Inputs.{fed_parts}
 use Rattle.qz_wire.specs.Lines.{lines_of}
 use Rattle.qz_wire.specs.Replies.{reply_line}
-use Rattle.qz_school.specs.Asked.{is_keep_fault}
+use Rattle.qz_serial.specs.Standing.{is_keep_fault}
 use Rattle.quizd.specs.Retries.{ActOnce, AllStand, GoesOnce}
 
 -- so many bytes a script has at most

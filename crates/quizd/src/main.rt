@@ -157,11 +157,12 @@ fn main(rt: HostRuntime) -> ExitCode {
     let Ok(words) = arguments(&rt) else {
         return ExitCode::from(Stop::Memory.status());
     };
-    let status = match built_command(rt.alloc(), &words) {
-        Ok(Command::Serve { port, .. }) => run_at_port(rt, &words, port),
+    let command = built_command(rt.alloc(), &words);
+    let status = match &command {
+        Ok(Command::Serve { port, .. }) => run_at_port(rt, &words, *port),
         Ok(Command::Found { folder, .. }) => {
             let status = run_alone(rt, &words);
-            tell_folder(&rt, &folder, status);
+            tell_folder(&rt, folder, status);
             status
         }
         Ok(
@@ -174,5 +175,6 @@ fn main(rt: HostRuntime) -> ExitCode {
         | Err(WordsFault::BadWords) => run_alone(rt, &words),
         Err(WordsFault::Memory) => Stop::Memory.status(),
     };
+    drop(command);
     ExitCode::from(status)
 }
