@@ -4,6 +4,7 @@ pub mod RetryLemmas
 pub mod ScriptLemmas
 pub mod SoloLemmas
 pub mod SeenLemmas
+pub mod FollowLemmas
 pub mod BulkLemmas
 pub mod GiftLemmas
 pub mod ServingLemmas

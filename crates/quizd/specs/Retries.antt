@@ -10,7 +10,7 @@ use Rattle.qz_serial.specs.Once.{AskedOnce, IsSaidAgain}
 use Rattle.qz_serial.specs.Standing.{StandsIn}
 use Rattle.qz_wire.specs.Asking.{CanBeAsked}
 
--- whatever a line can ask may be asked
+-- whatever a line or a link can ask may be asked
 pub record TakesLines (takes : ℕ → Ask → Type 0) : Type 0 where
   pub taken : (now : ℕ) (ask : Ask) → CanBeAsked ask now → takes now ask
 
@@ -28,6 +28,11 @@ pub record IsServedOnce (a b : Seen) (now : ℕ) (ask : Ask) (r : Reply) : Type 
 pub record AnswersOnce {D : Type 0} (lists : D → Lists) (faults : D → ℕ) (answers : D → D → ℕ → Ask → Reply → Type 0) : Type 0 where
   pub once : (a b : D) (now : ℕ) (ask : Ask) (r : Reply) → answers a b now ask r → AskedOnce (HasRisen (faults a) (faults b)) (lists a) (lists b) now ask r
   pub later : (a b : D) (now : ℕ) (ask : Ask) (r : Reply) → answers a b now ask r → faults a ≤ faults b
+
+-- requests, one after the other, lead from one desk to another
+pub data Follows {D : Type 0} (answers : D → D → ℕ → Ask → Reply → Type 0) : D → D → Type 0 where
+  stays : (a : D) → Follows answers a a
+  asked : (a b c : D) (now : ℕ) (ask : Ask) (r : Reply) → Follows answers a b → answers b c now ask r → Follows answers a c
 
 -- so a line is answered
 abbrev pub GoesOnce : Seen → Seen → Line → Reply → Type 0

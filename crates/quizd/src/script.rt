@@ -4,7 +4,7 @@ ghost use Rattle.std.specs.Prelude.{◌≡◌, ◌<◌, ◌^◌, length, MatchRe
 ghost use Rattle.quizd.specs.ScriptLines.{kept_item};
 ghost use Rattle.qz_ending.specs.Endings.{Ended};
 ghost use Rattle.quizd.specs.Solo.{first_lists};
-ghost use Rattle.quizd.specs.Retries.{AnswersOnce, GoesOnce, TakesLines};
+ghost use Rattle.quizd.specs.Retries.{AnswersOnce, Follows, GoesOnce, TakesLines};
 ghost use Rattle.quizd.specs.Scripts.{AnswersLine, AnswerStops, Says, SayStops, ScriptEnds, ServeEnds, ServesAll, script_limit};
 
 use crate::script_input::{Given, ScriptInput};
@@ -49,7 +49,7 @@ pub fn script<S: Source, O: Sink>(alloc: Global, source: &mut S, sink: &mut O) -
 /// Answers the lines of a source over a desk, each before the next is read, and answers the exit status.
 ///
 /// The desk takes whatever a line can ask, and what was accepted with its key is told again. Where a keeper of its lists fails the reply
-/// says so, the desk's count of faults rises, and the next line is answered.
+/// says so, the desk's count of faults rises, and the next line is answered. Nothing but requests changes the desk.
 /// With the statuses 4 (the source failed) and 9 (the source has more than `limit` bytes) the whole lines among what was read within the
 /// limit are answered, and with 5 (the sink failed) and 8 (memory was wanting) the first of them, and a front of the replies is written.
 pub fn serve<D: Desk, S: Source, O: Sink>(
@@ -69,6 +69,7 @@ pub fn serve<D: Desk, S: Source, O: Sink>(
         (record { left = S.left source.old; source_faults = S.faults source.old; holds = O.holds sink.old; sink_faults = O.faults sink.old })
         (record { left = S.left source.new; source_faults = S.faults source.new; holds = O.holds sink.new; sink_faults = O.faults sink.new }))
         result }
+    ensures follows { Follows D.answers desk.old desk.new }
     ensures complete { ServesAll limit
         (record { left = S.left source.old; source_faults = S.faults source.old; holds = O.holds sink.old; sink_faults = O.faults sink.old })
         (record { left = S.left source.new; source_faults = S.faults source.new; holds = O.holds sink.new; sink_faults = O.faults sink.new })
@@ -90,12 +91,13 @@ fn serve_or_stop<D: Desk, S: Source, O: Sink>(
     requires limit { limit < 2 ^ 32 }
     requires takes { TakesLines D.takes }
     requires answers { AnswersOnce D.lists D.faults D.answers }
-    ensures { let ends = ServeEnds limit
+    ensures ended { let ends = ServeEnds limit
         (record { lists = D.lists desk.old; faults = D.faults desk.old })
         (record { lists = D.lists desk.new; faults = D.faults desk.new })
         (record { left = S.left source.old; source_faults = S.faults source.old; holds = O.holds sink.old; sink_faults = O.faults sink.old })
         (record { left = S.left source.new; source_faults = S.faults source.new; holds = O.holds sink.new; sink_faults = O.faults sink.new })
         in MatchResult result (λ _. ends None) (λ stop. ends (Some stop)) }
+    ensures follows { Follows D.answers desk.old desk.new }
 {
     let Ok(mut room) = vec![in alloc; 0u8; CHUNK] else {
         return Err(Stop::Memory);
@@ -116,12 +118,13 @@ fn serve_through<D: Desk, S: Source, O: Sink>(
     requires takes { TakesLines D.takes }
     requires answers { AnswersOnce D.lists D.faults D.answers }
     requires room { 0 < length room.old }
-    ensures { let ends = ServeEnds limit
+    ensures ended { let ends = ServeEnds limit
         (record { lists = D.lists desk.old; faults = D.faults desk.old })
         (record { lists = D.lists desk.new; faults = D.faults desk.new })
         (record { left = S.left source.old; source_faults = S.faults source.old; holds = O.holds sink.old; sink_faults = O.faults sink.old })
         (record { left = S.left source.new; source_faults = S.faults source.new; holds = O.holds sink.new; sink_faults = O.faults sink.new })
         in MatchResult result (λ _. ends None) (λ stop. ends (Some stop)) }
+    ensures follows { Follows D.answers desk.old desk.new }
 {
     let mut input = ScriptInput::new(alloc, limit);
     loop {
@@ -142,7 +145,7 @@ fn answer<D: Desk, O: Sink>(
 ) -> Result<(), Stop>
     requires takes { TakesLines D.takes }
     requires answers { AnswersOnce D.lists D.faults D.answers }
-    ensures { MatchResult result
+    ensures answered { MatchResult result
         (λ _. AnswersLine
         (record { lists = D.lists desk.old; faults = D.faults desk.old })
         (record { lists = D.lists desk.new; faults = D.faults desk.new })
@@ -151,6 +154,7 @@ fn answer<D: Desk, O: Sink>(
         (record { lists = D.lists desk.old; faults = D.faults desk.old })
         (record { lists = D.lists desk.new; faults = D.faults desk.new })
         (O.holds sink.old) (O.holds sink.new) (O.faults sink.old) (O.faults sink.new) line.now) }
+    ensures follows { Follows D.answers desk.old desk.new }
 {
     match reply_to(alloc, desk, line) {
         Ok(reply) => say(alloc, sink, &reply),
@@ -162,12 +166,13 @@ fn answer<D: Desk, O: Sink>(
 fn reply_to<D: Desk>(alloc: Global, desk: &mut D, line: &ScriptLine) -> Result<Reply, NoMemory>
     requires takes { TakesLines D.takes }
     requires answers { AnswersOnce D.lists D.faults D.answers }
-    ensures { MatchResult result
+    ensures goes { MatchResult result
         (GoesOnce
         (record { lists = D.lists desk.old; faults = D.faults desk.old })
         (record { lists = D.lists desk.new; faults = D.faults desk.new })
         (kept_item line.now))
         (λ _. desk.new ≡ desk.old) }
+    ensures follows { Follows D.answers desk.old desk.new }
 {
     match line.item(alloc) {
         Ok((moment, ask)) => Ok(desk.ask(alloc, &ask, moment)),

@@ -4,7 +4,7 @@ ghost use Rattle.std.specs.Prelude.{◌≡◌, ◌<◌, ◌++◌, ◌∷◌, len
 ghost use Rattle.qz_ending.specs.Endings.{Ended};
 ghost use Rattle.qz_doors.specs.Answers.{Asks};
 ghost use Rattle.qz_doors.specs.Doors.{ServesDoor};
-ghost use Rattle.quizd.specs.Retries.{AnswersOnce, IsServedOnce, TakesLines};
+ghost use Rattle.quizd.specs.Retries.{AnswersOnce, Follows, IsServedOnce, TakesLines};
 ghost use Rattle.quizd.specs.Serving.{DoorsEnd, SaysServed, ServedDoor, ServesFirst, served_line};
 
 use qz_doors::{DoorEnd, serve_door};
@@ -48,7 +48,7 @@ pub fn serve<O: Sink, R: Door, C: Clock>(
 /// taken, and answers the exit status.
 ///
 /// The desk takes whatever a link can ask, and what was accepted with its key is told again. Where a keeper of its lists fails the reply
-/// says so, the desk's count of faults rises, and the next request is answered.
+/// says so, the desk's count of faults rises, and the next request is answered. Nothing but requests changes the desk.
 /// Status 10: the door failed. Status 8: memory was wanting for the line, or for a link, which has ended then. The other doors stay as they are.
 pub fn serve_links<D: Desk, O: Sink, R: Door, C: Clock>(
     alloc: Global,
@@ -72,6 +72,7 @@ pub fn serve_links<D: Desk, O: Sink, R: Door, C: Clock>(
         (record { lists = D.lists desk.new; faults = D.faults desk.new })
         (O.holds sink.old) (O.holds sink.new) (O.faults sink.old) (O.faults sink.new))
         result }
+    ensures follows { Follows D.answers desk.old desk.new }
     ensures doors { length doors.new.items ≡ length doors.old.items }
 {
     let end = serve_first(alloc, links, desk, doors);
@@ -90,7 +91,7 @@ fn serve_at<D: Desk, R: Door, C: Clock>(
 ) -> DoorEnd
     requires takes { TakesLines D.takes }
     requires answers { AnswersOnce D.lists D.faults D.answers }
-    ensures { ServesDoor (Asks C.tells IsServedOnce)
+    ensures serves { ServesDoor (Asks C.tells IsServedOnce)
         (λ link. record { left = R.Link.left link; holds = R.Link.holds link; faults = R.Link.faults link })
         links
         (record { left = R.left at.old.0; returned = R.returned at.old.0; returns = R.returns at.old.0; out = R.out at.old.0; faults = R.faults at.old.0 })
@@ -98,6 +99,7 @@ fn serve_at<D: Desk, R: Door, C: Clock>(
         (record { desk = record { lists = D.lists desk.old; faults = D.faults desk.old }; clock = at.old.1 })
         (record { desk = record { lists = D.lists desk.new; faults = D.faults desk.new }; clock = at.new.1 })
         result }
+    ensures follows { Follows D.answers desk.old desk.new }
 {
     serve_door(alloc, desk, &mut at.0, &mut at.1, links)
 }
@@ -112,7 +114,7 @@ fn serve_first<D: Desk, R: Door, C: Clock>(
     requires some_door { 0 < length doors.old.items }
     requires takes { TakesLines D.takes }
     requires answers { AnswersOnce D.lists D.faults D.answers }
-    ensures { ServesFirst (λ door served a b end. ServesDoor (Asks C.tells IsServedOnce)
+    ensures serves { ServesFirst (λ door served a b end. ServesDoor (Asks C.tells IsServedOnce)
         (λ link. record { left = R.Link.left link; holds = R.Link.holds link; faults = R.Link.faults link })
         links
         (record { left = R.left door; returned = R.returned door; returns = R.returns door; out = R.out door; faults = R.faults door })
@@ -122,6 +124,7 @@ fn serve_first<D: Desk, R: Door, C: Clock>(
         (record { lists = D.lists desk.old; faults = D.faults desk.old })
         (record { lists = D.lists desk.new; faults = D.faults desk.new })
         result }
+    ensures follows { Follows D.answers desk.old desk.new }
 {
     serve_at(alloc, links, desk, &mut doors[0])
 }
