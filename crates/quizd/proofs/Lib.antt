@@ -2,6 +2,9 @@ pub mod KeptLemmas
 pub mod InputLemmas
 pub mod RetryLemmas
 pub mod ScriptLemmas
+pub mod SoloLemmas
+pub mod SeenLemmas
+pub mod FollowLemmas
 pub mod BulkLemmas
 pub mod GiftLemmas
 pub mod ServingLemmas

@@ -7,7 +7,6 @@ use Rattle.std.proofs.lemmas.List.{take_at}
 use Rattle.qz_outside.specs.Causes.{HasRisen}
 use Rattle.qz_outside.specs.Sources.{AppendsFront}
 use Rattle.qz_terms.specs.declared.reply.Reply.{Reply}
-use Rattle.qz_terms.specs.Serial.{Lists}
 use Rattle.quizd.specs.declared.script_input.Given.TheVariants as given
 use Rattle.quizd.specs.declared.script_line.ScriptLine.{ScriptLine}
 use Rattle.qz_ending.specs.declared.stop.Stop.{Stop}
@@ -17,7 +16,7 @@ use Rattle.qz_ending.specs.Endings.{Outside, status_of}
 use Rattle.quizd.specs.Inputs.{Buffer, GivesNext, NextStops, fed_parts}
 use Rattle.qz_wire.specs.Lines.{lines_of}
 use Rattle.qz_wire.specs.Replies.{reply_line}
-use Rattle.quizd.specs.Retries.{GoesOnce}
+use Rattle.quizd.specs.Retries.{GoesOnce, Seen}
 use Rattle.quizd.specs.Scripts.{AnswersLine, AnswerStops, Answered, AreFirst, LeavesLine, Says, SayStops, ScriptCut, ScriptDone, ServeEnds, ServesAll, but_last, ended_lines}
 use Rattle.quizd.proofs.RetryLemmas.{nothing_answered, one_more_answered}
 use Rattle.qz_wire.proofs.PartLemmas.{glued, glued-more, parts-append, some_part}
@@ -33,7 +32,7 @@ all_written : (old new : Option (List ℕ)) (bytes : List ℕ) → Appends old n
 all_written old new bytes written = record { front = bytes; rest = []; split = sym (append-nil bytes); appends = written }
 
 -- what comes of saying the reply to a line comes of the line
-pub answers : {E : Type 0} (a b : Lists) (old new : Option (List ℕ)) (before now : ℕ) (line : ScriptLine) (r : Reply) (result : Result E Stop) → GoesOnce a b (kept_item line) r
+pub answers : {E : Type 0} (a b : Seen) (old new : Option (List ℕ)) (before now : ℕ) (line : ScriptLine) (r : Reply) (result : Result E Stop) → GoesOnce a b (kept_item line) r
     → MatchResult result (λ x. Says old new before now r) (SayStops old new before now r)
     → MatchResult result (λ x. AnswersLine a b old new before now line) (AnswerStops a b old new before now line)
 answers a b old new before now line r (Ok x) goes says = record { reply = r; goes = goes; says = says }
@@ -109,7 +108,7 @@ parts-more bytes held more lines parts =
 -- ---- a script that goes on
 
 -- these bytes were read, and these of their lines answered; what is held is behind them
-pub record IsServed (a b : Lists) (left rest holds written : Option (List ℕ)) (before now early late : ℕ) (buffer : Buffer) (limit : ℕ) : Type 0 where
+pub record IsServed (a b : Seen) (left rest holds written : Option (List ℕ)) (before now early late : ℕ) (buffer : Buffer) (limit : ℕ) : Type 0 where
   pub bytes : List ℕ
   pub lines : List (List ℕ)
   pub output : List ℕ
@@ -123,7 +122,7 @@ pub record IsServed (a b : Lists) (left rest holds written : Option (List ℕ)) 
   pub read_later : before ≤ now
   pub written_later : early ≤ late
 
-pub serves_none : (a : Lists) (left holds : Option (List ℕ)) (before early : ℕ) (buffer : Buffer) (limit : ℕ) → buffer ≡ record { held = []; read = 0; limit = limit } → IsServed a a left left holds holds before before early early buffer limit
+pub serves_none : (a : Seen) (left holds : Option (List ℕ)) (before early : ℕ) (buffer : Buffer) (limit : ℕ) → buffer ≡ record { held = []; read = 0; limit = limit } → IsServed a a left left holds holds before before early early buffer limit
 serves_none a left holds before early buffer limit fresh = rw fresh (record {
   bytes = [];
   lines = [];
@@ -140,7 +139,7 @@ serves_none a left holds before early buffer limit fresh = rw fresh (record {
 })
 
 -- a line was given, and answered
-pub serves_line : (a b c : Lists) (left between rest holds written wrote : Option (List ℕ)) (before during now early mid late : ℕ) (old new : Buffer) (limit : ℕ) (line : ScriptLine) → IsServed a b left between holds written before during early mid old limit
+pub serves_line : (a b c : Seen) (left between rest holds written wrote : Option (List ℕ)) (before during now early mid late : ℕ) (old new : Buffer) (limit : ℕ) (line : ScriptLine) → IsServed a b left between holds written before during early mid old limit
     → GivesNext old new between rest during now (given.Line line) → AnswersLine b c written wrote mid late line → IsServed a c left rest holds wrote before now early late new limit
 serves_line a b c left between rest holds written wrote before during now early mid late old new limit line s n o = record {
   bytes = s.bytes ++ n.bytes;
@@ -161,15 +160,14 @@ abbrev pub outside : Option (List ℕ) → ℕ → Option (List ℕ) → ℕ →
 outside left before holds early = record { left = left; source_faults = before; holds = holds; sink_faults = early }
 
 -- nothing is left
-pub ends_done : (a b : Lists) (left between rest holds written : Option (List ℕ)) (before during now early late : ℕ) (old new : Buffer) (limit : ℕ) → IsServed a b left between holds written before during early late old limit
-    → GivesNext old new between rest during now given.End → ScriptDone limit a (outside left before holds early) (outside rest now written late)
+pub ends_done : (a b : Seen) (left between rest holds written : Option (List ℕ)) (before during now early late : ℕ) (old new : Buffer) (limit : ℕ) → IsServed a b left between holds written before during early late old limit
+    → GivesNext old new between rest during now given.End → ScriptDone limit a b (outside left before holds early) (outside rest now written late)
 ends_done a b left between rest holds written before during now early late old new limit s n =
     let parts : fed_parts (s.bytes ++ n.bytes) ≡ s.lines ++ [] ∷ [] = parts-more s.bytes old.held n.bytes s.lines s.parts ∙ ap (λ (l : List ℕ). s.lines ++ fed_parts l) n.gives.0 in
     let lines : lines_of (s.bytes ++ n.bytes) ≡ s.lines = lines_of-unended (s.bytes ++ n.bytes) [] s.lines parts ∙ append-nil s.lines in
     record {
       bytes = s.bytes ++ n.bytes;
       output = s.output;
-      after = b;
       taken = Consumes-trans left between rest s.bytes n.bytes s.taken n.reads.taken;
       at_end = n.gives.1;
       within = omega (arith, n.reads.count, s.count, length-append s.bytes n.bytes, n.reads.within, n.reads.limit, s.limit_is);
@@ -178,8 +176,8 @@ ends_done a b left between rest holds written before during now early late old n
     }
 
 -- no more could be read
-pub ends_reading : (a b : Lists) (left between rest holds written : Option (List ℕ)) (before during now early late : ℕ) (old : Buffer) (limit : ℕ) (s : Stop) → IsServed a b left between holds written before during early late old limit
-    → NextStops old between rest during now s → ServeEnds limit a (outside left before holds early) (outside rest now written late) (Some s)
+pub ends_reading : (a b : Seen) (left between rest holds written : Option (List ℕ)) (before during now early late : ℕ) (old : Buffer) (limit : ℕ) (s : Stop) → IsServed a b left between holds written before during early late old limit
+    → NextStops old between rest during now s → ServeEnds limit a b (outside left before holds early) (outside rest now written late) (Some s)
 ends_reading a b left between rest holds written before during now early late old limit stop.BadWords s n = absurd n
 ends_reading a b left between rest holds written before during now early late old limit stop.ShelfFault s n = absurd n
 ends_reading a b left between rest holds written before during now early late old limit stop.Refused s n = absurd n
@@ -192,7 +190,6 @@ ends_reading a b left between rest holds written before during now early late ol
     record {
       bytes = s.bytes ++ n.bytes;
       output = s.output;
-      after = b;
       taken = Consumes-trans left between rest s.bytes n.bytes s.taken n.taken;
       within = omega (arith, n.within, s.count, length-append s.bytes n.bytes, s.limit_is);
       risen = λ below. omega (arith, s.read_later, n.risen below);
@@ -208,7 +205,6 @@ ends_reading a b left between rest holds written before during now early late ol
     record {
       bytes = s.bytes ++ (n.bytes ++ n.past.more);
       output = s.output;
-      after = b;
       taken = Consumes-trans left between rest s.bytes (n.bytes ++ n.past.more) s.taken n.past.taken;
       past = omega (arith, full, ap length whole, length-append (s.bytes ++ n.bytes) n.past.more, n.past.one);
       answered = subst (λ (l : List (List ℕ)). Answered a b l s.output) (sym lines) s.answered;
@@ -220,7 +216,6 @@ ends_reading a b left between rest holds written before during now early late ol
       bytes = s.bytes ++ n.bytes;
       lines = s.lines;
       output = s.output;
-      after = b;
       taken = Consumes-trans left between rest s.bytes n.bytes s.taken n.taken;
       within = omega (arith, n.within, s.count, length-append s.bytes n.bytes, s.limit_is);
       first = are_first (s.bytes ++ n.bytes) rest s.lines some.0 some.1 (parts-more s.bytes old.held n.bytes s.lines s.parts ∙ ap (λ (l : List (List ℕ)). s.lines ++ l) some.2);
@@ -240,28 +235,26 @@ more_written holds written wrote output more before f = record {
 }
 
 -- the lines before it are answered
-unanswered_line : (a b : Lists) (left rest holds written wrote : Option (List ℕ)) (before now early late limit : ℕ) (bytes output : List ℕ) (lines : List (List ℕ)) → Consumes left rest bytes → length bytes ≤ limit → Answered a b lines output → Appends holds written output
-    → AreFirst lines bytes rest → Keeps written wrote → ScriptCut limit a (outside left before holds early) (outside rest now wrote late)
-unanswered_line a b left rest holds written wrote before now early late limit bytes output lines taken within answered appends first kept = record {
+unanswered_line : (a b c : Seen) (left rest holds written wrote : Option (List ℕ)) (before now early late limit : ℕ) (bytes output : List ℕ) (lines : List (List ℕ)) → Consumes left rest bytes → length bytes ≤ limit → Answered a b lines output → Appends holds written output
+    → AreFirst lines bytes rest → c ≡ b → Keeps written wrote → ScriptCut limit a c (outside left before holds early) (outside rest now wrote late)
+unanswered_line a b c left rest holds written wrote before now early late limit bytes output lines taken within answered appends first same kept = record {
   bytes = bytes;
   lines = lines;
   output = output;
-  after = b;
   taken = taken;
   within = omega (arith, within);
   first = first;
-  answered = answered;
+  answered = subst (λ (s : Seen). Answered a s lines output) (sym same) answered;
   written = all_written holds wrote output (Appends-kept holds written wrote output appends kept);
 }
 
 -- it is answered, and its reply isn't written whole
-left_line : (a b c : Lists) (left rest holds written wrote : Option (List ℕ)) (before now early late limit : ℕ) (bytes output front : List ℕ) (lines : List (List ℕ)) (line : ScriptLine) → Consumes left rest bytes → length bytes ≤ limit → Answered a b lines output → Appends holds written output
-    → AreFirst (lines ++ front ∷ []) bytes rest → line ≡ kept front → LeavesLine b c written wrote line → ScriptCut limit a (outside left before holds early) (outside rest now wrote late)
+left_line : (a b c : Seen) (left rest holds written wrote : Option (List ℕ)) (before now early late limit : ℕ) (bytes output front : List ℕ) (lines : List (List ℕ)) (line : ScriptLine) → Consumes left rest bytes → length bytes ≤ limit → Answered a b lines output → Appends holds written output
+    → AreFirst (lines ++ front ∷ []) bytes rest → line ≡ kept front → LeavesLine b c written wrote line → ScriptCut limit a c (outside left before holds early) (outside rest now wrote late)
 left_line a b c left rest holds written wrote before now early late limit bytes output front lines line taken within answered appends first line_is o = record {
   bytes = bytes;
   lines = lines ++ front ∷ [];
   output = output ++ reply_line o.reply;
-  after = c;
   taken = taken;
   within = omega (arith, within);
   first = first;
@@ -270,8 +263,8 @@ left_line a b c left rest holds written wrote before now early late limit bytes 
 }
 
 -- so a script ends that stops at a line
-stops_line : (a b c : Lists) (left rest holds written wrote : Option (List ℕ)) (before now early mid late limit : ℕ) (bytes output front : List ℕ) (lines : List (List ℕ)) (line : ScriptLine) (s : Stop) → Consumes left rest bytes → length bytes ≤ limit → Answered a b lines output → Appends holds written output
-    → early ≤ mid → AreFirst lines bytes rest → AreFirst (lines ++ front ∷ []) bytes rest → line ≡ kept front → AnswerStops b c written wrote mid late line s → ServeEnds limit a (outside left before holds early) (outside rest now wrote late) (Some s)
+stops_line : (a b c : Seen) (left rest holds written wrote : Option (List ℕ)) (before now early mid late limit : ℕ) (bytes output front : List ℕ) (lines : List (List ℕ)) (line : ScriptLine) (s : Stop) → Consumes left rest bytes → length bytes ≤ limit → Answered a b lines output → Appends holds written output
+    → early ≤ mid → AreFirst lines bytes rest → AreFirst (lines ++ front ∷ []) bytes rest → line ≡ kept front → AnswerStops b c written wrote mid late line s → ServeEnds limit a c (outside left before holds early) (outside rest now wrote late) (Some s)
 stops_line a b c left rest holds written wrote before now early mid late limit bytes output front lines line stop.BadWords taken within answered appends later without with_it line_is o = absurd o
 stops_line a b c left rest holds written wrote before now early mid late limit bytes output front lines line stop.ShelfFault taken within answered appends later without with_it line_is o = absurd o
 stops_line a b c left rest holds written wrote before now early mid late limit bytes output front lines line stop.Refused taken within answered appends later without with_it line_is o = absurd o
@@ -283,13 +276,13 @@ stops_line a b c left rest holds written wrote before now early mid late limit b
 stops_line a b c left rest holds written wrote before now early mid late limit bytes output front lines line stop.SinkFault taken within answered appends later without with_it line_is o =
     (left_line a b c left rest holds written wrote before now early late limit bytes output front lines line taken within answered appends with_it line_is o.0, λ below. omega (arith, later, o.1 below))
 stops_line a b c left rest holds written wrote before now early mid late limit bytes output front lines line stop.Memory taken within answered appends later without with_it line_is (inl k) =
-    unanswered_line a b left rest holds written wrote before now early late limit bytes output lines taken within answered appends without k.1
+    unanswered_line a b c left rest holds written wrote before now early late limit bytes output lines taken within answered appends without k.0 k.1
 stops_line a b c left rest holds written wrote before now early mid late limit bytes output front lines line stop.Memory taken within answered appends later without with_it line_is (inr o) =
     left_line a b c left rest holds written wrote before now early late limit bytes output front lines line taken within answered appends with_it line_is o
 
 -- it stopped at a line that a line feed ends
-pub ends_at_line : (a b c : Lists) (left between rest holds written wrote : Option (List ℕ)) (before during now early mid late : ℕ) (old new : Buffer) (limit : ℕ) (line : ScriptLine) (s : Stop) → IsServed a b left between holds written before during early mid old limit
-    → GivesNext old new between rest during now (given.Line line) → AnswerStops b c written wrote mid late line s → ServeEnds limit a (outside left before holds early) (outside rest now wrote late) (Some s)
+pub ends_at_line : (a b c : Seen) (left between rest holds written wrote : Option (List ℕ)) (before during now early mid late : ℕ) (old new : Buffer) (limit : ℕ) (line : ScriptLine) (s : Stop) → IsServed a b left between holds written before during early mid old limit
+    → GivesNext old new between rest during now (given.Line line) → AnswerStops b c written wrote mid late line s → ServeEnds limit a c (outside left before holds early) (outside rest now wrote late) (Some s)
 ends_at_line a b c left between rest holds written wrote before during now early mid late old new limit line s v n o =
     let some = some_part 10 new.held in
     let parts : fed_parts (v.bytes ++ n.bytes) ≡ v.lines ++ n.gives.front ∷ fed_parts new.held = parts-more v.bytes old.held n.bytes v.lines v.parts ∙ ap (λ (l : List (List ℕ)). v.lines ++ l) n.gives.parts in
@@ -298,9 +291,9 @@ ends_at_line a b c left between rest holds written wrote before during now early
     (are_first (v.bytes ++ n.bytes) rest v.lines n.gives.front (fed_parts new.held) parts) (are_first (v.bytes ++ n.bytes) rest (v.lines ++ n.gives.front ∷ []) some.0 some.1 behind) n.gives.line_is o
 
 -- the last line, which the end of the source ends
-pub ends_at_last : {E : Type 0} (a b c : Lists) (left between rest holds written wrote : Option (List ℕ)) (before during now early mid late : ℕ) (old new : Buffer) (limit : ℕ) (line : ScriptLine) (result : Result E Stop) → IsServed a b left between holds written before during early mid old limit
+pub ends_at_last : {E : Type 0} (a b c : Seen) (left between rest holds written wrote : Option (List ℕ)) (before during now early mid late : ℕ) (old new : Buffer) (limit : ℕ) (line : ScriptLine) (result : Result E Stop) → IsServed a b left between holds written before during early mid old limit
     → GivesNext old new between rest during now (given.Last line) → MatchResult result (λ x. AnswersLine b c written wrote mid late line) (AnswerStops b c written wrote mid late line)
-    → MatchResult result (λ x. ServeEnds limit a (outside left before holds early) (outside rest now wrote late) None) (λ s. ServeEnds limit a (outside left before holds early) (outside rest now wrote late) (Some s))
+    → MatchResult result (λ x. ServeEnds limit a c (outside left before holds early) (outside rest now wrote late) None) (λ s. ServeEnds limit a c (outside left before holds early) (outside rest now wrote late) (Some s))
 ends_at_last a b c left between rest holds written wrote before during now early mid late old new limit line (Ok x) v n o =
     let text = old.held ++ n.bytes in
     let parts : fed_parts (v.bytes ++ n.bytes) ≡ v.lines ++ text ∷ [] = parts-more v.bytes old.held n.bytes v.lines v.parts ∙ ap (λ (l : List (List ℕ)). v.lines ++ l) n.gives.unfed in
@@ -309,7 +302,6 @@ ends_at_last a b c left between rest holds written wrote before during now early
     record {
       bytes = v.bytes ++ n.bytes;
       output = v.output ++ reply_line o.reply;
-      after = c;
       taken = Consumes-trans left between rest v.bytes n.bytes v.taken n.reads.taken;
       at_end = n.gives.at_end;
       within = omega (arith, n.reads.count, v.count, length-append v.bytes n.bytes, n.reads.within, n.reads.limit, v.limit_is);
@@ -329,30 +321,29 @@ inside_limit : (text bytes : List ℕ) (rest : Option (List ℕ)) (limit : ℕ) 
 inside_limit text bytes None limit taken past within = taken
 inside_limit text bytes (Some left) limit taken past within = omega (arith, ap length taken, length-append bytes left)
 
-serves_within : (limit : ℕ) (a : Lists) (old new : Outside) (s : Option Stop) (text : List ℕ) → ServeEnds limit a old new s → old.left ≡ Some text → length text ≤ limit
+serves_within : (limit : ℕ) (a b : Seen) (old new : Outside) (s : Option Stop) (text : List ℕ) → ServeEnds limit a b old new s → old.left ≡ Some text → length text ≤ limit
     → ¬ HasRisen old.source_faults new.source_faults → ¬ HasRisen old.sink_faults new.sink_faults → (status_of s ≡ 0) ⊎ (status_of s ≡ 8)
-serves_within limit a old new None text e is within source sink = inl refl
-serves_within limit a old new (Some stop.BadWords) text e is within source sink = absurd e
-serves_within limit a old new (Some stop.ShelfFault) text e is within source sink = absurd e
-serves_within limit a old new (Some stop.Refused) text e is within source sink = absurd e
-serves_within limit a old new (Some stop.DoorFault) text e is within source sink = absurd e
-serves_within limit a old new (Some (stop.Unreadable n rule)) text e is within source sink = absurd e
-serves_within limit a old new (Some (stop.Malformed n)) text e is within source sink = absurd e
-serves_within limit a old new (Some stop.SourceFault) text e is within source sink = absurd (source e.risen)
-serves_within limit a old new (Some stop.SinkFault) text e is within source sink = absurd (sink e.1)
-serves_within limit a old new (Some stop.Memory) text e is within source sink = inr refl
-serves_within limit a old new (Some stop.TooLong) text e is within source sink = absurd (inside_limit text e.bytes new.left limit (subst (λ (l : Option (List ℕ)). Consumes l new.left e.bytes) is e.taken) (omega (arith, e.past)) within)
+serves_within limit a b old new None text e is within source sink = inl refl
+serves_within limit a b old new (Some stop.BadWords) text e is within source sink = absurd e
+serves_within limit a b old new (Some stop.ShelfFault) text e is within source sink = absurd e
+serves_within limit a b old new (Some stop.Refused) text e is within source sink = absurd e
+serves_within limit a b old new (Some stop.DoorFault) text e is within source sink = absurd e
+serves_within limit a b old new (Some (stop.Unreadable n rule)) text e is within source sink = absurd e
+serves_within limit a b old new (Some (stop.Malformed n)) text e is within source sink = absurd e
+serves_within limit a b old new (Some stop.SourceFault) text e is within source sink = absurd (source e.risen)
+serves_within limit a b old new (Some stop.SinkFault) text e is within source sink = absurd (sink e.1)
+serves_within limit a b old new (Some stop.Memory) text e is within source sink = inr refl
+serves_within limit a b old new (Some stop.TooLong) text e is within source sink = absurd (inside_limit text e.bytes new.left limit (subst (λ (l : Option (List ℕ)). Consumes l new.left e.bytes) is e.taken) (omega (arith, e.past)) within)
 
-pub serves_all : (limit : ℕ) (a : Lists) (old new : Outside) (s : Option Stop) → ServeEnds limit a old new s → ServesAll limit old new (status_of s)
-serves_all limit a old new s e = record { done = λ text is within source sink. serves_within limit a old new s text e is within source sink }
+pub serves_all : (limit : ℕ) (a b : Seen) (old new : Outside) (s : Option Stop) → ServeEnds limit a b old new s → ServesAll limit old new (status_of s)
+serves_all limit a b old new s e = record { done = λ text is within source sink. serves_within limit a b old new s text e is within source sink }
 
 -- nothing was read, and nothing written
-pub none_served : (limit : ℕ) (a : Lists) (left : Option (List ℕ)) (before : ℕ) (holds : Option (List ℕ)) (early : ℕ) → ScriptCut limit a (outside left before holds early) (outside left before holds early)
+pub none_served : (limit : ℕ) (a : Seen) (left : Option (List ℕ)) (before : ℕ) (holds : Option (List ℕ)) (early : ℕ) → ScriptCut limit a a (outside left before holds early) (outside left before holds early)
 none_served limit a left before holds early = record {
   bytes = [];
   lines = [];
   output = [];
-  after = a;
   taken = Consumes-nil left;
   within = omega arith;
   first = inl ([], refl);

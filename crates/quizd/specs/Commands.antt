@@ -15,7 +15,7 @@ use Rattle.quizd.specs.Solo.{first_lists}
 use Rattle.qz_replay.specs.ReplayEndings.{ReplayEnds, ReplaysAll}
 use Rattle.qz_disks.specs.Shelves.{Files, Place}
 use Rattle.qz_found.specs.FoundEndings.{School}
-use Rattle.quizd.specs.Scripts.{ServeEnds, ServesAll, script_limit}
+use Rattle.quizd.specs.Scripts.{ScriptEnds, ServesAll, script_limit}
 use Rattle.quizd.specs.GiftEndings.{GiftEnds, GiftsAll}
 
 -- So far a script is answered and links are served over a school in memory alone, by one worker and without a regrader.
@@ -69,7 +69,7 @@ CommandEnds None old new s = UsageEnds old new s
 CommandEnds (Some command.Replay) old new s = ReplayEnds old new s
 CommandEnds (Some command.GiftCheck) old new s = GiftEnds false old new s
 CommandEnds (Some command.GiftFormat) old new s = GiftEnds true old new s
-CommandEnds (Some (command.Script folder)) old new s = ServeEnds script_limit first_lists old new s
+CommandEnds (Some (command.Script folder)) old new s = ScriptEnds script_limit first_lists old new s
 CommandEnds (Some (command.Found folder shards token)) old new s = ⊥
 CommandEnds (Some (command.Serve folder port workers regraders links)) old new s = ⊥
 CommandEnds (Some (command.Bulk count)) old new s = Keeps old.left new.left × BulkEnds count old.holds new.holds old.sink_faults new.sink_faults s

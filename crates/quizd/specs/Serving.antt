@@ -1,4 +1,4 @@
--- How serving a door over a school in memory ends.
+-- How serving a door over a desk ends.
 use Rattle.std.specs.Prelude.{◌≡◌, ◌⊎◌, ℕ, ◌<◌, true, false, List, ◌++◌, Option, Some, None, codes, decimal, slice_get, slice_set}
 use Rattle.std.specs.Io.KnownBytes.{Appends, Keeps}
 use Rattle.qz_outside.specs.Causes.{HasRisen}
@@ -9,22 +9,22 @@ use Rattle.qz_doors.specs.Answers.{Answerer}
 use Rattle.qz_ending.specs.declared.stop.Stop.{Stop}
 use Rattle.qz_ending.specs.declared.stop.Stop.TheVariants as stop
 use Rattle.qz_wire.specs.Lines.{newline}
-use Rattle.quizd.specs.Solo.{first_lists}
+use Rattle.quizd.specs.Retries.{Seen}
+use Rattle.quizd.specs.Solo.{first_lists, in_memory}
 
--- what serving a door means: the door, then what answers, before and after, and how it ended
+-- what serving a door means: the door, then what answers, of which its desk is seen, before and after, and how it ended
 abbrev pub Serving : Type 0 → Type 0 → Type 1
-Serving D C = D → D → Answerer Lists C → Answerer Lists C → DoorEnd → Type 0
+Serving D C = D → D → Answerer Seen C → Answerer Seen C → DoorEnd → Type 0
 
--- the first door and its clock, over a school just founded; no other door changes
-pub record ServesFirst {D C : Type 0} (serves : Serving D C) (old new : List (D × C)) (end : DoorEnd) : Type 0 where
+-- The first door is served by its clock, over a desk of which a is seen before and b afterwards. No other door changes.
+pub record ServesFirst {D C : Type 0} (serves : Serving D C) (old new : List (D × C)) (a b : Seen) (end : DoorEnd) : Type 0 where
   pub door : D
   pub served : D
   pub clock : C
   pub told : C
-  pub lists : Lists
   pub before : slice_get old 0 ≡ Some (door, clock)
   pub after : new ≡ slice_set old 0 (served, told)
-  pub going : serves door served (record { desk = first_lists; clock = clock }) (record { desk = lists; clock = told }) end
+  pub going : serves door served (record { desk = a; clock = clock }) (record { desk = b; clock = told }) end
 
 -- so many links were taken
 abbrev pub served_line : ℕ → List ℕ
@@ -38,16 +38,23 @@ SaysServed old new before now end (Some stop.DoorFault) = Appends old new (serve
 SaysServed old new before now end (Some stop.Memory) = Keeps old new ⊎ (Appends old new (served_line end.taken) × (end.fault ≡ false) × (0 < end.short))
 SaysServed old new before now end (Some s) = ⊥
 
-pub record ServedDoor {D C : Type 0} (serves : Serving D C) (doors after : List (D × C)) (old new : Option (List ℕ)) (before now : ℕ) (s : Option Stop) : Type 0 where
+-- the first door was served over a desk, and this was said of it
+pub record ServedDoor {D C : Type 0} (serves : Serving D C) (doors after : List (D × C)) (a b : Seen) (old new : Option (List ℕ)) (before now : ℕ) (s : Option Stop) : Type 0 where
   pub end : DoorEnd
-  pub first : ServesFirst serves doors after end
+  pub first : ServesFirst serves doors after a b end
   pub says : SaysServed old new before now end s
+
+-- it was served over a school in memory that was just founded
+pub record ServedFounded {D C : Type 0} (serves : Serving D C) (doors after : List (D × C)) (old new : Option (List ℕ)) (before now : ℕ) (s : Option Stop) : Type 0 where
+  pub lists : Lists
+  pub served : ServedDoor serves doors after (in_memory first_lists) (in_memory lists) old new before now s
 
 -- memory was wanting for the school: no link was taken, and nothing written
 pub record NotServed {D C : Type 0} (doors after : List (D × C)) (old new : Option (List ℕ)) : Type 0 where
   pub doors_stay : after ≡ doors
   pub unwritten : Keeps old new
 
+-- so serving ends over such a school
 abbrev pub DoorsEnd : {D C : Type 0} → Serving D C → List (D × C) → List (D × C) → Option (List ℕ) → Option (List ℕ) → ℕ → ℕ → Option Stop → Type 0
-DoorsEnd serves doors after old new before now (Some stop.Memory) = ServedDoor serves doors after old new before now (Some stop.Memory) ⊎ NotServed doors after old new
-DoorsEnd serves doors after old new before now s = ServedDoor serves doors after old new before now s
+DoorsEnd serves doors after old new before now (Some stop.Memory) = ServedFounded serves doors after old new before now (Some stop.Memory) ⊎ NotServed doors after old new
+DoorsEnd serves doors after old new before now s = ServedFounded serves doors after old new before now s

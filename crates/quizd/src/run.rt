@@ -6,7 +6,7 @@ ghost use Rattle.qz_doors.specs.Answers.{Asks};
 ghost use Rattle.qz_doors.specs.Doors.{ServesDoor};
 ghost use Rattle.qz_ending.specs.Endings.{Ended};
 ghost use Rattle.qz_found.specs.FoundEndings.{FoundEnds, FoundsAll};
-ghost use Rattle.qz_school.specs.Asked.{IsAskedOnce};
+ghost use Rattle.quizd.specs.Retries.{IsServedOnce};
 ghost use Rattle.quizd.specs.Serving.{DoorsEnd};
 
 use crate::built::built_command;
@@ -49,7 +49,7 @@ pub fn run<S: Source, O: Sink, R: Door, C: Clock, F: Shelf>(
         (record { files = F.files shelf.new; faults = F.faults shelf.new })
         (record { holds = O.holds sink.old; faults = O.faults sink.old })
         (record { holds = O.holds sink.new; faults = O.faults sink.new }))
-        (λ links. DoorsEnd (λ door served a b end. ServesDoor (Asks C.tells IsAskedOnce)
+        (λ links. DoorsEnd (λ door served a b end. ServesDoor (Asks C.tells IsServedOnce)
         (λ link. record { left = R.Link.left link; holds = R.Link.holds link; faults = R.Link.faults link })
         links
         (record { left = R.left door; returned = R.returned door; returns = R.returns door; out = R.out door; faults = R.faults door })

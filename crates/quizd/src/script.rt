@@ -4,8 +4,8 @@ ghost use Rattle.std.specs.Prelude.{◌≡◌, ◌<◌, ◌^◌, length, MatchRe
 ghost use Rattle.quizd.specs.ScriptLines.{kept_item};
 ghost use Rattle.qz_ending.specs.Endings.{Ended};
 ghost use Rattle.quizd.specs.Solo.{first_lists};
-ghost use Rattle.quizd.specs.Retries.{AnswersOnce, GoesOnce, TakesLines};
-ghost use Rattle.quizd.specs.Scripts.{AnswersLine, AnswerStops, Says, SayStops, ServeEnds, ServesAll, script_limit};
+ghost use Rattle.quizd.specs.Retries.{AnswersOnce, Follows, GoesOnce, TakesLines};
+ghost use Rattle.quizd.specs.Scripts.{AnswersLine, AnswerStops, Says, SayStops, ScriptEnds, ServeEnds, ServesAll, script_limit};
 
 use crate::script_input::{Given, ScriptInput};
 use crate::script_line::ScriptLine;
@@ -31,7 +31,7 @@ const LIMIT: usize = 1_073_741_824;
 /// source. With status 9 the source has more than 1,073,741,824 bytes.
 pub fn script<S: Source, O: Sink>(alloc: Global, source: &mut S, sink: &mut O) -> u8
     ensures ended { Ended
-        (ServeEnds script_limit first_lists
+        (ScriptEnds script_limit first_lists
         (record { left = S.left source.old; source_faults = S.faults source.old; holds = O.holds sink.old; sink_faults = O.faults sink.old })
         (record { left = S.left source.new; source_faults = S.faults source.new; holds = O.holds sink.new; sink_faults = O.faults sink.new }))
         result }
@@ -48,7 +48,8 @@ pub fn script<S: Source, O: Sink>(alloc: Global, source: &mut S, sink: &mut O) -
 
 /// Answers the lines of a source over a desk, each before the next is read, and answers the exit status.
 ///
-/// The desk takes whatever a line can ask, no keeper of its lists fails, and what was accepted with its key is told again.
+/// The desk takes whatever a line can ask, and what was accepted with its key is told again. Where a keeper of its lists fails the reply
+/// says so, the desk's count of faults rises, and the next line is answered. Nothing but requests changes the desk.
 /// With the statuses 4 (the source failed) and 9 (the source has more than `limit` bytes) the whole lines among what was read within the
 /// limit are answered, and with 5 (the sink failed) and 8 (memory was wanting) the first of them, and a front of the replies is written.
 pub fn serve<D: Desk, S: Source, O: Sink>(
@@ -60,12 +61,15 @@ pub fn serve<D: Desk, S: Source, O: Sink>(
 ) -> u8
     requires limit { limit < 2 ^ 32 }
     requires takes { TakesLines D.takes }
-    requires answers { AnswersOnce D.lists D.answers }
+    requires answers { AnswersOnce D.lists D.faults D.answers }
     ensures ended { Ended
-        (ServeEnds limit (D.lists desk.old)
+        (ServeEnds limit
+        (record { lists = D.lists desk.old; faults = D.faults desk.old })
+        (record { lists = D.lists desk.new; faults = D.faults desk.new })
         (record { left = S.left source.old; source_faults = S.faults source.old; holds = O.holds sink.old; sink_faults = O.faults sink.old })
         (record { left = S.left source.new; source_faults = S.faults source.new; holds = O.holds sink.new; sink_faults = O.faults sink.new }))
         result }
+    ensures follows { Follows D.answers desk.old desk.new }
     ensures complete { ServesAll limit
         (record { left = S.left source.old; source_faults = S.faults source.old; holds = O.holds sink.old; sink_faults = O.faults sink.old })
         (record { left = S.left source.new; source_faults = S.faults source.new; holds = O.holds sink.new; sink_faults = O.faults sink.new })
@@ -86,11 +90,14 @@ fn serve_or_stop<D: Desk, S: Source, O: Sink>(
 ) -> Result<(), Stop>
     requires limit { limit < 2 ^ 32 }
     requires takes { TakesLines D.takes }
-    requires answers { AnswersOnce D.lists D.answers }
-    ensures { let ends = ServeEnds limit (D.lists desk.old)
+    requires answers { AnswersOnce D.lists D.faults D.answers }
+    ensures ended { let ends = ServeEnds limit
+        (record { lists = D.lists desk.old; faults = D.faults desk.old })
+        (record { lists = D.lists desk.new; faults = D.faults desk.new })
         (record { left = S.left source.old; source_faults = S.faults source.old; holds = O.holds sink.old; sink_faults = O.faults sink.old })
         (record { left = S.left source.new; source_faults = S.faults source.new; holds = O.holds sink.new; sink_faults = O.faults sink.new })
         in MatchResult result (λ _. ends None) (λ stop. ends (Some stop)) }
+    ensures follows { Follows D.answers desk.old desk.new }
 {
     let Ok(mut room) = vec![in alloc; 0u8; CHUNK] else {
         return Err(Stop::Memory);
@@ -109,12 +116,15 @@ fn serve_through<D: Desk, S: Source, O: Sink>(
 ) -> Result<(), Stop>
     requires limit { limit < 2 ^ 32 }
     requires takes { TakesLines D.takes }
-    requires answers { AnswersOnce D.lists D.answers }
+    requires answers { AnswersOnce D.lists D.faults D.answers }
     requires room { 0 < length room.old }
-    ensures { let ends = ServeEnds limit (D.lists desk.old)
+    ensures ended { let ends = ServeEnds limit
+        (record { lists = D.lists desk.old; faults = D.faults desk.old })
+        (record { lists = D.lists desk.new; faults = D.faults desk.new })
         (record { left = S.left source.old; source_faults = S.faults source.old; holds = O.holds sink.old; sink_faults = O.faults sink.old })
         (record { left = S.left source.new; source_faults = S.faults source.new; holds = O.holds sink.new; sink_faults = O.faults sink.new })
         in MatchResult result (λ _. ends None) (λ stop. ends (Some stop)) }
+    ensures follows { Follows D.answers desk.old desk.new }
 {
     let mut input = ScriptInput::new(alloc, limit);
     loop {
@@ -134,10 +144,17 @@ fn answer<D: Desk, O: Sink>(
     line: &ScriptLine,
 ) -> Result<(), Stop>
     requires takes { TakesLines D.takes }
-    requires answers { AnswersOnce D.lists D.answers }
-    ensures { MatchResult result
-        (λ _. AnswersLine (D.lists desk.old) (D.lists desk.new) (O.holds sink.old) (O.holds sink.new) (O.faults sink.old) (O.faults sink.new) line.now)
-        (AnswerStops (D.lists desk.old) (D.lists desk.new) (O.holds sink.old) (O.holds sink.new) (O.faults sink.old) (O.faults sink.new) line.now) }
+    requires answers { AnswersOnce D.lists D.faults D.answers }
+    ensures answered { MatchResult result
+        (λ _. AnswersLine
+        (record { lists = D.lists desk.old; faults = D.faults desk.old })
+        (record { lists = D.lists desk.new; faults = D.faults desk.new })
+        (O.holds sink.old) (O.holds sink.new) (O.faults sink.old) (O.faults sink.new) line.now)
+        (AnswerStops
+        (record { lists = D.lists desk.old; faults = D.faults desk.old })
+        (record { lists = D.lists desk.new; faults = D.faults desk.new })
+        (O.holds sink.old) (O.holds sink.new) (O.faults sink.old) (O.faults sink.new) line.now) }
+    ensures follows { Follows D.answers desk.old desk.new }
 {
     match reply_to(alloc, desk, line) {
         Ok(reply) => say(alloc, sink, &reply),
@@ -148,9 +165,14 @@ fn answer<D: Desk, O: Sink>(
 /// The reply to a line.
 fn reply_to<D: Desk>(alloc: Global, desk: &mut D, line: &ScriptLine) -> Result<Reply, NoMemory>
     requires takes { TakesLines D.takes }
-    requires answers { AnswersOnce D.lists D.answers }
-    ensures { MatchResult result (GoesOnce (D.lists desk.old) (D.lists desk.new) (kept_item line.now))
-        (λ _. D.lists desk.new ≡ D.lists desk.old) }
+    requires answers { AnswersOnce D.lists D.faults D.answers }
+    ensures goes { MatchResult result
+        (GoesOnce
+        (record { lists = D.lists desk.old; faults = D.faults desk.old })
+        (record { lists = D.lists desk.new; faults = D.faults desk.new })
+        (kept_item line.now))
+        (λ _. desk.new ≡ desk.old) }
+    ensures follows { Follows D.answers desk.old desk.new }
 {
     match line.item(alloc) {
         Ok((moment, ask)) => Ok(desk.ask(alloc, &ask, moment)),

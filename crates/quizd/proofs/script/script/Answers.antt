@@ -1,9 +1,18 @@
 use Rattle.std.proofs.Common.{Some}
 use Rattle.qz_ending.specs.declared.stop.Stop.TheVariants as stop
 use Rattle.quizd.specs.Scripts.{script_limit}
-use Rattle.quizd.specs.Solo.{first_lists}
+use Rattle.quizd.specs.Solo.{first_lists, in_memory}
 use Rattle.quizd.proofs.ScriptLemmas.{none_served}
+use Rattle.quizd.proofs.SoloLemmas.{solo_answers_once}
 use Rattle.quizd.proofs.script.script.Goals as goal
 
+pub serve-requires-clause-answers : goal.serve-requires-clause-answers
+serve-requires-clause-answers g c = solo_answers_once
+
+pub returns-in-Ok-clause-ended : goal.returns-in-Ok-clause-ended
+returns-in-Ok-clause-ended g c =
+    let e = rw c.in-Ok.ensures at c.serve.ensures.ended in
+    record { stop = e.stop; status_is = e.status_is; cause = record { after = c.serve.new.desk; ends = e.cause } }
+
 pub returns-in-Err-clause-ended : goal.returns-in-Err-clause-ended
-returns-in-Err-clause-ended g c = record { stop = Some stop.Memory; status_is = c.status.ensures; cause = none_served script_limit first_lists _ _ _ _ }
+returns-in-Err-clause-ended g c = record { stop = Some stop.Memory; status_is = c.status.ensures; cause = record { after = first_lists; ends = none_served script_limit (in_memory first_lists) _ _ _ _ } }

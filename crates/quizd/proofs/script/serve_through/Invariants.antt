@@ -1,11 +1,14 @@
 use Rattle.std.proofs.Common.{◌+◌, ◌*◌, ◌-◌, ◌<◌, length}
+use Rattle.quizd.specs.Retries.{Follows}
 use Rattle.quizd.proofs.ScriptLemmas.{IsServed}
 use Rattle.quizd.proofs.script.serve_through.Given as goal
 
 abbrev pub invariant-loop-input : goal.invariant-loop-input
 invariant-loop-input g l = record {
-  served : IsServed (g.D.Desk.lists l.fn.desk) (g.D.Desk.lists l.desk) (g.S.Source.left l.fn.source) (g.S.Source.left l.source) (g.O.Sink.holds l.fn.sink) (g.O.Sink.holds l.sink)
+  served : IsServed (record { lists = g.D.Desk.lists l.fn.desk; faults = g.D.Desk.faults l.fn.desk }) (record { lists = g.D.Desk.lists l.desk; faults = g.D.Desk.faults l.desk })
+      (g.S.Source.left l.fn.source) (g.S.Source.left l.source) (g.O.Sink.holds l.fn.sink) (g.O.Sink.holds l.sink)
       (g.S.Source.faults l.fn.source) (g.S.Source.faults l.source) (g.O.Sink.faults l.fn.sink) (g.O.Sink.faults l.sink) l.input l.limit;
+  follows : Follows g.D.Desk.answers l.fn.desk l.desk;
   room : 0 < length l.room;
 }
 
