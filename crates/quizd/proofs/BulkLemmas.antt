@@ -14,7 +14,7 @@ use Rattle.qz_terms.specs.Rows.{sum_of}
 use Rattle.qz_terms.specs.declared.record.Record.{Record}
 use Rattle.qz_terms.specs.declared.ask.Ask.{Ask}
 use Rattle.qz_terms.specs.Serial.{Asking, Line, Lists, Unread, part_list, part_read, parts_over}
-use Rattle.qz_school.specs.Marks.{marks_of}
+use Rattle.qz_solo.specs.Marks.{marks_of}
 use Rattle.quizd.specs.Bulk.{BulkEnds, after_asking, after_line, all_marks, asked_by, attempt_of, bulk_lines, school_of}
 use Rattle.quizd.specs.Solo.{first_lists}
 

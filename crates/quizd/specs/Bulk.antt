@@ -11,7 +11,7 @@ use Rattle.qz_terms.specs.declared.record.Record.{Record}
 use Rattle.qz_terms.specs.Lists.{places_to}
 use Rattle.qz_terms.specs.Rows.{sum_of}
 use Rattle.qz_terms.specs.Serial.{Asking, Line, Lists, Unread, lists_over, part_list}
-use Rattle.qz_school.specs.Marks.{marks_of}
+use Rattle.qz_solo.specs.Marks.{marks_of}
 use Rattle.qz_wire.specs.Asking.{ask_of}
 use Rattle.qz_wire.specs.Lines.{newline}
 use Rattle.qz_wire.specs.Words.{words_of}

@@ -7,14 +7,14 @@ ghost use Rattle.qz_outside.specs.Causes.{HasRisen};
 ghost use Rattle.qz_terms.specs.Lists.{places_to};
 ghost use Rattle.qz_terms.specs.Rows.{sum_of};
 ghost use Rattle.qz_terms.specs.Serial.{part_list};
-ghost use Rattle.qz_school.specs.Marks.{marks_of};
+ghost use Rattle.qz_solo.specs.Marks.{marks_of};
 ghost use Rattle.quizd.specs.Bulk.{BulkEnds, after_line, all_marks, bulk_lines, bulk_text, finish_line, mark_sum, picked, quiz_lines, regrade_lines, save_line, school_of, school_text, slot_line, start_line, student_lines, told_text, user_line, work_lines};
 
 use qz_decimal::Mark;
 use qz_ending::Stop;
 use qz_grading::{AttemptId, Refusal};
 use qz_outside::{Sink, write_all};
-use qz_school::Solo;
+use qz_solo::MemorySchool;
 use qz_text::{Listed, NoMemory, Text};
 use qz_wire::ask_of_line;
 use std::alloc::Global;
@@ -185,7 +185,7 @@ fn regrade_lines(alloc: Global, count: u32) -> Result<Listed<Text>, NoMemory>
 // ---- what comes of it
 
 /// Answers a line. One without a reading changes nothing.
-fn follow(alloc: Global, school: &mut Solo, line: &str) -> Result<(), NoMemory>
+fn follow(alloc: Global, school: &mut MemorySchool, line: &str) -> Result<(), NoMemory>
     ensures { OnOk result (school.new ≡ after_line school.old line.now) }
 {
     match ask_of_line(alloc, line.as_bytes()) {
@@ -198,7 +198,7 @@ fn follow(alloc: Global, school: &mut Solo, line: &str) -> Result<(), NoMemory>
 
 /// Answers lines in turn.
 #[tactic(auto, using(crate::proofs::BulkLemmas::more_followed))]
-fn follow_all(alloc: Global, school: &mut Solo, lines: &[Text]) -> Result<(), NoMemory>
+fn follow_all(alloc: Global, school: &mut MemorySchool, lines: &[Text]) -> Result<(), NoMemory>
     ensures { OnOk result (school.new ≡ fold after_line school.old lines.now) }
 {
     for line in lines {
@@ -208,19 +208,19 @@ fn follow_all(alloc: Global, school: &mut Solo, lines: &[Text]) -> Result<(), No
 }
 
 /// The school of so many students.
-fn school_of(alloc: Global, count: u32) -> Result<Solo, NoMemory>
+fn school_of(alloc: Global, count: u32) -> Result<MemorySchool, NoMemory>
     requires { count ≤ 2000 }
     ensures school { IfOk result (λ school. school ≡ school_of count) }
     ensures one { IfOk result (λ school. length school.parts ≡ 1) }
 {
     let lines = bulk_lines(alloc, count)?;
-    let mut school = Solo::memory(alloc, 1, "root")?;
+    let mut school = MemorySchool::founded(alloc, 1, "root")?;
     follow_all(alloc, &mut school, lines.as_slice())?;
     Ok(school)
 }
 
 /// Corrects the first question of a school of so many students, and regrades the quiz.
-fn regrade(alloc: Global, school: &mut Solo, count: u32) -> Result<(), NoMemory>
+fn regrade(alloc: Global, school: &mut MemorySchool, count: u32) -> Result<(), NoMemory>
     requires few { count ≤ 2000 }
     requires one { length school.old.parts ≡ 1 }
     ensures school { OnOk result (school.new ≡ fold after_line school.old (regrade_lines count)) }
@@ -233,7 +233,7 @@ fn regrade(alloc: Global, school: &mut Solo, count: u32) -> Result<(), NoMemory>
 /// Adds the marks of an attempt's slots to others, in order.
 fn marks_onto(
     alloc: Global,
-    school: &mut Solo,
+    school: &mut MemorySchool,
     attempt: AttemptId,
     marks: &mut Listed<Mark>,
 ) -> Result<(), NoMemory>
@@ -245,7 +245,7 @@ fn marks_onto(
 }
 
 /// The marks of the attempts of so many students.
-fn all_marks(alloc: Global, school: &mut Solo, count: u32) -> Result<Listed<Mark>, NoMemory>
+fn all_marks(alloc: Global, school: &mut MemorySchool, count: u32) -> Result<Listed<Mark>, NoMemory>
     requires few { count ≤ 2000 }
     requires one { length school.old.parts ≡ 1 }
     ensures marks { IfOk result (λ marks. marks ≡ all_marks (part_list school.old 0) count) }
@@ -285,7 +285,7 @@ fn sum_of(marks: &[Mark]) -> i128
 }
 
 /// The sum of the marks of the attempts of so many students.
-fn mark_sum(alloc: Global, school: &mut Solo, count: u32) -> Result<i128, NoMemory>
+fn mark_sum(alloc: Global, school: &mut MemorySchool, count: u32) -> Result<i128, NoMemory>
     requires few { count ≤ 2000 }
     requires one { length school.old.parts ≡ 1 }
     ensures sum { IfOk result (λ sum. sum ≡ mark_sum school.old count) }
@@ -345,7 +345,7 @@ fn told_text(
 }
 
 /// What is told of a school of so many students, whose marks had this sum before its first question was corrected.
-fn school_text(alloc: Global, school: &mut Solo, count: u32, before: i128) -> Result<Text, NoMemory>
+fn school_text(alloc: Global, school: &mut MemorySchool, count: u32, before: i128) -> Result<Text, NoMemory>
     requires few { count ≤ 2000 }
     requires one { length school.old.parts ≡ 1 }
     ensures { IfOk result (λ text. text ≡ school_text count before school.old) }
@@ -366,7 +366,7 @@ fn school_text(alloc: Global, school: &mut Solo, count: u32, before: i128) -> Re
 }
 
 /// What is told of a school of so many students that is regraded now.
-fn regraded_text(alloc: Global, school: &mut Solo, count: u32) -> Result<Text, NoMemory>
+fn regraded_text(alloc: Global, school: &mut MemorySchool, count: u32) -> Result<Text, NoMemory>
     requires few { count ≤ 2000 }
     requires school { school.old ≡ school_of count }
     requires one { length school.old.parts ≡ 1 }

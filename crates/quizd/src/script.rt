@@ -12,7 +12,7 @@ use crate::script_line::ScriptLine;
 use qz_ending::Stop;
 use qz_grading::Refusal;
 use qz_outside::{Sink, Source, write_all};
-use qz_school::Solo;
+use qz_solo::MemorySchool;
 use qz_terms::{Desk, Reply};
 use qz_text::NoMemory;
 use qz_wire::line_of;
@@ -40,7 +40,7 @@ pub fn script<S: Source, O: Sink>(alloc: Global, source: &mut S, sink: &mut O) -
         (record { left = S.left source.new; source_faults = S.faults source.new; holds = O.holds sink.new; sink_faults = O.faults sink.new })
         result }
 {
-    match Solo::memory(alloc, 1, "root") {
+    match MemorySchool::founded(alloc, 1, "root") {
         Ok(mut desk) => serve(alloc, LIMIT, &mut desk, source, sink),
         Err(NoMemory) => Stop::Memory.status(),
     }

@@ -4,7 +4,7 @@ use super::*;
 use crate::script::serve;
 use qz_disks::MemoryShelf;
 use qz_outside::{MemorySink, MemorySource};
-use qz_school::Solo;
+use qz_solo::MemorySchool;
 use qz_text::{Bytes, Listed};
 use std::test::Fail;
 
@@ -62,7 +62,7 @@ fn scripted_within(alloc: Global, text: &[u8], limit: usize) -> Result<(u8, Stri
 {
     let mut source = source_of(alloc, text, WELL)?;
     let mut sink = sink_for(alloc, WELL)?;
-    let mut desk = Solo::memory(alloc, 1, "root")?;
+    let mut desk = MemorySchool::founded(alloc, 1, "root")?;
     let status = serve(alloc, limit, &mut desk, &mut source, &mut sink);
     Ok((status, String::from_utf8_lossy(alloc, sink.bytes())?))
 }

@@ -11,7 +11,7 @@ use qz_doors::{DoorEnd, serve_door};
 use qz_ending::Stop;
 use qz_links::{Clock, Door};
 use qz_outside::{Sink, write_all};
-use qz_school::Solo;
+use qz_solo::MemorySchool;
 use qz_terms::Desk;
 use qz_text::NoMemory;
 use std::alloc::Global;
@@ -38,7 +38,7 @@ pub fn serve<O: Sink, R: Door, C: Clock>(
         result }
     ensures doors { length doors.new.items ≡ length doors.old.items }
 {
-    match Solo::memory(alloc, 1, "root") {
+    match MemorySchool::founded(alloc, 1, "root") {
         Ok(mut desk) => serve_links(alloc, links, &mut desk, sink, doors),
         Err(NoMemory) => Stop::Memory.status(),
     }

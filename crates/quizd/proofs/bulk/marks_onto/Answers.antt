@@ -1,7 +1,7 @@
 use Rattle.std.proofs.Common.{◌≡◌, ◌++◌, List, subst}
 use Rattle.std.specs.Prelude.{OnOk}
 use Rattle.qz_terms.specs.declared.record.Record.{Record}
-use Rattle.qz_school.specs.Marks.{marks_of}
+use Rattle.qz_solo.specs.Marks.{marks_of}
 use Rattle.quizd.proofs.BulkLemmas.{first_part}
 use Rattle.quizd.proofs.bulk.marks_onto.Goals as goal
 

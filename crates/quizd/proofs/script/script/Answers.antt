@@ -3,8 +3,11 @@ use Rattle.qz_ending.specs.declared.stop.Stop.TheVariants as stop
 use Rattle.quizd.specs.Scripts.{script_limit}
 use Rattle.quizd.specs.Solo.{first_lists, in_memory}
 use Rattle.quizd.proofs.ScriptLemmas.{none_served}
-use Rattle.quizd.proofs.SoloLemmas.{solo_answers_once}
+use Rattle.quizd.proofs.SoloLemmas.{solo_answers_once, takes_lines}
 use Rattle.quizd.proofs.script.script.Goals as goal
+
+pub serve-requires-clause-takes : goal.serve-requires-clause-takes
+serve-requires-clause-takes g c = takes_lines
 
 pub serve-requires-clause-answers : goal.serve-requires-clause-answers
 serve-requires-clause-answers g c = solo_answers_once

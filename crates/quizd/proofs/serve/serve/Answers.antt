@@ -2,8 +2,11 @@ use Rattle.std.proofs.Common.{Some, inr, refl}
 use Rattle.std.proofs.KnownBytes.{Keeps-refl}
 use Rattle.qz_ending.specs.declared.stop.Stop.TheVariants as stop
 use Rattle.quizd.proofs.ServingLemmas.{served_founded}
-use Rattle.quizd.proofs.SoloLemmas.{solo_answers_once}
+use Rattle.quizd.proofs.SoloLemmas.{solo_answers_once, takes_lines}
 use Rattle.quizd.proofs.serve.serve.Goals as goal
+
+pub serve_links-requires-clause-takes : goal.serve_links-requires-clause-takes
+serve_links-requires-clause-takes g c = takes_lines
 
 pub serve_links-requires-clause-answers : goal.serve_links-requires-clause-answers
 serve_links-requires-clause-answers g c = solo_answers_once
