@@ -6,14 +6,4 @@ pub mod Tokens
 pub mod Leaning
 pub mod AlikeInSchool
 pub mod Floors
-pub mod Settled
-pub mod Standing
-pub mod Desk
-pub mod Planning
-pub mod Solos
-pub mod Reporting
-pub mod WorkingSolo
-pub mod MarkLemmas
-pub mod Following
-pub mod Seeing
 pub mod Working

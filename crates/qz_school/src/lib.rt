@@ -1,14 +1,4 @@
-//! What ties a catalogue and the shards that were made under it: laws over their lists, and a school in memory.
+//! Laws over the lists of a school: what ties a catalogue and the shards that were made under it.
 #![tactic(auto)]
 
-mod asker;
 pub mod laws;
-mod marks;
-mod report;
-mod solo;
-mod telling;
-
-pub use solo::Solo;
-
-#[cfg(test)]
-mod tests;

@@ -19,3 +19,6 @@ pub use folders::{close, load};
 pub use memory::MemorySchool;
 pub use solo::Solo;
 pub use unkept::Unkept;
+
+#[cfg(test)]
+mod tests;

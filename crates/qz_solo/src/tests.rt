@@ -1,4 +1,5 @@
-ghost use Rattle.std.specs.Prelude.{◌≡◌, ◌≤◌, true, false, is_some, is_none, if◌then◌else◌};
+ghost use Rattle.std.specs.Prelude.{◌≡◌, ◌≤◌, [], true, false, length, is_some, is_none, unwrap_or, if◌then◌else◌};
+ghost use Rattle.qz_record.specs.Lengths.{NamesBriefly};
 ghost use Rattle.qz_terms.specs.Cause.{is_keyless};
 ghost use Rattle.qz_terms.specs.Kept.{KeepsAsked, asks_described};
 
@@ -16,14 +17,16 @@ use std::test::Fail;
 /// What a user with this token is told.
 fn ask(
     alloc: Global,
-    solo: &mut Solo,
+    solo: &mut MemorySchool,
     token: &str,
     key: Option<Text>,
     request: Request,
 ) -> Result<Reply, NoMemory>
+    requires brief { length (unwrap_or «key» []) ≤ 64 }
     requires keyed { (if is_keyless request then is_none «key» else is_some «key») ≡ true }
     requires kept { KeepsAsked request }
     requires described { asks_described request ≡ true }
+    requires names { NamesBriefly request }
 {
     let token = Text::of(alloc, token)?;
     let ask = Ask {
@@ -37,14 +40,16 @@ fn ask(
 /// Whether a request under this key is accepted.
 fn does(
     alloc: Global,
-    solo: &mut Solo,
+    solo: &mut MemorySchool,
     token: &str,
     key: &str,
     request: Request,
 ) -> Result<bool, NoMemory>
+    requires short { length key.now ≤ 64 }
     requires keyed { is_keyless request ≡ false }
     requires kept { KeepsAsked request }
     requires described { asks_described request ≡ true }
+    requires names { NamesBriefly request }
 {
     let key = Text::of(alloc, key)?;
     let reply = ask(alloc, solo, token, Some(key), request)?;
@@ -52,15 +57,18 @@ fn does(
 }
 
 /// What the manager is told of a request without a key.
-fn look(alloc: Global, solo: &mut Solo, request: Request) -> Result<Reply, NoMemory>
+fn look(alloc: Global, solo: &mut MemorySchool, request: Request) -> Result<Reply, NoMemory>
     requires keyless { is_keyless request ≡ true }
     requires kept { KeepsAsked request }
     requires described { asks_described request ≡ true }
+    requires names { NamesBriefly request }
 {
     ask(alloc, solo, "root", None, request)
 }
 
-fn joins(alloc: Global, solo: &mut Solo, token: &str) -> Result<bool, NoMemory> {
+fn joins(alloc: Global, solo: &mut MemorySchool, token: &str) -> Result<bool, NoMemory>
+    requires short { length token.now ≤ 64 }
+{
     let request = Request::User {
         name: Text::of(alloc, token)?,
         role: Role::Student,
@@ -70,7 +78,7 @@ fn joins(alloc: Global, solo: &mut Solo, token: &str) -> Result<bool, NoMemory> 
 }
 
 /// One question, of which true is right.
-fn imports(alloc: Global, solo: &mut Solo) -> Result<bool, NoMemory> {
+fn imports(alloc: Global, solo: &mut MemorySchool) -> Result<bool, NoMemory> {
     let mut items = Vec::new(alloc);
     items.push(Item {
         category: Listed::empty(alloc),
@@ -83,7 +91,7 @@ fn imports(alloc: Global, solo: &mut Solo) -> Result<bool, NoMemory> {
 }
 
 /// A quiz with that question, for a max mark of 1.
-fn makes_quiz(alloc: Global, solo: &mut Solo) -> Result<bool, NoMemory> {
+fn makes_quiz(alloc: Global, solo: &mut MemorySchool) -> Result<bool, NoMemory> {
     let name = Text::of(alloc, "Quiz")?;
     let behaviour = Behaviour::Deferred;
     let quiz = Request::Quiz { name, behaviour };
@@ -99,7 +107,7 @@ fn makes_quiz(alloc: Global, solo: &mut Solo) -> Result<bool, NoMemory> {
 }
 
 /// Starts, answers with the first choice, and finishes.
-fn takes(alloc: Global, solo: &mut Solo, token: &str, user: u32) -> Result<bool, NoMemory> {
+fn takes(alloc: Global, solo: &mut MemorySchool, token: &str, user: u32) -> Result<bool, NoMemory> {
     let attempt = AttemptId { user, nth: 1 };
     let save = Request::Save {
         attempt,
@@ -114,7 +122,7 @@ fn takes(alloc: Global, solo: &mut Solo, token: &str, user: u32) -> Result<bool,
 }
 
 /// Whether the students 4, 2 and 3 join and take the quiz, in this order.
-fn is_taken(alloc: Global, solo: &mut Solo) -> Result<bool, NoMemory> {
+fn is_taken(alloc: Global, solo: &mut MemorySchool) -> Result<bool, NoMemory> {
     let joined = joins(alloc, solo, "a")? && joins(alloc, solo, "b")?;
     let all = joined && joins(alloc, solo, "c")?;
     let made = imports(alloc, solo)? && makes_quiz(alloc, solo)?;
@@ -124,11 +132,11 @@ fn is_taken(alloc: Global, solo: &mut Solo) -> Result<bool, NoMemory> {
 }
 
 /// A school of so many shards in which they did. What is asked of it is asked by functions that borrow it, so that few of them end it.
-fn school(alloc: Global, shards: u8) -> Result<Option<Solo>, NoMemory>
+fn school(alloc: Global, shards: u8) -> Result<Option<MemorySchool>, NoMemory>
     requires some { 1 ≤ shards }
     requires few { shards ≤ 64 }
 {
-    let mut solo = Solo::memory(alloc, shards, "root")?;
+    let mut solo = MemorySchool::founded(alloc, shards, "root")?;
     match is_taken(alloc, &mut solo) {
         Ok(taken) => Ok(taken.then_some(solo)),
         Err(NoMemory) => Err(NoMemory),
@@ -178,11 +186,11 @@ fn is_job_done(reply: &Reply) -> bool {
     )
 }
 
-fn step(alloc: Global, solo: &mut Solo, shard: u8) -> Result<Reply, NoMemory> {
+fn step(alloc: Global, solo: &mut MemorySchool, shard: u8) -> Result<Reply, NoMemory> {
     look(alloc, solo, Request::Work { job: 1, shard })
 }
 
-fn live(alloc: Global, solo: &mut Solo, shard: u8) -> Result<Reply, NoMemory> {
+fn live(alloc: Global, solo: &mut MemorySchool, shard: u8) -> Result<Reply, NoMemory> {
     let attempt = AttemptId { user: 0, nth: 0 };
     look(alloc, solo, Request::Live { shard, attempt })
 }
@@ -190,7 +198,7 @@ fn live(alloc: Global, solo: &mut Solo, shard: u8) -> Result<Reply, NoMemory> {
 // ---- the tests
 
 /// Whether a school of one shard tells of all users there, and of no other shard.
-fn is_told_whole(alloc: Global, solo: &mut Solo) -> Result<bool, NoMemory> {
+fn is_told_whole(alloc: Global, solo: &mut MemorySchool) -> Result<bool, NoMemory> {
     let told = look(alloc, solo, Request::Report { quiz: 1 })?;
     let missing = live(alloc, solo, 1)?;
     Ok(solo.len() == 8 && names_all(&told) && is_missing(&missing, Thing::Shard))
@@ -206,24 +214,24 @@ fn one_shard_has_all_users(rt: HostRuntime) -> Result<(), Fail> {
     Ok(())
 }
 
-fn reports_all(alloc: Global, solo: &mut Solo) -> Result<bool, NoMemory> {
+fn reports_all(alloc: Global, solo: &mut MemorySchool) -> Result<bool, NoMemory> {
     Ok(names_all(&look(alloc, solo, Request::Report { quiz: 1 })?))
 }
 
-fn rebinds(alloc: Global, solo: &mut Solo, shard: u8, user: u32) -> Result<bool, NoMemory> {
+fn rebinds(alloc: Global, solo: &mut MemorySchool, shard: u8, user: u32) -> Result<bool, NoMemory> {
     Ok(is_rebound(&step(alloc, solo, shard)?, user))
 }
 
-fn ends_job(alloc: Global, solo: &mut Solo, shard: u8) -> Result<bool, NoMemory> {
+fn ends_job(alloc: Global, solo: &mut MemorySchool, shard: u8) -> Result<bool, NoMemory> {
     Ok(is_job_done(&step(alloc, solo, shard)?))
 }
 
-fn has_no_shard(alloc: Global, solo: &mut Solo, shard: u8) -> Result<bool, NoMemory> {
+fn has_no_shard(alloc: Global, solo: &mut MemorySchool, shard: u8) -> Result<bool, NoMemory> {
     Ok(is_missing(&step(alloc, solo, shard)?, Thing::Shard))
 }
 
 /// Whether a job is worked in the shards of its users, and in no other.
-fn is_worked(alloc: Global, solo: &mut Solo) -> Result<bool, NoMemory> {
+fn is_worked(alloc: Global, solo: &mut MemorySchool) -> Result<bool, NoMemory> {
     let told = reports_all(alloc, solo)?;
     let asked = does(alloc, solo, "root", "again", Request::Regrade { quiz: 1 })?;
     let first = rebinds(alloc, solo, 1, 4)? && ends_job(alloc, solo, 1)?;
