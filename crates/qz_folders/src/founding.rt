@@ -52,7 +52,7 @@ pub fn found<F: Shelf>(
     // What was founded is read as its record.
     ensures read { OnOk result (IsRecord (founding shards token.now)) }
 {
-    let payload = spelled(alloc, shards, token)?;
+    let payload = founding_payload(alloc, shards, token)?;
     let name = catalog_name();
     let (mut journal, payloads) = open(alloc, shelf, folder, name)?;
     let done = put_first(alloc, &mut journal, payloads.as_slice(), payload.as_slice());
@@ -101,8 +101,9 @@ fn founding(alloc: Global, shards: u8, token: &Text) -> Result<Record, NoMemory>
     })
 }
 
-// Its spelling.
-fn spelled(alloc: Global, shards: u8, token: &Text) -> Result<Bytes, NoMemory>
+/// The payload of a founding: the spelling of the record of a school that is founded with so many shards, from 1 to 64, and its
+/// manager's token of at most 64 bytes.
+pub fn founding_payload(alloc: Global, shards: u8, token: &Text) -> Result<Bytes, NoMemory>
     requires some { 1 ≤ shards }
     requires few { shards ≤ 64 }
     requires short { length token.now ≤ 64 }

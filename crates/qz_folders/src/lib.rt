@@ -8,7 +8,7 @@ mod names;
 mod opening;
 
 pub use fault::{FoundFault, OpenFault};
-pub use founding::found;
+pub use founding::{found, founding_payload};
 pub use names::{catalog_name, part_name};
 pub use opening::{give_back, open};
 

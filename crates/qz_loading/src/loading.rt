@@ -124,6 +124,7 @@ pub fn load<F: Shelf>(
     requires { NoneOutIn folder.now (F.files shelf.old) }
     ensures loaded { IfOk result (λ made. IsLoadedFrom F.Disk.moment F.Disk.left_at folder.now
         (F.files shelf.old) made.catalog made.shards.items) }
+    ensures some { IfOk result (λ made. 1 ≤ length made.shards.items) }
     ensures few { IfOk result (λ made. length made.shards.items ≤ 64) }
     ensures out { IfOk result
         (λ made. IsOut folder.now (length made.shards.items) (F.files shelf.new)) }

@@ -98,8 +98,8 @@ set-zip (p ∷ ps) [] i held new all is mends = absurd all
 set-zip (p ∷ ps) (q ∷ qs) zero held new all is mends = (subst (λ (h : Held). Mended h new) (sym cc) mends, all.1)
 set-zip (p ∷ ps) (q ∷ qs) (suc i) held new all is mends = (all.0, set-zip ps qs i held new all.1 is mends)
 
-one-zip : (i : ℕ) (old parts : List Held) (held new : Held) → MendedUpTo i old parts → slice_get parts i ≡ Some held → Mended held new → AllZip Mended old (slice_set parts i new)
-one-zip i old parts held new m is mends = set-zip old parts i held new m.mends (sym (m.same i (omega arith)) ∙ is) mends
+pub one_zip : (i : ℕ) (old parts : List Held) (held new : Held) → MendedUpTo i old parts → slice_get parts i ≡ Some held → Mended held new → AllZip Mended old (slice_set parts i new)
+one_zip i old parts held new m is mends = set-zip old parts i held new m.mends (sym (m.same i (omega arith)) ∙ is) mends
 
 set-same : (i k : ℕ) (old parts : List Held) (new : Held) → MendedUpTo i old parts → i + 1 ≤ k → slice_get (slice_set parts i new) k ≡ slice_get old k
 set-same i k old parts new m over = set_apart parts i k new (λ e. omega (arith, e, over)) ∙ m.same k (omega (arith, over))
@@ -115,9 +115,9 @@ one-clear i k old parts held new h m is clear within there (inr both) =
     let apart = both.1 in
     m.clear k h (before-one i k within apart) (sym (set_apart parts i k new (λ e. apart (sym e))) ∙ there)
 
-next : (i : ℕ) (old parts : List Held) (held new : Held) → MendedUpTo i old parts → slice_get parts i ≡ Some held → IsSettled held new → MendedUpTo (i + 1) old (slice_set parts i new)
-next i old parts held new m is settled = record {
-  mends = one-zip i old parts held new m is settled.mends;
+pub one_more : (i : ℕ) (old parts : List Held) (held new : Held) → MendedUpTo i old parts → slice_get parts i ≡ Some held → IsSettled held new → MendedUpTo (i + 1) old (slice_set parts i new)
+one_more i old parts held new m is settled = record {
+  mends = one_zip i old parts held new m is settled.mends;
   clear = λ k h within there. one-clear i k old parts held new h m is settled.no_doubt within there (eqb_tells i k);
   same = λ k over. set-same i k old parts new m over;
 }
@@ -188,7 +188,7 @@ set-clear i m old parts new u k less = clear-by m (slice_set parts i new) k (sli
 
 set-keeps : (a : Lists) (m held new : Held) (parts : List Held) (i : ℕ) (ask : Ask) (user : User) (quiz : ℕ) → IsReporting a m ask user quiz → MendedUpTo i a.parts parts → slice_get parts i ≡ Some held → Mended held new → KeepsUnread a (with_parts m (slice_set parts i new)) ask
 set-keeps a m held new parts i ask user quiz w u is mends =
-    keeps a m (slice_set parts i new) ask user quiz i w (counted a.parts (slice_set parts i new) (one-zip i a.parts parts held new u is mends)) (set-clear i m a.parts parts new u) (λ k over. set-same i k a.parts parts new u over)
+    keeps a m (slice_set parts i new) ask user quiz i w (counted a.parts (slice_set parts i new) (one_zip i a.parts parts held new u is mends)) (set-clear i m a.parts parts new u) (λ k over. set-same i k a.parts parts new u over)
 
 -- the next shard is in doubt
 stays-doubted : (a : Lists) (m held new : Held) (parts : List Held) (i : ℕ) (ask : Ask) (user : User) (quiz : ℕ) → IsReporting a m ask user quiz → MendedUpTo i a.parts parts → slice_get parts i ≡ Some held → Mended held new → is_some new.doubt ≡ true
@@ -199,7 +199,7 @@ stays-doubted a m held new parts i ask user quiz w u is mends doubt =
     let there = set_get parts i held new is in
     let here : is_in_doubt l (Some i) ≡ true = ap (λ (o : Option Held). is_some (unwrap_or o (record { list = []; doubt = None })).doubt) there ∙ doubt in
     let any = any-from (is_in_doubt l) (length ps) 0 i (omega arith) (let within = slice_get_within ps i new there in omega (arith, within)) here in
-    ap (λ (ways : List (Option ℕ)). not (list_any (is_in_doubt l) ways)) (report-ways a m ps ask user quiz w (counted a.parts ps (one-zip i a.parts parts held new u is mends)))
+    ap (λ (ways : List (Option ℕ)). not (list_any (is_in_doubt l) ways)) (report-ways a m ps ask user quiz w (counted a.parts ps (one_zip i a.parts parts held new u is mends)))
     ∙ ap not (or-second (is_in_doubt l None) (list_any (is_in_doubt l) (in_order 0 (length ps))) any)
 
 ok-is : {A : Type 0} (x y : A) → ◌≡◌ {A = Result A Refusal} (Ok x) (Ok y) → x ≡ y
@@ -208,7 +208,7 @@ ok-is x y same = cc
 rows-by : (failed : Type 0) (a : Lists) (m held new : Held) (parts : List Held) (i now : ℕ) (ask : Ask) (user : User) (quiz : ℕ) (rows : List Record → List (ℕ × Option ℤ)) (told : Result (List (ℕ × Option ℤ)) Refusal)
     → IsReporting a m ask user quiz → MendedUpTo i a.parts parts → slice_get parts i ≡ Some held → LookEnds failed (λ r. Err r) (λ h t. t ≡ Ok (rows h)) held new told
     → MatchResult told (λ t. MendedUpTo (i + 1) a.parts (slice_set parts i new) × (t ≡ rows new.list)) (λ r. AskedOnce failed a (with_parts m (slice_set parts i new)) now ask (reply.Refused r))
-rows-by failed a m held new parts i now ask user quiz rows (Ok t) w u is (looked settled says) = (next i a.parts parts held new u is settled, ok-is t (rows new.list) says)
+rows-by failed a m held new parts i now ask user quiz rows (Ok t) w u is (looked settled says) = (one_more i a.parts parts held new u is settled, ok-is t (rows new.list) says)
 rows-by failed a m held new parts i now ask user quiz rows (Ok t) w u is (unread why mends doubt same) = absurd (err-ok t refusal.KeepFault same)
 rows-by failed a m held new parts i now ask user quiz rows (Ok t) w u is (unlooked mends same) = absurd (err-ok t refusal.Memory same)
 rows-by failed a m held new parts i now ask user quiz rows (Err r) w u is (looked settled says) = absurd (err-ok (rows new.list) r (sym says))
@@ -216,13 +216,13 @@ rows-by failed a m held new parts i now ask user quiz rows (Err r) w u is (unrea
     let l = with_parts m (slice_set parts i new) in
     asked_once failed a l now ask (reply.Refused r) w.askable.shards w.askable.keyed
     (subst (λ (x : Refusal). Asks a l now ask (reply.Refused x)) (sym (err-is {A = List (ℕ × Option ℤ)} r refusal.KeepFault same))
-    (failed_asks a l now ask (record { records = w.known.settled.mends; parts = one-zip i a.parts parts held new u is mends }) (set-keeps a m held new parts i ask user quiz w u is mends) (stays-doubted a m held new parts i ask user quiz w u is mends doubt)))
+    (failed_asks a l now ask (record { records = w.known.settled.mends; parts = one_zip i a.parts parts held new u is mends }) (set-keeps a m held new parts i ask user quiz w u is mends) (stays-doubted a m held new parts i ask user quiz w u is mends doubt)))
     (λ fault. why)
 rows-by failed a m held new parts i now ask user quiz rows (Err r) w u is (unlooked mends same) =
     let l = with_parts m (slice_set parts i new) in
     asked_once failed a l now ask (reply.Refused r) w.askable.shards w.askable.keyed
     (subst (λ (x : Refusal). Asks a l now ask (reply.Refused x)) (sym (err-is {A = List (ℕ × Option ℤ)} r refusal.Memory same))
-    (wanting_asks a l now ask (record { records = w.known.settled.mends; parts = one-zip i a.parts parts held new u is mends }) (set-keeps a m held new parts i ask user quiz w u is mends)))
+    (wanting_asks a l now ask (record { records = w.known.settled.mends; parts = one_zip i a.parts parts held new u is mends }) (set-keeps a m held new parts i ask user quiz w u is mends)))
     (λ fault. absurd (not-memory (reply.Refused r) (ap reply.Refused (err-is {A = List (ℕ × Option ℤ)} r refusal.Memory same)) fault))
 
 wanting-path : (failed : Type 0) (a : Lists) (m : Held) (parts : List Held) (i now : ℕ) (ask : Ask) (user : User) (quiz : ℕ) → IsReporting a m ask user quiz → MendedUpTo i a.parts parts → AskedOnce failed a (with_parts m parts) now ask (reply.Refused refusal.Memory)

@@ -74,7 +74,7 @@ pub record ListsGrow (a b : Lists) : Type 0 where
   pub count : length b.parts ≡ length a.parts
   pub each : (k : ℕ) → Grows (part_list a k) (part_list b k)
 
-grows_on : (h g l : List Record) → Grows h g → Grows g l → Grows h l
+pub grows_on : (h g l : List Record) → Grows h g → Grows g l → Grows h l
 grows_on h g l one other = record { rest = one.rest ++ other.rest; grown = other.grown ∙ ap (λ (m : List Record). m ++ other.rest) one.grown ∙ append_assoc h one.rest other.rest }
 
 pub grow_on : (a b c : Lists) → ListsGrow a b → ListsGrow b c → ListsGrow a c
@@ -87,7 +87,7 @@ grow_on a b c one other = record {
 pub grow_none : (a : Lists) → ListsGrow a a
 grow_none a = record { records = stays_so a.records.list; count = refl; each = λ k. stays_so (part_list a k) }
 
-mended_grows : (old new : Held) → Mended old new → Grows old.list new.list
+pub mended_grows : (old new : Held) → Mended old new → Grows old.list new.list
 mended_grows old new (stays k) = stays_so k.list
 mended_grows old new (dropped l x) = stays_so l
 mended_grows old new (adopted l x) = record { rest = x ∷ []; grown = refl }

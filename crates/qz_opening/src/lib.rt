@@ -1,0 +1,6 @@
+//! The school of a folder, as a command opens it: its lists, or what is said of why they aren't loaded.
+#![tactic(auto)]
+
+mod opening;
+
+pub use opening::open_school;

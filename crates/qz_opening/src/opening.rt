@@ -1,0 +1,113 @@
+//! Opening the school of a folder, as a command.
+
+ghost use Rattle.std.specs.Prelude.{◌≡◌, ◌≤◌, length, string_bytes, IfOk, IfErr};
+ghost use Rattle.qz_disks.specs.Shelves.{NoneOutIn};
+ghost use Rattle.qz_folders.specs.Opening.{IsSoundOut};
+ghost use Rattle.qz_loading.specs.Opening.{AreSoundOut, IsLoadedFrom};
+ghost use Rattle.qz_loading.specs.Places.{IsOut, KeepsElsewhere, catalog_place};
+ghost use Rattle.qz_opening.specs.Unloaded.{Refuses, UnloadedBy, altered_line, behind_line, damaged_line};
+
+use qz_disks::Shelf;
+use qz_ending::Stop;
+use qz_journal::Journal;
+use qz_loading::LoadFault;
+use qz_outside::{Sink, write_all};
+use qz_solo::{Solo, load};
+use qz_text::{NoMemory, Text};
+use std::alloc::Global;
+
+/// Loads the school of a folder, of which no file is out. Its lists are those that the files stand for.
+///
+/// Where the files don't give a school, one line says why and the stop is `Refused`: `damaged NAME PLACE`, `not founded`, `behind SHARD
+/// POSITION LENGTH` or `altered SHARD PLACE`. With `SinkFault` the sink failed under that line, behind a front of it. With `ShelfFault`
+/// the shelf failed or the disk of a file, and with `Memory` memory was wanting; nothing was written. After each of these all files
+/// are back, and stand for what they stood for.
+pub fn open_school<O: Sink, F: Shelf>(
+    alloc: Global,
+    folder: &[u8],
+    sink: &mut O,
+    shelf: &mut F,
+) -> Result<Solo<Journal<F::Disk>>, Stop>
+    requires { NoneOutIn folder.now (F.files shelf.old) }
+    ensures loaded { IfOk result (λ made. IsLoadedFrom F.Disk.moment F.Disk.left_at folder.now
+        (F.files shelf.old) made.catalog made.parts) }
+    ensures few { IfOk result (λ made. length made.parts ≤ 64) }
+    ensures out { IfOk result (λ made. IsOut folder.now (length made.parts) (F.files shelf.new)) }
+    ensures others { IfOk result (λ made. KeepsElsewhere folder.now (length made.parts)
+        (F.files shelf.old) (F.files shelf.new)) }
+    ensures unwritten { IfOk result (λ _. sink.new ≡ sink.old) }
+    ensures unloaded { IfErr result (UnloadedBy folder.now
+        (record { files = F.files shelf.old; faults = F.faults shelf.old })
+        (record { files = F.files shelf.new; faults = F.faults shelf.new })
+        (record { holds = O.holds sink.old; faults = O.faults sink.old })
+        (record { holds = O.holds sink.new; faults = O.faults sink.new })) }
+    ensures later { F.faults shelf.old ≤ F.faults shelf.new }
+    ensures sound_catalog { IfOk result (λ made. F.sound shelf.old
+        → IsSoundOut F.Disk.sound F.Disk.faults
+        ((F.files shelf.old).file (catalog_place folder.now)) made.catalog.keeper) }
+    ensures sound_parts { IfOk result (λ made. F.sound shelf.old
+        → AreSoundOut F.Disk.sound F.Disk.faults folder.now (F.files shelf.old) made.parts) }
+{
+    match load(alloc, shelf, folder) {
+        Ok(school) => Ok(school),
+        Err(LoadFault::Damaged { name, place }) => {
+            let line = damaged_line(alloc, &name, place)?;
+            Err(refuse(sink, line.as_bytes()))
+        }
+        Err(
+            LoadFault::Behind {
+                shard,
+                position,
+                length,
+            },
+        ) => {
+            let line = behind_line(alloc, shard, position, length)?;
+            Err(refuse(sink, line.as_bytes()))
+        }
+        Err(LoadFault::Altered { shard, place }) => {
+            let line = altered_line(alloc, shard, place)?;
+            Err(refuse(sink, line.as_bytes()))
+        }
+        Err(LoadFault::NotFounded) => Err(refuse(sink, NOT_FOUNDED.as_bytes())),
+        Err(LoadFault::Fault) => Err(Stop::ShelfFault),
+        Err(LoadFault::Memory) => Err(Stop::Memory),
+    }
+}
+
+/// What is written where the catalogue's list is empty.
+const NOT_FOUNDED: &str = "not founded\n";
+
+/// Writes why a school isn't loaded.
+fn refuse<O: Sink>(sink: &mut O, line: &[u8]) -> Stop
+    ensures { Refuses line.now (O.holds sink.old) (O.holds sink.new)
+        (O.faults sink.old) (O.faults sink.new) result }
+{
+    match write_all(sink, line) {
+        Ok(()) => Stop::Refused,
+        Err(_) => Stop::SinkFault,
+    }
+}
+
+fn damaged_line(alloc: Global, name: &Text, place: u64) -> Result<String, NoMemory>
+    ensures { IfOk result (λ line. string_bytes line ≡ damaged_line name.now place) }
+{
+    let name = name.as_str();
+    Ok(format!(in alloc; "damaged {name} {place}\n")?)
+}
+
+fn behind_line(
+    alloc: Global,
+    shard: u8,
+    position: u64,
+    length: u64,
+) -> Result<String, NoMemory>
+    ensures { IfOk result (λ line. string_bytes line ≡ behind_line shard position «length») }
+{
+    Ok(format!(in alloc; "behind {shard} {position} {length}\n")?)
+}
+
+fn altered_line(alloc: Global, shard: u8, place: u64) -> Result<String, NoMemory>
+    ensures { IfOk result (λ line. string_bytes line ≡ altered_line shard place) }
+{
+    Ok(format!(in alloc; "altered {shard} {place}\n")?)
+}

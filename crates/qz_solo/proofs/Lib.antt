@@ -1,0 +1,13 @@
+pub mod Calls
+pub mod Keepers
+pub mod Standing
+pub mod Planning
+pub mod UnderPlans
+pub mod Serving
+pub mod Steps
+pub mod Settling
+pub mod Reporting
+pub mod Seeing
+pub mod Beginning
+pub mod Clear
+pub mod MarkLemmas

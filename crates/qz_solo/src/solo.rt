@@ -1,0 +1,84 @@
+//! A school: a catalogue and its shards, each with its keeper.
+
+ghost use Rattle.std.specs.Prelude.{◌≡◌, length};
+ghost use Rattle.qz_keeper.specs.Lists.{EachMayStand};
+ghost use Rattle.qz_terms.specs.Legal.{IsLegalCatalog};
+ghost use Rattle.qz_solo.specs.Answering.{IsServed, MayBeAsked};
+ghost use Rattle.qz_solo.specs.Solos.{IsSolo, faults_of, lists_in};
+
+use qz_catalog::Catalog;
+use qz_disks::Keeper;
+use qz_shard::Shard;
+use qz_terms::{Ask, Caller, Desk, Reply};
+use std::alloc::Global;
+use std::marker::Model;
+
+/// A school of 1 to 64 shards, asked by one alone. Each record of a shard agrees with the catalogue, also one that is in doubt, and a
+/// user's shard is that with the user's number modulo the number of shards.
+///
+/// A list that a request reads is mended first: the record in doubt, if there is one, is taken where its keeper keeps it, and else
+/// dropped. A request is refused with `KeepFault` only where a keeper failed in that very request.
+#[derive(Drop)]
+pub struct Solo<K: Keeper> {
+    pub(crate) catalog: Catalog<K>,
+    pub(crate) shards: Vec<Shard<K>>,
+}
+
+impl<K: Keeper> Model for Solo<K> {
+    ghost use Rattle.qz_solo.specs.Solos.{IsSolo, School};
+
+    ghost Value = { School K };
+
+    ghost view = { λ s. record { catalog = s.catalog; parts = s.shards.items } };
+
+    ghost invariant = { λ s. IsSolo s.catalog s.shards.items };
+}
+
+impl<K: Keeper> Solo<K> {
+    /// The school of a catalogue and its shards: as many as it was founded with, in order, each of which agrees with it.
+    pub fn of(catalog: Catalog<K>, shards: Vec<Shard<K>>) -> Solo<K>
+        requires { IsSolo catalog shards.items }
+        ensures { result ≡ record { catalog = catalog; parts = shards.items } }
+    {
+        Solo { catalog, shards }
+    }
+
+    /// The catalogue, and the shards in order.
+    pub fn into_parts(self) -> (Catalog<K>, Vec<Shard<K>>)
+        ensures catalog { result.0 ≡ self.catalog }
+        ensures shards { result.1.items ≡ self.parts }
+        ensures solo { IsSolo result.0 result.1.items }
+    {
+        (self.catalog, self.shards)
+    }
+
+    /// How many records the catalogue has, without one in doubt.
+    pub fn len(&self) -> u64
+        ensures count { result ≡ length self.now.catalog.held.list }
+        ensures legal { EachMayStand IsLegalCatalog self.now.catalog.held }
+        ensures solo { IsSolo self.now.catalog self.now.parts }
+    {
+        self.catalog.len()
+    }
+}
+
+impl<K: Keeper> Desk for Solo<K> {
+    ghost lists = { lists_in };
+
+    ghost faults = { faults_of K.faults };
+
+    ghost takes = { λ moment ask. MayBeAsked ask moment };
+
+    ghost answers = { IsServed K.sound K.faults };
+
+    fn ask(&mut self, alloc: Global, ask: &Ask, moment: u64) -> Reply {
+        let told = match &ask.caller {
+            Caller::Token(token) => self.answer_token(alloc, token, ask, moment),
+            Caller::Worker => self.answer_worker(alloc, ask, moment),
+        };
+        match told {
+            Ok(reply) => reply,
+            Err(refusal) => Reply::Refused(refusal),
+        }
+    }
+}
