@@ -95,12 +95,7 @@ fn damaged_line(alloc: Global, name: &Text, place: u64) -> Result<String, NoMemo
     Ok(format!(in alloc; "damaged {name} {place}\n")?)
 }
 
-fn behind_line(
-    alloc: Global,
-    shard: u8,
-    position: u64,
-    length: u64,
-) -> Result<String, NoMemory>
+fn behind_line(alloc: Global, shard: u8, position: u64, length: u64) -> Result<String, NoMemory>
     ensures { IfOk result (λ line. string_bytes line ≡ behind_line shard position «length») }
 {
     Ok(format!(in alloc; "behind {shard} {position} {length}\n")?)

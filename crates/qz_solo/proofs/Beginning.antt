@@ -1,13 +1,20 @@
 -- A school in memory that is just founded.
-use Rattle.std.proofs.Common.{◌≡◌, ◌⊎◌, inl, inr, ℕ, zero, suc, ◌+◌, ◌<◌, ◌≤◌, List, [], ◌∷◌, ◌++◌, Option, Some, None, All, length, length-append, map, refl, sym, ap, ◌∙◌, subst, arith}
+use Rattle.std.proofs.Common.{◌≡◌, ◌⊎◌, inl, inr, ℕ, zero, suc, ◌+◌, ◌≤◌, List, [], ◌∷◌, ◌++◌, Option, Some, None, Ok, IsErrOf, length, length-append, map, refl, sym, ap, ◌∙◌, subst, arith}
 use Rattle.std.specs.Prelude.{replicate, slice_get}
 use Rattle.std.proofs.lemmas.List.Elements.{All-head}
+use Rattle.std.proofs.lemmas.List.{length-map}
+use Rattle.std.proofs.lemmas.Option.{slice_get-map}
 use Rattle.qz_catalog.specs.Holdings.{founded}
 use Rattle.qz_catalog.specs.Keeping as records
 use Rattle.qz_catalog.specs.Loads.{IsFirstIllegal, IsLoaded, IsNoneBehind}
 use Rattle.qz_catalog.proofs.AdoptLemmas.{founding-allowed}
+use Rattle.qz_disks.specs.Shelves.{Files}
+use Rattle.qz_disks.specs.Sound.{StaysSound}
 use Rattle.qz_folders.specs.Founding.{founding}
+use Rattle.qz_folders.specs.Opening.{IsCaused}
+use Rattle.qz_journal.specs.Journals.{Ledger}
 use Rattle.qz_keeper.specs.Lists.{EachMayStand}
+use Rattle.qz_loading.specs.Opening.{IsLoadedFrom}
 use Rattle.qz_record.specs.Records.{HasOneSpelling, IsRecord}
 use Rattle.qz_shard.specs.Keeping as part
 use Rattle.qz_shard.specs.Loads as loads
@@ -18,6 +25,7 @@ use Rattle.qz_terms.specs.Serial.{Held, Lists, with_list}
 use Rattle.qz_terms.specs.Spelling.{spelling}
 use Rattle.qz_school.proofs.Agreeing.{all-empty}
 use Rattle.qz_solo.specs.Memory.{AreClear, AreFresh, founded_lists}
+use Rattle.qz_solo.proofs.Calls.{stands_alone}
 use Rattle.qz_solo.specs.Solos.{IsSolo, School, held_of, lists_in}
 
 -- ---- the catalogue
@@ -79,6 +87,7 @@ empty_loaded index count s k opened = same-held s.held (none-spelled s.held.list
     none-spelled : (h : List Record) → map spelling h ≡ [] → h ≡ []
     none-spelled [] is = refl
     none-spelled (r ∷ h) is = absurd cc
+
     same-held : (k : Held) → k.list ≡ [] → k.doubt ≡ None → k ≡ with_list []
     same-held k list clear = ap (λ (l : List Record). let h : Held = record { list = l; doubt = k.doubt } in h) list ∙ ap (λ (d : Option Record). let h : Held = record { list = []; doubt = d } in h) clear
 
@@ -116,3 +125,28 @@ clear-replicate (suc n) (suc k) h is = clear-replicate n k h is
 
 pub founded_clear : (n : ℕ) (token : List ℕ) → AreClear (founded_lists n token)
 founded_clear n token = record { records = refl; parts = clear-replicate n }
+
+-- ---- a school that is loaded
+
+-- none is in doubt in what is loaded, which is a school's
+pub loaded_solo : {D : Type 0} (moment : D → ℕ) (left_at : D → ℕ → List ℕ → Type 0) (folder : List ℕ) (files : Files) (c : records.Keeping (Ledger D)) (ss : List (part.Keeping (Ledger D))) → IsLoadedFrom moment left_at folder files c ss → 1 ≤ length ss → IsSolo c ss
+loaded_solo moment left_at folder files c ss loaded some =
+    let long : length (map (λ (s : part.Keeping (Ledger _)). s.held.list) ss) ≡ length ss = length-map ss (λ s. s.held.list) in
+    record {
+      some = some;
+      placed = record { each = λ k s is. let own = (loaded.parts_are.each k s is).loaded.loaded in (own.index_is, own.count_is) };
+      founded = loaded.school.founded ∙ ap (λ (n : ℕ). Some n) long;
+      agree = record { each = λ k s is. stands_alone (AllAgree c.held.list) s.held (loaded.parts_are.each k s is).loaded.no_doubt (loaded.school.agree k s.held.list (slice_get-map (λ s. s.held.list) ss k ∙ rw is refl)) };
+    }
+
+pub caused_ok : {T S E : Type 0} (fault : E) (before now : ℕ) (x : T) (y : S) → IsCaused {T = T} fault before now (Ok x) → IsCaused {T = S} fault before now (Ok y)
+caused_ok fault before now x y caused = record { later = caused.later; failed = λ is. absurd cc }
+
+pub sound_ok : {T S E : Type 0} (was is : Type 0) (before now : ℕ) (x : T) (y : S) (fault : E) → StaysSound was is before now (IsErrOf {T = T} (Ok x) fault) → StaysSound was is before now (IsErrOf {T = S} (Ok y) fault)
+sound_ok was is before now x y fault stays = record { works = λ sound is. absurd cc; steady = stays.steady; still = stays.still }
+
+pub held_founded : {K : Type 0} (law : HasOneSpelling) (n : ℕ) (token : List ℕ) (c : records.Keeping K) (k : K) → IsRecord (founding n token) → records.IsOpened (spelling (founding n token) ∷ []) k c → c.held ≡ with_list (founded n token)
+held_founded law n token c k made opened = same-held c.held (founded n token) (loaded_founded law n token c.held.list made opened.loaded) opened.no_doubt
+  where
+    same-held : (h : Held) (l : List Record) → h.list ≡ l → h.doubt ≡ None → h ≡ with_list l
+    same-held h l list clear = ap (λ (m : List Record). let x : Held = record { list = m; doubt = h.doubt } in x) list ∙ ap (λ (d : Option Record). let x : Held = record { list = l; doubt = d } in x) clear

@@ -1,5 +1,5 @@
 -- What one call at a list leaves of it, and what it says.
-use Rattle.std.proofs.Common.{◌≡◌, List, [], ◌∷◌, ◌++◌, Option, None, Some, Result, Ok, Err, IfSome, refl, sym, subst, ◌∙◌, append-nil}
+use Rattle.std.proofs.Common.{◌≡◌, List, [], ◌∷◌, ◌++◌, Option, None, Some, Result, Ok, Err, IfSome, sym, subst, ◌∙◌, append-nil}
 use Rattle.qz_grading.specs.declared.refusal.Refusal.{Refusal}
 use Rattle.qz_grading.specs.declared.refusal.Refusal.TheVariants as refusal
 use Rattle.qz_keeper.specs.Lists.{CallEnds, EachMayStand, IsSettled, Looks, OneCall, answered, no_memory, put_in_doubt, stayed_in_doubt}

@@ -1,20 +1,25 @@
 -- Lists of which no record is in doubt, and stays so where no keeper fails.
-use Rattle.std.proofs.Common.{◌≡◌, ◌⊎◌, inl, inr, ℕ, zero, suc, Bool, true, false, List, [], ◌∷◌, Option, Some, None, length, refl, sym, ap, ◌∙◌, subst}
+use Rattle.std.proofs.Common.{◌≡◌, inl, inr, ℕ, suc, ◌%◌, Bool, true, false, List, [], ◌∷◌, Option, Some, None, length, refl, sym, ap, ◌∙◌, subst}
 use Rattle.std.specs.List.{AllZip}
 use Rattle.std.specs.Prelude.{if◌then◌else◌, slice_get, slice_set}
+use Rattle.qz_catalog.specs.Keeping as records
 use Rattle.qz_grading.specs.declared.refusal.Refusal.TheVariants as refusal
+use Rattle.qz_shard.specs.Keeping as part
 use Rattle.qz_terms.specs.declared.ask.Ask.{Ask}
 use Rattle.qz_terms.specs.declared.record.Record.{Record}
 use Rattle.qz_terms.specs.declared.reply.Reply.{Reply}
 use Rattle.qz_terms.specs.declared.reply.Reply.TheVariants as reply
 use Rattle.qz_terms.specs.SchoolAnswer.{catalog_list, shard_list}
-use Rattle.qz_terms.specs.Serial.{AllMended, Held, Lists, Mended, Turn, answered, lists_over, no_memory, part_list, part_read, parts_over, put_in_doubt, reads_catalog, records_over, stayed_in_doubt, with_list}
+use Rattle.qz_terms.specs.Serial.{AllMended, Held, Lists, Mended, Turn, answered, lists_over, no_memory, part_list, part_read, parts_over, put_in_doubt, reads_catalog, stayed_in_doubt, with_list}
 use Rattle.qz_serial.specs.Once.{AskedOnce}
+use Rattle.qz_serial.specs.Paths.{with_part}
 use Rattle.qz_serial.proofs.Composing.{mended_same}
+use Rattle.qz_serial.proofs.Seats.{set_same}
 use Rattle.qz_solo.specs.Answering.{IsServed}
-use Rattle.qz_solo.specs.Memory.{AreClear}
-use Rattle.qz_solo.specs.Solos.{AreSound, Fails, School, lists_in}
+use Rattle.qz_solo.specs.Memory.{AreClear, is_memory}
+use Rattle.qz_solo.specs.Solos.{AreSound, School, held_of, lists_in}
 use Rattle.qz_solo.proofs.Keepers.{get_set}
+use Rattle.qz_solo.proofs.Standing.{held_there, lists_part}
 
 -- ---- a mending of them does nothing
 
@@ -80,3 +85,23 @@ sound_once sound faults a b now ask r is served = record {
   stays = served.once.stays;
   again = served.once.again;
 }
+
+pub not_memory : (r : Reply) → is_memory r ≡ false → r ≡ reply.Refused refusal.Memory → ⊥
+not_memory r other is = let memory : true ≡ false = rw is at other in absurd cc
+
+-- ---- one shard of a school
+
+pub clear_part : {K : Type 0} (l a : School K) (k : ℕ) (s : part.Keeping K) → a ≡ l → AreClear (lists_in l) → slice_get a.parts k ≡ Some s → s.held.doubt ≡ None
+clear_part l a k s view clear is = (subst (λ (x : School _). AreClear (lists_in x)) (sym view) clear).parts k s.held (held_there a.parts k s is)
+
+pub own_list : {K : Type 0} (l a : School K) (u k : ℕ) (s : part.Keeping K) → a ≡ l → slice_get a.parts k ≡ Some s → u % length a.parts ≡ k → part_list (lists_in l) (u % length l.parts) ≡ s.held.list
+own_list l a u k s view is place = subst (λ (x : School _). part_list (lists_in x) (u % length x.parts) ≡ s.held.list) view
+    (ap (part_list (lists_in a)) place ∙ rw (held_there a.parts k s is) refl)
+
+pub still_lists : {K : Type 0} (l : School K) (c : records.Keeping K) (ss : List (part.Keeping K)) (k : ℕ) (s g : part.Keeping K) → let a : School K = record { catalog = c; parts = ss } in a ≡ l → slice_get ss k ≡ Some s → g.held ≡ s.held → let b : School K = record { catalog = c; parts = slice_set ss k g } in lists_in b ≡ lists_in l
+still_lists l c ss k s g view is same =
+    let a : School _ = record { catalog = c; parts = ss } in
+    lists_part c ss k g
+    ∙ (ap (with_part (lists_in a) k) same
+    ∙ (ap (λ (hs : List Held). let x : Lists = record { records = c.held; parts = hs } in x) (set_same (held_of ss) k s.held (held_there ss k s is))
+    ∙ ap lists_in view))

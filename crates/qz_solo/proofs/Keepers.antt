@@ -1,5 +1,5 @@
 -- The keepers of a school, as one or another of them serves a call.
-use Rattle.std.proofs.Common.{◌≡◌, ◌⊎◌, inl, inr, ℕ, zero, suc, ◌+◌, ◌<◌, ◌≤◌, List, [], ◌∷◌, Some, None, Option, refl, sym, ap, ◌∙◌, subst, arith}
+use Rattle.std.proofs.Common.{◌≡◌, ◌⊎◌, inl, inr, ℕ, zero, suc, ◌+◌, ◌≤◌, List, [], ◌∷◌, Some, refl, ap, ◌∙◌, subst, arith}
 use Rattle.std.specs.Prelude.{slice_get, slice_set, sum_by}
 use Rattle.std.proofs.lemmas.List.Sums.{sum_by-cons}
 use Rattle.qz_catalog.specs.Keeping as records
@@ -82,10 +82,10 @@ pub fails_part : {K : Type 0} (sound : K → Type 0) (faults : K → ℕ) (c : r
     → Fails sound faults (record { catalog = c; parts = ss }) (record { catalog = c; parts = slice_set ss k g })
 fails_part sound faults c ss k s g is why = record {
   rose = λ few.
-    let sum = sum_set (λ s. faults s.keeper) ss k s g is in
-    let within = own_sum (λ s. faults s.keeper) (slice_set ss k g) k g (set_get ss k s g is) in
-    let more = why.rose (omega arith) in
-    omega arith;
+      let sum = sum_set (λ s. faults s.keeper) ss k s g is in
+      let within = own_sum (λ s. faults s.keeper) (slice_set ss k g) k g (set_get ss k s g is) in
+      let more = why.rose (omega arith) in
+      omega arith;
   unsound = λ still. why.unsound (still.parts k s is);
 }
   where

@@ -1,11 +1,15 @@
 -- The marks of an attempt, as a manager's page shows them.
-use Rattle.std.proofs.Common.{◌≡◌, ◌⊎◌, inl, inr, ℕ, true, false, List, [], ◌∷◌, ◌++◌, Option, Some, None, map, refl, sym, ap, ◌∙◌, eq-eqb, take, length, append_assoc, ◌+◌, ◌<◌}
+use Rattle.std.proofs.Common.{◌≡◌, ◌⊎◌, inl, inr, ℕ, true, false, List, [], ◌∷◌, ◌++◌, Option, Some, None, OnOk, Result, Ok, Err, map, refl, sym, ap, ◌∙◌, eq-eqb, take, length, append_assoc, ◌+◌, ◌<◌}
 use Rattle.std.specs.Prelude.{ℤ, filter_map, get_or, is_none, is_some, option_to_list}
 use Rattle.std.proofs.lemmas.List.{take_more}
 use Rattle.std.proofs.lemmas.List.Elements.{filter_map-append}
 use Rattle.qz_grading.specs.declared.refusal.AttemptId.{AttemptId}
+use Rattle.qz_grading.specs.declared.refusal.Refusal.{Refusal}
 use Rattle.qz_grading.specs.declared.refusal.Refusal.TheVariants as refusal
+use Rattle.qz_keeper.specs.Lists.{Looks}
+use Rattle.qz_serial.proofs.Composing.{calls_mean, looks_compose}
 use Rattle.qz_shard.specs.Holdings.{Answers}
+use Rattle.qz_shard.specs.Keeping.{CallsFor, IsSeen, Replies, TellsQuiz}
 use Rattle.qz_terms.specs.declared.ask.Ask.{Ask}
 use Rattle.qz_terms.specs.declared.people.Role.TheVariants as role
 use Rattle.qz_terms.specs.declared.people.User.{User}
@@ -18,11 +22,12 @@ use Rattle.qz_terms.specs.declared.reply.Reply.TheVariants as reply
 use Rattle.qz_terms.specs.declared.reply.Shown.{Shown}
 use Rattle.qz_terms.specs.declared.reply.Shown.TheVariants as shown
 use Rattle.qz_terms.specs.declared.request.Request.TheVariants as request
-use Rattle.qz_terms.specs.Answer.{answer_here, due_now}
+use Rattle.qz_terms.specs.Answer.{answer_here, due_now, list_after}
 use Rattle.qz_terms.specs.History.{Slot, Start}
 use Rattle.qz_terms.specs.History as history
 use Rattle.qz_terms.specs.Legal.{is_plan_for}
 use Rattle.qz_terms.specs.Parts.{part}
+use Rattle.qz_terms.specs.Serial.{Held}
 use Rattle.qz_solo.specs.Marks.{marks_of, shown_by, shown_mark}
 
 some-none : {A : Type 0} (o : Option A) → is_some o ≡ true → is_none o ≡ false
@@ -87,3 +92,28 @@ more_shown front ps i d there =
     let one = shown-one (get_or ps i d).mark (get_or ps i d) refl in
     append_assoc front (filter_map shown_mark (take i ps)) (option_to_list (shown_by (get_or ps i d).mark))
     ∙ ap (λ (ms : List ℤ). front ++ ms) (sym (ap (filter_map shown_mark) (take_more ps i d there) ∙ (filter_map-append shown_mark (take i ps) (get_or ps i d ∷ []) ∙ ap (λ (ms : List ℤ). filter_map shown_mark (take i ps) ++ ms) one)))
+
+-- ---- lists of which no record is in doubt
+
+pub look_still : (failed : Type 0) (index count now : ℕ) (user : User) (plan : Plan) (ask : Ask) (old new : Held) (told : Reply) → old.doubt ≡ None → Replies failed (IsSeen index count now user plan ask) old new told → (new ≡ old) × Answers old.list now user plan ask told old.list
+look_still failed index count now user plan ask old new told clear call =
+    let says = λ (h : List Record) (t : Reply). (t ≡ answer_here h now user plan ask) × (h ≡ list_after h now user plan ask) in
+    let looks = (calls_mean failed failed reply.Refused (IsSeen index count now user plan ask) (Looks says)).each old new told (λ why. why) (λ h t g is. ((is.answered.reply, sym is.same ∙ is.answered.list), is.same)) call in
+    let still = (looks_compose failed reply.Refused says).still old new told clear looks in
+    (still.0, elim still.1 [ inl both ↦ inl both | inr memory ↦ inr (memory, refl) ])
+
+pub quiz_still : (failed : Type 0) (a : AttemptId) (old new : Held) (told : Result ℕ Refusal) → old.doubt ≡ None → CallsFor failed (TellsQuiz a) old new told → (new ≡ old) × (TellsQuiz a old.list told ⊎ (told ≡ Err refusal.Memory))
+quiz_still failed a old new told clear call = (looks_compose failed (λ r. Err r) (TellsQuiz a)).still old new told clear call
+
+-- an attempt that isn't there, where memory wasn't wanting
+pub quiz_none : (a : AttemptId) (h : List Record) (r : Refusal) → TellsQuiz a h (Err r) ⊎ (◌≡◌ {A = Result ℕ Refusal} (Err r) (Err refusal.Memory)) → (r ≡ refusal.Memory → ⊥) → history.quiz h a ≡ None
+quiz_none a h r (inl none) other = none.0
+quiz_none a h r (inr memory) other = absurd (other cc)
+
+pub quiz_some : (a : AttemptId) (h : List Record) (q : ℕ) → TellsQuiz a h (Ok q) ⊎ (◌≡◌ {A = Result ℕ Refusal} (Ok q) (Err refusal.Memory)) → history.quiz h a ≡ Some q
+quiz_some a h q (inl is) = is
+quiz_some a h q (inr memory) = absurd cc
+
+pub map_ok : {T E A B : Type 0} (r : Result T E) → OnOk r A → (A → B) → OnOk r B
+map_ok (Ok x) is to = to is
+map_ok (Err e) is to = is

@@ -17,7 +17,7 @@ use Rattle.qz_terms.specs.declared.reply.Reply.TheVariants as reply
 use Rattle.qz_terms.specs.declared.request.Request.{Request}
 use Rattle.qz_terms.specs.declared.request.Request.TheVariants as request
 use Rattle.qz_terms.specs.Answer.{answer_here, attempt_named, list_after, named_user}
-use Rattle.qz_terms.specs.SchoolAnswer.{after_by, answer_by, first_refusal, plan_for, user_after, user_answer}
+use Rattle.qz_terms.specs.SchoolAnswer.{after_by, answer_by, first_refusal, plan_for}
 use Rattle.qz_terms.specs.Catalog as catalog
 use Rattle.qz_terms.specs.Cause.{forbidden, missing_in, missing_quiz, missing_user}
 use Rattle.qz_terms.specs.History as history

@@ -1,5 +1,5 @@
 -- The grades of a quiz over all shards, in order of user.
-use Rattle.std.proofs.Common.{◌≡◌, ◌⊎◌, inl, inr, ℕ, zero, suc, ◌+◌, ◌<◌, ◌≤◌, ◌-◌, ◌%◌, Bool, true, false, ◌&&◌, List, [], ◌∷◌, ◌++◌, Option, Some, None, Result, Ok, Err, IfErr, IfOk, map, option_map, length, take, get_or, refl, sym, ap, ◌∙◌, subst, append-nil, append_assoc, arith}
+use Rattle.std.proofs.Common.{◌≡◌, ◌⊎◌, inl, inr, ℕ, zero, suc, ◌+◌, ◌<◌, ◌≤◌, ◌-◌, ◌%◌, Bool, true, false, ◌&&◌, List, [], ◌∷◌, ◌++◌, Option, Some, None, Result, Ok, Err, map, option_map, length, take, get_or, refl, sym, ap, ◌∙◌, subst, append-nil, append_assoc, arith}
 use Rattle.std.specs.BTreeMap.{insert_entry}
 use Rattle.std.specs.List.{AllZip, list_all}
 use Rattle.std.specs.Ordering.{nat_cmp}
@@ -28,15 +28,14 @@ use Rattle.qz_terms.specs.declared.reply.Done.TheVariants as done
 use Rattle.qz_terms.specs.declared.reply.Reply.{Reply}
 use Rattle.qz_terms.specs.declared.reply.Reply.TheVariants as reply
 use Rattle.qz_terms.specs.declared.reply.Row.{Row}
-use Rattle.qz_terms.specs.declared.request.Request.{Request}
 use Rattle.qz_terms.specs.declared.request.Request.TheVariants as request
 use Rattle.qz_terms.specs.Catalog as catalog
 use Rattle.qz_terms.specs.Cause.{forbidden, missing_quiz}
 use Rattle.qz_terms.specs.History as history
 use Rattle.qz_terms.specs.Legal.{AllAgree, IsLegal, is_here, owner_by}
 use Rattle.qz_terms.specs.Lists.{in_order, only_if, placed}
-use Rattle.qz_terms.specs.SchoolAnswer.{first_refusal, refusal_among, report_answer, report_row, report_rows}
-use Rattle.qz_terms.specs.Serial.{Held, Lists, Mended, lists_of, stays}
+use Rattle.qz_terms.specs.SchoolAnswer.{first_refusal, report_answer, report_row, report_rows}
+use Rattle.qz_terms.specs.Serial.{Held, Lists, Mended, lists_of}
 use Rattle.qz_serial.specs.Calls.{LookEnds, looked, unlooked, unread}
 use Rattle.qz_serial.specs.Once.{AskedOnce}
 use Rattle.qz_serial.specs.Paths.{IsKnown}
@@ -46,7 +45,7 @@ use Rattle.qz_serial.proofs.Reports.{one_more, one_zip, reports_law}
 use Rattle.qz_serial.proofs.Seats.{set_apart, set_get}
 use Rattle.qz_solo.specs.Answering.{IsServed, MayBeAsked, PartLooks}
 use Rattle.qz_solo.specs.Reports.{PartsRead, RowsAre, RowsStop, all_rows, named_row, rows_in, rows_in_order, short, untold}
-use Rattle.qz_solo.specs.Solos.{Fails, GoOn, IsSolo, School, held_of, lists_in}
+use Rattle.qz_solo.specs.Solos.{Fails, IsSolo, School, held_of, lists_in}
 use Rattle.qz_solo.proofs.Calls.{look_told, stands_mended}
 use Rattle.qz_solo.proofs.Keepers.{fails_part, fails_then, get_set, go_both, go_none, go_part}
 use Rattle.qz_solo.proofs.Serving.{askable}
@@ -231,7 +230,6 @@ pub put_all : (rows rest entries : List (ℕ × Option ℤ)) → ArePut rows res
 put_all rows [] entries so_far none = so_far.put ∙ ap rows_in_order (sym so_far.split)
 put_all rows (r ∷ rest) entries so_far none = absurd (omega arith)
 
-
 -- ---- the shards that are read
 
 pub read_none : {K : Type 0} (sound : K → Type 0) (faults : K → ℕ) (ss : List (part.Keeping K)) → PartsRead sound faults 0 ss ss
@@ -326,18 +324,18 @@ read_solo c ss gs solo mends same =
       some = rw long solo.some;
       placed = record {
         each = λ k g there.
-          let inside : k < length ss = subst (λ (n : ℕ). k < n) long (slice_get_within gs k g there) in
-          let own = get-some ss k inside in
-          let place = solo.placed.each k own.0 own.1 in
-          let is = same k own.0 g own.1 there in
-          (is.index ∙ place.0, is.count ∙ (place.1 ∙ sym long));
+            let inside : k < length ss = subst (λ (n : ℕ). k < n) long (slice_get_within gs k g there) in
+            let own = get-some ss k inside in
+            let place = solo.placed.each k own.0 own.1 in
+            let is = same k own.0 g own.1 there in
+            (is.index ∙ place.0, is.count ∙ (place.1 ∙ sym long));
       };
       founded = solo.founded ∙ ap (λ (n : ℕ). Some n) (sym long);
       agree = record {
         each = λ k g there.
-          let inside : k < length ss = subst (λ (n : ℕ). k < n) long (slice_get_within gs k g there) in
-          let own = get-some ss k inside in
-          stands_mended (AllAgree c.held.list) own.0.held g.held (zip-at (held_of ss) (held_of gs) k own.0.held g.held mends (held_there ss k own.0 own.1) (held_there gs k g there)) (solo.agree.each k own.0 own.1);
+            let inside : k < length ss = subst (λ (n : ℕ). k < n) long (slice_get_within gs k g there) in
+            let own = get-some ss k inside in
+            stands_mended (AllAgree c.held.list) own.0.held g.held (zip-at (held_of ss) (held_of gs) k own.0.held g.held mends (held_there ss k own.0 own.1) (held_there gs k g there)) (solo.agree.each k own.0 own.1);
       };
     }
 
@@ -450,13 +448,13 @@ own-by ss k h (Some s) is at =
 pub each_legal : {K : Type 0} (sound : K → Type 0) (faults : K → ℕ) (c : records.Keeping K) (quiz : ℕ) (policy : Policy) (ss gs : List (part.Keeping K)) (rows : List (ℕ × Option ℤ)) → IsSolo c gs → RowsAre sound faults quiz policy ss gs rows → EachLegal (lists_of (held_of gs))
 each_legal sound faults c quiz policy ss gs rows solo are = record {
   legal = λ k h at.
-    let own = own-by gs k h (slice_get gs k) refl at in
-    let s = own.own in
-    let there = own.there in
-    let place = solo.placed.each k s there in
-    let long : length (lists_of (held_of gs)) ≡ length gs = length-map (held_of gs) (λ (x : Held). x.list) ∙ count_held gs in
-    let inside : k < length ss = subst (λ (n : ℕ). k < n) (count_read sound faults (length ss) ss gs are.read) (slice_get_within gs k s there) in
-    let legal = are.read.legal k s inside there in
-    subst (IsLegal k (length (lists_of (held_of gs)))) own.list_is
-    (subst (λ (i : ℕ). IsLegal i (length (lists_of (held_of gs))) s.held.list) place.0 (subst (λ (n : ℕ). IsLegal s.index n s.held.list) (place.1 ∙ sym long) legal));
+      let own = own-by gs k h (slice_get gs k) refl at in
+      let s = own.own in
+      let there = own.there in
+      let place = solo.placed.each k s there in
+      let long : length (lists_of (held_of gs)) ≡ length gs = length-map (held_of gs) (λ (x : Held). x.list) ∙ count_held gs in
+      let inside : k < length ss = subst (λ (n : ℕ). k < n) (count_read sound faults (length ss) ss gs are.read) (slice_get_within gs k s there) in
+      let legal = are.read.legal k s inside there in
+      subst (IsLegal k (length (lists_of (held_of gs)))) own.list_is
+      (subst (λ (i : ℕ). IsLegal i (length (lists_of (held_of gs))) s.held.list) place.0 (subst (λ (n : ℕ). IsLegal s.index n s.held.list) (place.1 ∙ sym long) legal));
 }

@@ -1,5 +1,5 @@
 -- How a school serves a user with a token, by what its calls at single lists came to.
-use Rattle.std.proofs.Common.{◌≡◌, ◌⊎◌, inl, inr, ℕ, ◌<◌, ◌≤◌, ◌%◌, true, false, List, [], ◌∷◌, Option, Some, None, Result, Ok, Err, MatchResult, length, refl, sym, ap, ◌∙◌, subst}
+use Rattle.std.proofs.Common.{◌≡◌, ◌⊎◌, inl, inr, ℕ, ◌%◌, true, false, List, Some, None, Result, Ok, Err, MatchResult, length, refl, sym, ap, ◌∙◌, subst}
 use Rattle.std.specs.Prelude.{slice_get, slice_set}
 use Rattle.qz_catalog.specs.Keeping as records
 use Rattle.qz_grading.specs.declared.refusal.Refusal.{Refusal}
@@ -19,7 +19,7 @@ use Rattle.qz_terms.specs.Answer.{named_user}
 use Rattle.qz_terms.specs.CatalogAnswer.{asks_catalog}
 use Rattle.qz_terms.specs.Cause.{forbidden}
 use Rattle.qz_terms.specs.SchoolAnswer.{first_refusal, part_of, refusal_among}
-use Rattle.qz_terms.specs.Serial.{Asks, Held, Lists, Mended, Turn, reads_catalog, stays}
+use Rattle.qz_terms.specs.Serial.{Asks, Held, Lists, Mended, reads_catalog, stays}
 use Rattle.qz_serial.specs.Calls.{CatalogAnswers, ShardAnswers}
 use Rattle.qz_serial.specs.Once.{AskedOnce}
 use Rattle.qz_serial.specs.Paths.{FindsUser, IsAskable, IsGoing, IsKnown, goes_to_part, with_records}
@@ -28,7 +28,7 @@ use Rattle.qz_serial.proofs.Composing.{calls_mean, mended_same}
 use Rattle.qz_serial.proofs.Tokens.{tokens_law}
 use Rattle.qz_solo.specs.Answering.{IsServed, MayBeAsked, PartAnswers, PartTells, Serves}
 use Rattle.qz_solo.specs.Planning.{asks_shard}
-use Rattle.qz_solo.specs.Solos.{Fails, GoOn, IsSolo, School, held_of, lists_in}
+use Rattle.qz_solo.specs.Solos.{Fails, IsSolo, School, held_of, lists_in}
 use Rattle.qz_solo.proofs.Keepers.{fails_part, fails_records, fails_then, go_both, go_none, go_part, go_records}
 use Rattle.qz_solo.proofs.Standing.{count_held, held_there, lists_both}
 

@@ -1,6 +1,6 @@
 -- How a school serves a worker, by what its calls at single lists came to.
-use Rattle.std.proofs.Common.{◌≡◌, ◌⊎◌, inl, inr, ℕ, ◌<◌, ◌≤◌, ◌%◌, true, false, List, [], ◌∷◌, ◌++◌, Option, Some, None, IfSome, Result, Ok, Err, MatchResult, length, refl, sym, ap, ◌∙◌, subst}
-use Rattle.std.specs.Prelude.{is_none, is_some, option_map, slice_get, slice_set}
+use Rattle.std.proofs.Common.{◌≡◌, ℕ, ◌≤◌, ◌%◌, true, false, List, [], ◌∷◌, ◌++◌, Option, Some, None, IfSome, Result, Ok, Err, MatchResult, length, refl, sym, ap, ◌∙◌, subst}
+use Rattle.std.specs.Prelude.{is_some, option_map, slice_get, slice_set}
 use Rattle.qz_catalog.specs.Applying.{IsAsked}
 use Rattle.qz_catalog.specs.Keeping as records
 use Rattle.qz_grading.specs.declared.refusal.AttemptId.{AttemptId}
@@ -27,12 +27,11 @@ use Rattle.qz_terms.specs.Catalog.{worker}
 use Rattle.qz_terms.specs.Cause.{forbidden, may_ask, missing_in, missing_quiz, missing_user, rule_of}
 use Rattle.qz_terms.specs.History as history
 use Rattle.qz_terms.specs.Legal.{AllAgree, IsLegalCatalog}
-use Rattle.qz_terms.specs.SchoolAnswer.{plan_for}
-use Rattle.qz_terms.specs.Serial.{AllMended, Asks, Held, Lists, Mended, no_memory, stays}
+use Rattle.qz_terms.specs.Serial.{Asks, Held, Lists, no_memory, stays}
 use Rattle.qz_serial.specs.Calls.{CatalogAnswers, ShardAnswers}
 use Rattle.qz_serial.specs.Once.{AskedOnce}
-use Rattle.qz_serial.specs.Paths.{with_both, with_part, with_records}
-use Rattle.qz_serial.specs.Workers.{FindsJob, FindsPlan, FindsQuiz, IsWorkers}
+use Rattle.qz_serial.specs.Paths.{with_both, with_part}
+use Rattle.qz_serial.specs.Workers.{FindsJob, FindsPlan, IsWorkers}
 use Rattle.qz_serial.proofs.Acting.{asked_once}
 use Rattle.qz_serial.proofs.Composing.{calls_mean, look_ends, looks_are_calls}
 use Rattle.qz_serial.proofs.Seats.{all_stay, set_get, set_twice}
@@ -241,7 +240,7 @@ quiz_unsettled sound faults c ss now ask attempt k s m r w call =
     let worse = Fails sound faults a b in
     let says = Looks (part.TellsQuiz attempt) in
     let once = (settling_law worse).quiz (lists_in a) s.held m.held now ask attempt (Err r) (settles c ss ask now attempt k s w) (own-held c ss ask now attempt k s w)
-        ((calls_mean failed worse (λ r. Err r) says says).each s.held m.held (Err r) (fails_part sound faults c ss k s m w.there) (λ h t l x. x) call.call) in
+    ((calls_mean failed worse (λ r. Err r) says says).each s.held m.held (Err r) (fails_part sound faults c ss k s m w.there) (λ h t l x. x) call.call) in
     record {
       once = subst (λ (l : Lists). AskedOnce worse (lists_in a) l now ask (reply.Refused r)) (ap (λ (j : ℕ). with_part (lists_in a) j m.held) (own-place c ss ask now attempt k s w) ∙ sym (lists_part c ss k m)) once;
       goes_on = go_part sound faults c ss k s m w.there call.goes_on;
@@ -279,7 +278,7 @@ plan_unsettled sound faults c d ss now ask attempt q k s m r w found on agree ca
     let says = Looks (records.TellsPlan q attempt.user false) in
     let other = (calls_mean failed worse (λ r. Err r) says says).each c.held d.held (Err r) (λ why. fails_then sound faults a n b go (fails_records sound faults c d ms why)) (λ h t l x. x) call.call in
     let once = (settling_law worse).plan (lists_in a) s.held m.held d.held now ask attempt (Err r) (settles c ss ask now attempt k s w) (own-held c ss ask now attempt k s w) found.settled (some-start m.held.list attempt q (history.start m.held.list attempt) refl found.of_quiz)
-        (plan-call worse c d m.held.list ask.request attempt q r agree found.of_quiz other) in
+    (plan-call worse c d m.held.list ask.request attempt q r agree found.of_quiz other) in
     record {
       once = subst (λ (l : Lists). AskedOnce worse (lists_in a) l now ask (reply.Refused r)) (ap (λ (j : ℕ). with_both (lists_in a) d.held j m.held) (own-place c ss ask now attempt k s w) ∙ sym (lists_both c d ss k m)) once;
       goes_on = go_both sound faults a n b go (go_records sound faults c d ms call.goes_on);
@@ -331,6 +330,7 @@ asks_jobs k user ask moment who may by is = record { without = each k.list; with
   where
     each : (c : List Record) → IsAsked c user ask moment
     each c = record { keyed = may.keyed; of_catalog = rw is refl; by_user = rw (by, who) refl; kept_request = may.kept; described = may.described; kept_moment = may.moment_kept }
+
     more : (l : List Record) (o : Option Record) → IfSome o (λ r. IsAsked (l ++ r ∷ []) user ask moment)
     more l None = tt
     more l (Some r) = each (l ++ r ∷ [])

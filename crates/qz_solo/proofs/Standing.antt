@@ -1,9 +1,9 @@
 -- What a school keeps, as its lists change.
-use Rattle.std.proofs.Common.{◌≡◌, ◌⊎◌, inl, inr, ℕ, ◌+◌, ◌<◌, ◌≤◌, ◌%◌, true, List, [], ◌∷◌, ◌++◌, Option, Some, None, IfSome, Result, Err, length, map, get_or, refl, sym, ap, ◌∙◌, subst, arith, eq-eqb}
+use Rattle.std.proofs.Common.{◌≡◌, inl, inr, ℕ, ◌<◌, ◌%◌, true, List, ◌++◌, Some, Result, Err, length, get_or, refl, sym, ap, ◌∙◌, subst, eq-eqb}
 use Rattle.std.specs.Prelude.{filter_map, slice_get, slice_set}
 use Rattle.std.proofs.lemmas.List.{length-map, length-set, map-set}
 use Rattle.std.proofs.lemmas.List.Elements.{filter_map-append}
-use Rattle.std.proofs.lemmas.Option.{slice_get-map, slice_get_read, slice_get_within}
+use Rattle.std.proofs.lemmas.Option.{slice_get-map, slice_get_read}
 use Rattle.qz_catalog.specs.Keeping as records
 use Rattle.qz_grading.specs.declared.refusal.AttemptId.{AttemptId}
 use Rattle.qz_grading.specs.declared.refusal.Refusal.{Refusal}
@@ -25,7 +25,7 @@ use Rattle.qz_serial.proofs.Growing.{Grows, grown_records}
 use Rattle.qz_serial.proofs.Seats.{set_get}
 use Rattle.qz_serial.specs.Paths.{with_both, with_part, with_records}
 use Rattle.qz_solo.specs.Answering.{PartAnswers, PartLooks}
-use Rattle.qz_solo.specs.Solos.{AgreeAll, ArePlaced, IsSolo, School, held_of, lists_in}
+use Rattle.qz_solo.specs.Solos.{IsSolo, School, held_of, lists_in}
 use Rattle.qz_solo.proofs.Calls.{call_grows, look_grows, look_stands, stand_as}
 use Rattle.qz_solo.proofs.Keepers.{get_set}
 

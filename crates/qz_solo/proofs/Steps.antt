@@ -1,10 +1,8 @@
 -- The attempts of a shard that go on, and steps of jobs, in a school.
-use Rattle.std.proofs.Common.{◌≡◌, ◌⊎◌, inl, inr, ℕ, ◌<◌, ◌≤◌, true, false, List, Option, Some, None, length, refl, sym, ap, ◌∙◌, subst, arith}
-use Rattle.std.specs.Prelude.{is_none, is_some, nat_le, option_and_then, slice_get}
+use Rattle.std.proofs.Common.{◌≡◌, ◌⊎◌, inl, inr, ℕ, ◌<◌, ◌≤◌, true, false, List, Option, Some, None, refl, sym, ◌∙◌, arith}
+use Rattle.std.specs.Prelude.{is_none, is_some, nat_le, option_and_then}
 use Rattle.std.proofs.lemmas.Bool.Decides.{nat_tests}
-use Rattle.std.proofs.lemmas.Option.{slice_get_within}
 use Rattle.qz_catalog.specs.Keeping.{IsJob}
-use Rattle.qz_grading.specs.declared.question.Question.{Question}
 use Rattle.qz_grading.specs.declared.refusal.AttemptId.{AttemptId}
 use Rattle.qz_grading.specs.declared.refusal.Refusal.{Refusal}
 use Rattle.qz_grading.specs.declared.refusal.Refusal.TheVariants as refusal
@@ -20,16 +18,15 @@ use Rattle.qz_terms.specs.declared.people.User.{User}
 use Rattle.qz_terms.specs.declared.plan.Job.{Job}
 use Rattle.qz_terms.specs.declared.record.Record.{Record}
 use Rattle.qz_terms.specs.declared.reply.Reply.{Reply}
-use Rattle.qz_terms.specs.declared.reply.Reply.TheVariants as reply
 use Rattle.qz_terms.specs.declared.request.Request.{Request}
 use Rattle.qz_terms.specs.declared.request.Request.TheVariants as request
 use Rattle.qz_terms.specs.Answer.{live_answer}
 use Rattle.qz_terms.specs.Catalog as catalog
 use Rattle.qz_terms.specs.CatalogAnswer.{asks_catalog}
-use Rattle.qz_terms.specs.Cause.{forbidden, missing_in, missing_shard}
-use Rattle.qz_terms.specs.Kept.{IsKeptPlan, is_moment}
+use Rattle.qz_terms.specs.Cause.{forbidden, missing_in}
+use Rattle.qz_terms.specs.Kept.{is_moment}
 use Rattle.qz_terms.specs.Legal.{AllAgree, IsLegalCatalog}
-use Rattle.qz_terms.specs.SchoolAnswer.{first_refusal, part_of, refusal_among}
+use Rattle.qz_terms.specs.SchoolAnswer.{first_refusal, refusal_among}
 use Rattle.qz_school.proofs.Working.{working_law}
 use Rattle.qz_serial.specs.Calls.{ShardAnswers}
 use Rattle.qz_solo.specs.Answering.{PartAnswers}

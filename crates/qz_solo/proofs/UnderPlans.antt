@@ -5,13 +5,11 @@ use Rattle.qz_catalog.specs.Keeping.{IsPlan}
 use Rattle.qz_grading.specs.declared.refusal.AttemptId.{AttemptId}
 use Rattle.qz_grading.specs.declared.refusal.Refusal.{Refusal}
 use Rattle.qz_grading.specs.declared.refusal.Refusal.TheVariants as refusal
-use Rattle.qz_grading.specs.declared.refusal.Thing.TheVariants as thing
 use Rattle.qz_grading.specs.Behaviours.{first_some}
-use Rattle.qz_keeper.specs.Lists.{EachMayStand, IsSettled, Looks, OneCall, no_memory}
+use Rattle.qz_keeper.specs.Lists.{EachMayStand, IsSettled, no_memory}
 use Rattle.qz_keeper.specs.Recording.{GoesOn, HasFailed}
 use Rattle.qz_keeper.proofs.Calls.{goes_both}
 use Rattle.qz_shard.specs.Answering.{IsAnswered}
-use Rattle.qz_shard.specs.Holdings.{Holding}
 use Rattle.qz_shard.specs.Keeping as part
 use Rattle.qz_terms.specs.declared.ask.Ask.{Ask}
 use Rattle.qz_terms.specs.declared.people.User.{User}
@@ -29,16 +27,16 @@ use Rattle.qz_terms.specs.Cause.{forbidden, missing_quiz, missing_user}
 use Rattle.qz_terms.specs.History as history
 use Rattle.qz_terms.specs.Legal.{AllAgree, IsLegal, IsLegalCatalog}
 use Rattle.qz_terms.specs.SchoolAnswer.{after_by, first_refusal, plan_for, shard_after, user_after}
-use Rattle.qz_terms.specs.Serial.{Held, Mended}
+use Rattle.qz_terms.specs.Serial.{Held}
 use Rattle.qz_school.proofs.Putting.{agreeing_law}
 use Rattle.qz_school.proofs.Working.{working_law}
 use Rattle.qz_serial.specs.Calls.{ShardAnswers}
 use Rattle.qz_serial.proofs.Composing.{after_settled, calls_mean, look_ends, looks_are_calls}
 use Rattle.qz_solo.specs.Answering.{IsPosed, MayBeAsked, PartAnswers, PartLooks}
-use Rattle.qz_solo.specs.Planning.{ArePlanned, IsPlanned, asks_shard}
+use Rattle.qz_solo.specs.Planning.{ArePlanned, IsPlanned}
 use Rattle.qz_solo.proofs.Calls.{call_stands, look_stands, look_told, means_there, stand_as, stand_both, stands_alone, stands_mended}
 use Rattle.qz_solo.proofs.Keepers.{failed_then}
-use Rattle.qz_solo.proofs.Planning.{absent_means, named_kind, plan_there, planned_means, plans_named}
+use Rattle.qz_solo.proofs.Planning.{absent_means, plan_there, planned_means, plans_named}
 
 -- ---- what a shard's answer leaves agrees
 

@@ -5,7 +5,6 @@ use Rattle.qz_keeper.specs.Lists.{Looks, OneCall}
 use Rattle.qz_keeper.specs.Recording.{GoesOn, HasFailed}
 use Rattle.qz_record.specs.Lengths.{NamesBriefly}
 use Rattle.qz_serial.specs.Once.{AskedOnce}
-use Rattle.qz_shard.specs.Answering.{IsAnswered}
 use Rattle.qz_shard.specs.Holdings.{IsAsked, StartsHere, older}
 use Rattle.qz_shard.specs.Keeping as part
 use Rattle.qz_terms.specs.declared.ask.Ask.{Ask}

@@ -1,7 +1,7 @@
 -- A report, over several shards: its rows, and what reading them does to the shards.
 use Rattle.std.specs.BTreeMap.{insert_entry}
 use Rattle.std.specs.Ordering.{nat_cmp}
-use Rattle.std.specs.Prelude.{◌≡◌, ℕ, ◌<◌, ℤ, List, [], ◌∷◌, length, take, Option, Some, flat_map, map, slice_get, slice_set, unwrap_or, Result, Err}
+use Rattle.std.specs.Prelude.{◌≡◌, ℕ, ◌<◌, ℤ, List, [], ◌∷◌, length, Option, Some, flat_map, map, slice_get, slice_set, unwrap_or, Err}
 use Rattle.qz_catalog.specs.Keeping as records
 use Rattle.qz_grading.specs.declared.refusal.Refusal.{Refusal}
 use Rattle.qz_grading.specs.declared.refusal.Refusal.TheVariants as refusal

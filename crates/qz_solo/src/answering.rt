@@ -160,7 +160,15 @@ impl<K: Keeper> Solo<K> {
     {
         let index = attempt.user as usize % self.shards.len();
         let shard = &mut self.shards[index];
-        told_of_attempt(self.catalog.core(), shard, alloc, user, attempt, ask, moment)
+        told_of_attempt(
+            self.catalog.core(),
+            shard,
+            alloc,
+            user,
+            attempt,
+            ask,
+            moment,
+        )
     }
 
     /// The reply to a request for the attempts of a shard that go on.

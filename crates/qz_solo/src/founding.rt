@@ -25,7 +25,8 @@ pub(crate) fn founded(alloc: Global, shards: u8, token: &Text) -> Result<Catalog
     match Catalog::load(alloc, Unkept, &payloads) {
         Ok(catalog) => Ok(catalog),
         Err((_, Some(ListFault::Memory))) => Err(NoMemory),
-        Err((_, Some(ListFault::Illegal { .. }) | None)) => unreachable!(),
+        Err((_, Some(ListFault::Illegal { .. }))) => unreachable!(),
+        Err((_, None)) => unreachable!(),
     }
 }
 

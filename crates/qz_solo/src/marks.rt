@@ -4,6 +4,7 @@ ghost use Rattle.std.specs.Prelude.{◌≡◌, ◌<◌, ◌++◌, IfOk, OnOk, No
 ghost use Rattle.qz_grading.specs.declared.refusal.Refusal.TheVariants as refusal;
 ghost use Rattle.qz_catalog.specs.Holdings.{lean};
 ghost use Rattle.qz_grading.specs.Behaviours.{first_some};
+ghost use Rattle.qz_shard.specs.Holdings.{Answers, IsAsked, is_look};
 ghost use Rattle.qz_shard.specs.Keeping.{IsSamePart};
 ghost use Rattle.qz_terms.specs.declared.reply.Part.{Part};
 ghost use Rattle.qz_terms.specs.Catalog.{plan};
@@ -12,12 +13,14 @@ ghost use Rattle.qz_terms.specs.History.{quiz, slots, start};
 ghost use Rattle.qz_terms.specs.Legal.{AllAgree, is_plan_for};
 ghost use Rattle.qz_terms.specs.Kept.{IsKeptPlan};
 ghost use Rattle.qz_terms.specs.Parts.{part};
+ghost use Rattle.qz_solo.specs.Memory.{is_memory};
 ghost use Rattle.qz_solo.specs.Marks.{marks_of, shown_by, shown_mark};
 
+use crate::memory::is_memory;
 use qz_catalog::CatalogCore;
 use qz_decimal::Mark;
-use qz_grading::{AttemptId, Refusal, Steps};
 use qz_disks::Keeper;
+use qz_grading::{AttemptId, Refusal, Steps};
 use qz_shard::Shard;
 use qz_terms::{Ask, Caller, Done, Part, Plan, Reply, Request, Role, Shown, User};
 use qz_text::{Listed, NoMemory, Text};
@@ -37,17 +40,37 @@ fn manager(alloc: Global) -> Result<User, NoMemory>
     })
 }
 
-/// What a manager is shown of the slots of an attempt.
-fn parts<K: Keeper, L: Ledger>(
+/// The reply to a request that only looks at a shard of which no record is in doubt. None of its gradings is counted.
+fn looked<K: Keeper, L: Ledger>(
     blank: Blank,
+    shard: &mut Shard<K>,
+    alloc: Global,
+    user: &User,
+    plan: &Plan,
+    ask: &Ask,
+) -> Reply
+    requires name { blank.name ≡ L.name }
+    requires parts { blank.parts ≡ L.parts }
+    requires some_part { 0 < blank.parts }
+    requires clear { shard.old.held.doubt ≡ None }
+    requires look { is_look ask.now.request ≡ true }
+    requires asked { IsAsked shard.old.held.list plan.now ask.now 1000 }
+    ensures told { Answers shard.old.held.list 1000 user.now plan.now ask.now result
+        shard.old.held.list }
+    ensures held { shard.new.held ≡ shard.old.held }
+    ensures shard { IsSamePart shard.old shard.new }
+{
+    let mut steps = Steps::<L>::open(blank);
+    shard.look(alloc, user, plan, ask, 1000, &mut steps)
+}
+
+/// What a manager is shown of the slots of an attempt.
+fn parts<K: Keeper>(
     shard: &mut Shard<K>,
     alloc: Global,
     plan: &Plan,
     attempt: AttemptId,
 ) -> Result<Listed<Part>, NoMemory>
-    requires name { blank.name ≡ L.name }
-    requires parts { blank.parts ≡ L.parts }
-    requires some_part { 0 < blank.parts }
     requires clear { shard.old.held.doubt ≡ None }
     requires there { is_some (start shard.old.held.list attempt) ≡ true }
     requires of_quiz { quiz shard.old.held.list attempt ≡ Some plan.now.quiz }
@@ -57,14 +80,13 @@ fn parts<K: Keeper, L: Ledger>(
     ensures held { shard.new.held ≡ shard.old.held }
     ensures shard { IsSamePart shard.old shard.new }
 {
-    let mut steps = Steps::<L>::open(blank);
     let user = manager(alloc)?;
     let ask = Ask {
         caller: Caller::Worker,
         key: None,
         request: Request::Page { attempt },
     };
-    match shard.look(alloc, &user, plan, &ask, 1000, &mut steps) {
+    match looked::<K, Brand>(Blank::new(1), shard, alloc, &user, plan, &ask) {
         Reply::Ok {
             done: Done::Page { parts, .. },
             ..
@@ -107,6 +129,16 @@ fn plan_of(catalog: &CatalogCore, alloc: Global, quiz: u32, user: u32) -> Result
     }
 }
 
+/// Adds nothing, unless memory was wanting for an answer.
+fn none_onto(reply: &Reply) -> Result<(), NoMemory>
+    ensures { OnOk result (is_memory reply.now ≡ false) }
+{
+    if is_memory(reply) {
+        return Err(NoMemory);
+    }
+    Ok(())
+}
+
 /// Adds the marks of an attempt's slots to others, in order. An attempt that isn't there has none.
 pub(crate) fn marks_onto<K: Keeper>(
     catalog: &CatalogCore,
@@ -124,11 +156,10 @@ pub(crate) fn marks_onto<K: Keeper>(
 {
     let quiz = match shard.quiz_of(alloc, attempt) {
         Ok(quiz) => quiz,
-        Err(Refusal::Memory) => return Err(NoMemory),
-        Err(_) => return Ok(()),
+        Err(why) => return none_onto(&Reply::Refused(why)),
     };
     let plan = plan_of(catalog, alloc, quiz, attempt.user)?;
-    let parts = parts::<K, Brand>(Blank::new(1), shard, alloc, &plan, attempt)?;
+    let parts = parts(shard, alloc, &plan, attempt)?;
     shown_onto(marks, parts.as_slice())?;
     Ok(())
 }

@@ -3,7 +3,7 @@
 ghost use Rattle.std.specs.Prelude.{◌≡◌, ◌<◌, ◌≤◌, ◌++◌, ◌∷◌, ◌%◌, [], length, IfOk, OnOk, None};
 ghost use Rattle.qz_solo.specs.Answering.{MayBeAsked};
 ghost use Rattle.qz_solo.specs.Marks.{marks_of};
-ghost use Rattle.qz_solo.specs.Memory.{AreClear, founded_lists};
+ghost use Rattle.qz_solo.specs.Memory.{AreClear, founded_lists, is_memory};
 ghost use Rattle.qz_terms.specs.Serial.{lists_over, part_list};
 ghost use Rattle.qz_serial.specs.Once.{AskedOnce};
 
@@ -33,6 +33,13 @@ impl Model for MemorySchool {
     ghost view = { λ m. lists_in m.school };
 
     ghost invariant = { λ m. AreClear (lists_in m.school) };
+}
+
+/// Whether memory was wanting for an answer.
+pub(crate) fn is_memory(reply: &Reply) -> bool
+    ensures { result ≡ is_memory reply.now }
+{
+    matches!(reply, Reply::Refused(Refusal::Memory))
 }
 
 impl MemorySchool {
@@ -89,10 +96,11 @@ impl MemorySchool {
         ensures { OnOk result (self.new ≡ lists_over self.old moment ask.now) }
     {
         let _length = self.len();
-        match self.ask(alloc, ask, moment) {
-            Reply::Refused(Refusal::Memory) => Err(NoMemory),
-            Reply::Refused(_) | Reply::Ok { .. } => Ok(()),
+        let reply = self.ask(alloc, ask, moment);
+        if is_memory(&reply) {
+            return Err(NoMemory);
         }
+        Ok(())
     }
 }
 

@@ -1,9 +1,5 @@
-use Rattle.std.proofs.Common.{rules, ◌≡◌, ◌<◌, ◌≤◌, [], length, IfOk, ℕ, ◌+◌, ◌-◌, ◌*◌, ◌/◌, ◌%◌, Bool, true, false, nat_eq, nat_lt, List, ◌∷◌, ◌++◌, slice_index_or, slice_set, bit_and, bit_or, Fits, w8, w32, w64, Bor, MutBor}
-use Rattle.qz_catalog.specs.Holdings.{founded}
-use Rattle.qz_terms.specs.Serial.{with_list}
-use Rattle.qz_solo.specs.Memory.{AreFresh}
+use Rattle.qz_solo.proofs.Beginning.{none_illegal}
 use Rattle.qz_solo.proofs.founding.empty.Goals as goal
 
--- src/founding.rt:43:48
 pub unreachable-requires : goal.unreachable-requires
-unreachable-requires c = ?
+unreachable-requires c = none_illegal c.args.index c.args.count c.in-Err-default-Illegal.field-0-1-0 (rw c.in-Err-default-Illegal.field-0-1-is at c.in-Err-default-Illegal.ensures.illegal)

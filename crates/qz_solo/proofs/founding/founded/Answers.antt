@@ -1,13 +1,11 @@
-use Rattle.std.proofs.Common.{rules, ◌≡◌, ◌<◌, ◌≤◌, [], length, IfOk, ℕ, ◌+◌, ◌-◌, ◌*◌, ◌/◌, ◌%◌, Bool, true, false, nat_eq, nat_lt, List, ◌∷◌, ◌++◌, slice_index_or, slice_set, bit_and, bit_or, Fits, w8, w32, w64, Bor, MutBor}
-use Rattle.qz_catalog.specs.Holdings.{founded}
-use Rattle.qz_terms.specs.Serial.{with_list}
-use Rattle.qz_solo.specs.Memory.{AreFresh}
+use Rattle.qz_solo.proofs.Beginning.{held_founded, never_illegal}
 use Rattle.qz_solo.proofs.founding.founded.Goals as goal
 
--- src/founding.rt:22:1
 pub returns-in-Ok : goal.returns-in-Ok
-returns-in-Ok c = ?
+returns-in-Ok c =
+    held_founded c.one_spelling.ensures c.args.shards c.args.token.now c.in-Ok.catalog _ c.in_ok-founding_payload.ensures.kept (rw c.in_ok-founding_payload.ensures.spelled at c.in-Ok.ensures.opened)
 
--- src/founding.rt:28:61
 pub unreachable-requires : goal.unreachable-requires
-unreachable-requires c = ?
+unreachable-requires c =
+    never_illegal c.args.shards c.args.token.now _ c.in_ok-founding_payload.ensures.kept
+    (rw (c.in-Err-default-Some-Illegal.field-0-1-is, c.in-Err-default-Some-Illegal.field-0-1-0-is, c.in_ok-founding_payload.ensures.spelled) at c.in-Err-default-Some-Illegal.ensures.unopened)

@@ -1,17 +1,19 @@
-use Rattle.std.proofs.Common.{rules, ◌≡◌, ◌<◌, ◌≤◌, [], length, IfOk, ℕ, ◌+◌, ◌-◌, ◌*◌, ◌/◌, ◌%◌, Bool, true, false, nat_eq, nat_lt, List, ◌∷◌, ◌++◌, slice_index_or, slice_set, bit_and, bit_or, Fits, w8, w32, w64, Bor, MutBor}
-use Rattle.qz_catalog.specs.Holdings.{founded}
-use Rattle.qz_terms.specs.Serial.{with_list}
-use Rattle.qz_solo.specs.Memory.{AreFresh}
+use Rattle.std.proofs.Common.{◌≡◌, arith}
+use Rattle.qz_solo.proofs.Beginning.{fresh_more, fresh_none}
 use Rattle.qz_solo.proofs.founding.fresh.Goals as goal
 
--- src/founding.rt:53:5
 pub loop-index-init : goal.loop-index-init
-loop-index-init c = ?
+loop-index-init c = rw c.new-shards.ensures.items (fresh_none c.args.count)
 
--- src/founding.rt:53:5
 pub loop-index-preserved : goal.loop-index-preserved
-loop-index-preserved c = ?
+loop-index-preserved c =
+    let s = c.in_ok-empty.field-0 in
+    let more = fresh_more c.args.count c.loop-index.index c.loop-index.shards.items s c.loop-index.invariant c.in_ok-empty.ensures.index c.in_ok-empty.ensures.count c.in_ok-empty.ensures.empty in
+    rw c.in_ok-push.ensures.items more
 
--- src/founding.rt:48:1
 pub returns : goal.returns
-returns c = ?
+returns c =
+    let end = c.loop-index.auto.index-end in
+    let test = c.loop-index-test.false in
+    let all : c.loop-index.index ≡ c.args.count = omega (arith, end, test) in
+    rw all at c.loop-index.invariant

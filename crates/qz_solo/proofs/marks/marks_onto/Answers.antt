@@ -1,26 +1,36 @@
-use Rattle.std.proofs.Common.{rules, ◌≡◌, ◌<◌, ◌++◌, IfOk, OnOk, None, Some, true, false, [], ◌∷◌, is_some, option_map, filter_map, map, option_to_list, ℕ, ◌+◌, ◌-◌, ◌*◌, ◌≤◌, length, ◌/◌, ◌%◌, Bool, nat_eq, nat_lt, List, slice_index_or, slice_set, bit_and, bit_or, Fits, w8, w32, w64, Bor, MutBor}
-use Rattle.qz_grading.specs.declared.refusal.Refusal.TheVariants as refusal
-use Rattle.qz_catalog.specs.Holdings.{lean}
-use Rattle.qz_grading.specs.Behaviours.{first_some}
-use Rattle.qz_shard.specs.Keeping.{IsSamePart}
-use Rattle.qz_terms.specs.declared.reply.Part.{Part}
-use Rattle.qz_terms.specs.Catalog.{plan}
-use Rattle.qz_terms.specs.Cause.{missing_quiz, missing_user}
-use Rattle.qz_terms.specs.History.{quiz, slots, start}
-use Rattle.qz_terms.specs.Legal.{AllAgree, is_plan_for}
-use Rattle.qz_terms.specs.Kept.{IsKeptPlan}
+use Rattle.std.proofs.Common.{◌≡◌, ◌++◌, List, ℤ, ap, ◌∙◌, sym, map, true, append-nil, subst}
+use Rattle.std.specs.Prelude.{filter_map}
+use Rattle.qz_terms.specs.History.{slots}
 use Rattle.qz_terms.specs.Parts.{part}
-use Rattle.qz_solo.specs.Marks.{marks_of, shown_by, shown_mark}
+use Rattle.qz_terms.specs.Serial.{Held}
+use Rattle.qz_solo.specs.Marks.{shown_mark}
+use Rattle.qz_solo.proofs.MarkLemmas.{map_ok, marks_shown, no_marks, quiz_none, quiz_some, quiz_still}
+use Rattle.qz_solo.proofs.Clear.{not_memory}
+use Rattle.qz_solo.proofs.Planning.{plan_there}
+use Rattle.qz_terms.specs.declared.reply.Reply.TheVariants.{Refused}
 use Rattle.qz_solo.proofs.marks.marks_onto.Goals as goal
 
--- src/marks.rt:128:19
 pub returns-in-Err : goal.returns-in-Err
-returns-in-Err g c = ?
+returns-in-Err g c =
+    let old = c.args.shard.now.held in
+    let still = quiz_still _ c.args.attempt old c.quiz_of.new.self.held c.quiz_of.result c.requires.clear c.quiz_of.ensures.told in
+    let said = (quiz_still _ c.args.attempt old c.quiz_of.new.self.held _ c.requires.clear c.in-Err.ensures.told).1 in
+    record {
+      marks = map_ok c.none_onto.result c.none_onto.ensures (λ other. let none = quiz_none c.args.attempt old.list c.in-Err.why said (λ is. not_memory (Refused c.in-Err.why) other (ap Refused is)) in sym (ap (λ (ms : List ℤ). c.args.marks.now ++ ms) (no_marks old.list c.args.attempt none) ∙ append-nil c.args.marks.now));
+      held = still.0;
+      shard = c.quiz_of.ensures.shard;
+    }
 
--- src/marks.rt:130:16
 pub plan_of-requires : goal.plan_of-requires
-plan_of-requires g c = ?
+plan_of-requires g c =
+    let old = c.args.shard.now.held in
+    let said = (quiz_still _ c.args.attempt old c.quiz_of.new.self.held _ c.requires.clear c.in-Ok.ensures.told).1 in
+    plan_there c.args.catalog.now old.list c.args.attempt c.in-Ok.quiz c.requires.agree (quiz_some c.args.attempt old.list c.in-Ok.quiz said)
 
--- src/marks.rt:111:1
 pub returns-clause-marks : goal.returns-clause-marks
-returns-clause-marks g c = ?
+returns-clause-marks g c =
+    let old = c.args.shard.now.held in
+    let still = quiz_still _ c.args.attempt old c.quiz_of.new.self.held c.quiz_of.result c.requires.clear c.quiz_of.ensures.told in
+    let same : c.quiz_of.new.self.held ≡ old = still.0 in
+    let told : c.in_ok-parts.parts ≡ map (part true) (slots old.list c.args.attempt) = subst (λ (h : Held). c.in_ok-parts.parts ≡ map (part true) (slots h.list c.args.attempt)) same c.in_ok-parts.ensures.parts in
+    c.in_ok-shown_onto.ensures ∙ ap (λ (ms : List ℤ). c.args.marks.now ++ ms) (ap (filter_map shown_mark) (c.as_slice.ensures ∙ told) ∙ marks_shown (slots old.list c.args.attempt))

@@ -1,4 +1,4 @@
-use Rattle.qz_solo.proofs.Reporting.{last_of_rest, put_all, put_more, put_none}
+use Rattle.qz_solo.proofs.Reporting.{last_of_rest, put_more}
 use Rattle.qz_solo.proofs.report.in_order.Goals as goal
 
 pub loop-rest-preserved : goal.loop-rest-preserved

@@ -1,4 +1,4 @@
-use Rattle.std.proofs.Common.{◌≡◌, List}
+use Rattle.std.proofs.Common.{◌≡◌}
 use Rattle.std.proofs.lemmas.Result.{err_from_is_err_and}
 use Rattle.qz_grading.specs.declared.refusal.Refusal.TheVariants as refusal
 use Rattle.qz_serial.specs.Calls.{ShardAnswers}

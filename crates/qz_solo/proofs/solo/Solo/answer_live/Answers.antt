@@ -1,6 +1,5 @@
 use Rattle.std.proofs.Common.{◌≡◌, ◌<◌, ◌≤◌, length, arith}
 use Rattle.std.proofs.lemmas.Result.{err_from_is_err_and}
-use Rattle.qz_keeper.specs.Lists.{Looks}
 use Rattle.qz_terms.specs.Answer.{live_answer}
 use Rattle.qz_solo.proofs.Seeing.{known_seen, seen_from, seen_still}
 use Rattle.qz_solo.proofs.Serving.{among_served, part_served}

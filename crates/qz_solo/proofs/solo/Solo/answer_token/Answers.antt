@@ -1,4 +1,3 @@
-use Rattle.std.proofs.Common.{◌≡◌}
 use Rattle.std.proofs.lemmas.Result.{err_from_is_err_and}
 use Rattle.qz_catalog.specs.Keeping.{TellsUser}
 use Rattle.qz_solo.proofs.Seeing.{seen_from, serves_from}

@@ -1,4 +1,4 @@
-use Rattle.std.proofs.Common.{◌≡◌, sym, ◌∙◌}
+use Rattle.std.proofs.Common.{sym, ◌∙◌}
 use Rattle.qz_solo.proofs.Seeing.{known_seen, seen_from}
 use Rattle.qz_solo.proofs.Serving.{forbidden_first, records_served, refused_served}
 use Rattle.qz_solo.proofs.Standing.{told_records}

@@ -1,7 +1,6 @@
-use Rattle.std.proofs.Common.{◌≡◌, ◌<◌, ◌≤◌, length, arith}
+use Rattle.std.proofs.Common.{◌<◌, ◌≤◌, length, arith}
 use Rattle.std.proofs.lemmas.Result.{err_from_is_err_and}
 use Rattle.qz_catalog.specs.Keeping.{IsJob}
-use Rattle.qz_serial.specs.Calls.{ShardAnswers}
 use Rattle.qz_solo.proofs.Seeing.{known_seen, seen_from, seen_still}
 use Rattle.qz_solo.proofs.Serving.{among_served, either_served, part_served}
 use Rattle.qz_solo.proofs.Standing.{changed_part, part_there}

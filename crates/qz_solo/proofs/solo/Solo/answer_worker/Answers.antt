@@ -1,7 +1,5 @@
-use Rattle.std.proofs.Common.{rules, ◌≡◌, None, sym, subst, ◌∙◌, refl}
+use Rattle.std.proofs.Common.{◌≡◌, None, sym, ◌∙◌}
 use Rattle.std.proofs.lemmas.Result.{err_from_is_err_and}
-use Rattle.qz_grading.specs.declared.refusal.Refusal.TheVariants as refusal
-use Rattle.qz_terms.specs.declared.people.User.{User}
 use Rattle.qz_terms.specs.Catalog.{worker}
 use Rattle.qz_terms.specs.Cause.{forbidden}
 use Rattle.qz_solo.proofs.Seeing.{seen_from}

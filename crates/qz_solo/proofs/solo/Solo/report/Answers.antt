@@ -1,6 +1,5 @@
-use Rattle.std.proofs.Common.{◌≡◌, length, List, sym, ◌∙◌, subst}
+use Rattle.std.proofs.Common.{length}
 use Rattle.std.proofs.lemmas.Result.{err_from_is_err_and}
-use Rattle.qz_grading.specs.declared.refusal.Refusal.TheVariants as refusal
 use Rattle.qz_solo.proofs.Reporting.{Reports, each_legal, missing_first, report_done, report_served, report_stopped, report_wants, stopped_solo, whole_solo}
 use Rattle.qz_solo.proofs.Seeing.{known_seen, seen_from, seen_still}
 use Rattle.qz_solo.proofs.Serving.{either_served, report_other, wants_served}
@@ -90,6 +89,6 @@ returns g c =
     let solo = whole_solo g.K.Keeper.sound g.K.Keeper.faults cs c.args.quiz c.in_ok-policy.policy ss gs c.in_ok-all.all c.self.invariant are in
     let legal = each_legal g.K.Keeper.sound g.K.Keeper.faults cs c.args.quiz c.in_ok-policy.policy ss gs c.in_ok-all.all solo are in
     let done = report_done cs.held.list _ c.args.quiz c.in_ok-policy.policy c.len.result c.in_ok-rows.rows c.in_ok-names.names c.in_ok-all.all c.in_ok-grades.grades.entries legal (rw c.core.ensures at c.in_ok-policy.ensures.policy) c.len.ensures.count (rw c.core-2.ensures at c.in_ok-names.ensures.names) are.rows_are
-        (rw c.as_slice.ensures at c.in_ok-grades.ensures) (rw c.as_slice-2.ensures at c.in_ok-rows.ensures) in
+    (rw c.as_slice.ensures at c.in_ok-grades.ensures) (rw c.as_slice-2.ensures at c.in_ok-rows.ensures) in
     seen_from g.K.Keeper.sound g.K.Keeper.faults c.args.self.now (record { catalog = cs; parts = ss }) _ c.args.moment ask _ c.self.view_is
     (report_served g.K.Keeper.sound g.K.Keeper.faults cs ss gs c.args.moment ask user c.args.quiz c.in_ok-policy.policy c.in_ok-all.all _ w are done)

@@ -1,23 +1,20 @@
-use Rattle.std.proofs.Common.{◌≡◌, ◌<◌, ◌%◌, List, length, refl, sym, ap, subst, ◌∙◌, arith}
-use Rattle.std.specs.Prelude.{slice_set, Some}
+use Rattle.std.proofs.Common.{◌≡◌, ◌<◌, ◌%◌, List, length, sym, ap, subst, arith}
+use Rattle.std.specs.Prelude.{slice_set}
 use Rattle.std.proofs.lemmas.Result.{err_from_is_err_and}
 use Rattle.qz_catalog.specs.Keeping.{TellsPlan}
 use Rattle.qz_keeper.specs.Lists.{EachMayStand}
 use Rattle.qz_serial.specs.Calls.{ShardAnswers}
-use Rattle.qz_shard.specs.Keeping.{TellsQuiz}
 use Rattle.qz_solo.specs.Answering.{PartAnswers}
 use Rattle.qz_solo.specs.Planning.{ArePlanned}
 use Rattle.qz_terms.specs.declared.people.User.{User}
 use Rattle.qz_terms.specs.declared.record.Record.{Record}
-use Rattle.qz_terms.specs.Answer.{attempt_named}
-use Rattle.qz_terms.specs.Catalog.{worker}
 use Rattle.qz_terms.specs.Legal.{AllAgree}
 use Rattle.qz_solo.proofs.Calls.{look_told}
 use Rattle.qz_solo.proofs.Seeing.{seen_from}
 use Rattle.qz_solo.proofs.Settling.{plan_unsettled, quiz_unsettled, settle_served, settle_may, settle_named}
 use Rattle.qz_solo.proofs.Standing.{looked_quiz, looked_records, part_there}
 use Rattle.qz_solo.proofs.Standing as standing
-use Rattle.qz_solo.proofs.UnderPlans.{quiz_agree, quiz_found, quiz_planned}
+use Rattle.qz_solo.proofs.UnderPlans.{quiz_found, quiz_planned}
 use Rattle.qz_solo.proofs.solo.Solo.settle.Goals as goal
 
 pub invariant_of-self : goal.invariant_of-self
@@ -59,7 +56,7 @@ invariant_of-self-in_err-plan g c =
     let long : c.len.result ≡ length ss = omega (arith, told) in
     let inside : k < length ss = omega (arith, some, long) in
     let mid = looked_quiz g.K.Keeper.sound g.K.Keeper.faults c.self.inside.catalog ss k s c.quiz_of.new.self c.args.attempt c.quiz_of.result c.self.invariant (part_there ss k s inside c.index_mut-shard.ensures.value)
-        (record { call = c.quiz_of.ensures.told; same = c.quiz_of.ensures.shard; goes_on = c.quiz_of.ensures.goes_on }) in
+    (record { call = c.quiz_of.ensures.told; same = c.quiz_of.ensures.shard; goes_on = c.quiz_of.ensures.goes_on }) in
     looked_records _ c.self.inside.catalog c.plan.new.self (slice_set ss k c.quiz_of.new.self) _ (TellsPlan c.in_ok-quiz.quiz c.args.attempt.user _) c.plan.result mid c.plan.ensures.told
 
 pub returns-in_err-plan : goal.returns-in_err-plan

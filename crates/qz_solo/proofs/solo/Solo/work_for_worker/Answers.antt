@@ -1,9 +1,6 @@
-use Rattle.std.proofs.Common.{◌≡◌, ◌<◌, ◌≤◌, refl, length, arith}
+use Rattle.std.proofs.Common.{◌<◌, ◌≤◌, length, arith}
 use Rattle.std.proofs.lemmas.Result.{err_from_is_err_and}
 use Rattle.qz_catalog.specs.Keeping.{TellsJob}
-use Rattle.qz_keeper.specs.Recording.{HasFailed}
-use Rattle.qz_grading.specs.declared.refusal.Refusal.{Refusal}
-use Rattle.std.specs.Prelude.{Err}
 use Rattle.qz_terms.specs.Catalog.{worker}
 use Rattle.qz_solo.proofs.Seeing.{seen_from}
 use Rattle.qz_solo.proofs.Settling.{job_found, job_untold, jobless_served, work_served, worker_known, worker_may_work}
