@@ -74,6 +74,9 @@ follows_goes sound faults a b (asked _ m _ now ask r front last) = go_both sound
 
 -- ---- the shelf
 
+pub out_as_many : (folder : List ℕ) (n k : ℕ) (files : Files) → k ≡ n → IsOut folder n files → IsOut folder k files
+out_as_many folder n k files same out = subst (λ (m : ℕ). IsOut folder m files) (sym same) out
+
 elsewhere-on : (folder : List ℕ) (n k : ℕ) (a b c : Files) → k ≡ n → KeepsElsewhere folder n a b → KeepsElsewhere folder k b c → KeepsElsewhere folder n a c
 elsewhere-on folder n k a b c same one other = by (subst (λ (m : ℕ). KeepsElsewhere folder m b c) same other)
   where

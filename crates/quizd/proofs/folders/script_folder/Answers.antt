@@ -1,31 +1,30 @@
-use Rattle.std.proofs.Common.{Some, subst, sym, refl, arith}
+use Rattle.std.proofs.Common.{Some, arith}
 use Rattle.std.proofs.KnownBytes.{Keeps-refl}
-use Rattle.qz_loading.specs.Places.{IsOut}
-use Rattle.quizd.proofs.FolderLemmas.{follows_count, given_back, school_answers_once, school_takes_lines, served_ends, serves_folder, unloaded_ends, unserved_folder}
+use Rattle.quizd.proofs.FolderLemmas.{follows_count, given_back, out_as_many, school_answers_once, school_takes_lines, served_ends, serves_folder, unloaded_ends, unserved_folder}
 use Rattle.quizd.proofs.folders.script_folder.Goals as goal
 
-pub serve-requires-clause-takes : goal.serve-requires-clause-takes
-serve-requires-clause-takes g c = school_takes_lines
+pub serve-status-requires-clause-takes : goal.serve-status-requires-clause-takes
+serve-status-requires-clause-takes g c = school_takes_lines
 
-pub serve-requires-clause-answers : goal.serve-requires-clause-answers
-serve-requires-clause-answers g c = school_answers_once _ _
+pub serve-status-requires-clause-answers : goal.serve-status-requires-clause-answers
+serve-status-requires-clause-answers g c = school_answers_once _ _
 
 pub close-requires-clause-few : goal.close-requires-clause-few
-close-requires-clause-few g c = omega (arith, follows_count _ _ _ _ c.serve.ensures.follows, c.in-Ok.ensures.few)
+close-requires-clause-few g c = omega (arith, follows_count _ _ _ _ c.serve-status.ensures.follows, c.in-Ok.ensures.few)
 
 pub close-requires-clause-out : goal.close-requires-clause-out
-close-requires-clause-out g c = subst (λ n. IsOut _ n _) (sym (follows_count _ _ _ _ c.serve.ensures.follows)) c.in-Ok.ensures.out
+close-requires-clause-out g c κs within = out_as_many _ _ _ _ (follows_count _ _ _ _ c.serve-status.ensures.follows) c.in-Ok.ensures.out
 
 pub returns-in-Ok-clause-ended : goal.returns-in-Ok-clause-ended
 returns-in-Ok-clause-ended g c =
-    let e = c.serve.ensures.ended in
-    let back = given_back _ _ _ _ _ _ _ _ c.in-Ok.ensures.loaded c.in-Ok.ensures.others c.open_school.ensures.later c.serve.ensures.follows c.close.ensures.catalog c.close.ensures.parts c.close.ensures.others c.close.ensures.faults in
+    let e = rw c.in-Ok.ensures.unwritten at c.serve-status.ensures.ended in
+    let back = given_back _ _ _ _ _ _ _ _ c.in-Ok.ensures.loaded c.in-Ok.ensures.others c.open_school.ensures.later c.serve-status.ensures.follows c.close.ensures.catalog c.close.ensures.parts c.close.ensures.others c.close.ensures.faults in
     record { stop = e.stop; status_is = e.status_is; cause = served_ends _ _ _ _ _ _ _ _ _ _ e.stop back e.cause c.close.ensures.none_out (omega (arith, c.open_school.ensures.later, c.close.ensures.faults.later)) }
 
 pub returns-in-Ok-clause-complete : goal.returns-in-Ok-clause-complete
 returns-in-Ok-clause-complete g c =
-    let e = c.serve.ensures.ended in
-    let back = given_back _ _ _ _ _ _ _ _ c.in-Ok.ensures.loaded c.in-Ok.ensures.others c.open_school.ensures.later c.serve.ensures.follows c.close.ensures.catalog c.close.ensures.parts c.close.ensures.others c.close.ensures.faults in
+    let e = rw c.in-Ok.ensures.unwritten at c.serve-status.ensures.ended in
+    let back = given_back _ _ _ _ _ _ _ _ c.in-Ok.ensures.loaded c.in-Ok.ensures.others c.open_school.ensures.later c.serve-status.ensures.follows c.close.ensures.catalog c.close.ensures.parts c.close.ensures.others c.close.ensures.faults in
     rw e.status_is (serves_folder _ _ _ _ _ _ _ e.stop (served_ends _ _ _ _ _ _ _ _ _ _ e.stop back e.cause c.close.ensures.none_out (omega (arith, c.open_school.ensures.later, c.close.ensures.faults.later))))
 
 pub returns-in-Err-clause-ended : goal.returns-in-Err-clause-ended

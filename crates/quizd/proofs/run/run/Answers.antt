@@ -27,7 +27,7 @@ pub returns-in-Ok-Bulk-clause-ended : goal.returns-in-Ok-Bulk-clause-ended
 returns-in-Ok-Bulk-clause-ended g c =
     let is : built_command c.args.words.now ≡ Some (command.Bulk c.in-Ok-Bulk.count) = search rules in
     let e = c.bulk.ensures.ended in
-    record { stop = e.stop; status_is = e.status_is; cause = inl (rw is ((Keeps-refl _, e.cause), refl, refl)) }
+    record { stop = e.stop; status_is = e.status_is; cause = inl (rw is ((Keeps-refl _, e.cause), (refl, refl))) }
 
 pub returns-in-Ok-Bulk-clause-complete : goal.returns-in-Ok-Bulk-clause-complete
 returns-in-Ok-Bulk-clause-complete g c =
@@ -50,7 +50,7 @@ returns-in-Ok-Serve-clause-complete g c =
 pub returns-in-Err-BadWords-clause-ended : goal.returns-in-Err-BadWords-clause-ended
 returns-in-Err-BadWords-clause-ended g c =
     let other : built_command c.args.words.now ≡ None = search rules in
-    record { stop = Some c.show_usage.result; status_is = c.status.ensures; cause = inl (rw other (record { unread = Keeps-refl _; written = c.show_usage.ensures }, refl, refl)) }
+    record { stop = Some c.show_usage.result; status_is = c.status.ensures; cause = inl (rw other (record { unread = Keeps-refl _; written = c.show_usage.ensures }, (refl, refl))) }
 
 pub returns-in-Err-Memory-clause-ended : goal.returns-in-Err-Memory-clause-ended
 returns-in-Err-Memory-clause-ended g c = record {
