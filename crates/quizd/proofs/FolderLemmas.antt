@@ -1,11 +1,11 @@
 -- A school whose lists keepers keep, as a desk; and how a command ends that serves the school of a folder.
-use Rattle.std.proofs.Common.{◌≡◌, ◌⊎◌, ℕ, ◌+◌, ◌-◌, ◌^◌, ◌<◌, ◌≤◌, Bool, true, false, List, [], length, Option, Some, None, inl, inr, refl, sym, ap, ◌∙◌, subst, arith}
+use Rattle.std.proofs.Common.{◌≡◌, ◌⊎◌, ℕ, ◌≤◌, Bool, true, false, List, [], length, Option, Some, None, inl, inr, refl, sym, ap, ◌∙◌, subst, arith}
 use Rattle.std.specs.Prelude.{IfSome, bytes_eq, unwrap_or}
 use Rattle.std.specs.Io.KnownBytes.{Keeps}
 use Rattle.std.proofs.lemmas.Bool.{true≢false}
 use Rattle.std.proofs.lemmas.List.{length-map}
 use Rattle.std.proofs.lemmas.Slice.Eq.{bytes_eq-Decides}
-use Rattle.qz_disks.specs.Shelves.{Files, NoneOutIn, Place, RisesBy, SameFile, place}
+use Rattle.qz_disks.specs.Shelves.{Files, NoneOutIn, Place, RisesBy, place}
 use Rattle.qz_ending.specs.declared.stop.Stop.{Stop}
 use Rattle.qz_ending.specs.declared.stop.Stop.TheVariants as stop
 use Rattle.qz_ending.specs.Endings.{Outside, status_of}
@@ -15,7 +15,7 @@ use Rattle.qz_loading.specs.declared.fault.LoadFault.{LoadFault}
 use Rattle.qz_loading.specs.declared.fault.LoadFault.TheVariants as fault
 use Rattle.qz_loading.specs.Closing.{IsBack, PartsAreBack}
 use Rattle.qz_loading.specs.Opening.{IsLoadedFrom}
-use Rattle.qz_loading.specs.Places.{IsElsewhere, IsOut, KeepsElsewhere, catalog_place, part_place}
+use Rattle.qz_loading.specs.Places.{IsElsewhere, IsOut, KeepsElsewhere, catalog_place}
 use Rattle.qz_loading.proofs.Standing.{same_twice}
 use Rattle.qz_opening.specs.Unloaded.{IsUnloaded, UnloadedBy}
 use Rattle.qz_outside.specs.Causes.{HasRisen}
@@ -27,13 +27,11 @@ use Rattle.qz_serial.specs.Once.{AskedOnce}
 use Rattle.qz_serial.proofs.Staying.{asks_grow}
 use Rattle.qz_terms.specs.declared.ask.Ask.{Ask}
 use Rattle.qz_terms.specs.declared.reply.Reply.{Reply}
-use Rattle.qz_terms.specs.Serial.{Held, Lists}
-use Rattle.qz_wire.specs.Asking.{CanBeAsked}
 use Rattle.qz_wire.specs.Brief.{IsBriefToken}
 use Rattle.quizd.specs.Commands.{NoneOut}
 use Rattle.quizd.specs.Folders.{Disks, DoorsFolderEnds, FolderEnds, IsGivenBack, ScriptFolderEnds, ServedFolder, ServesDoors, ServesFolder, Unserved, disk_faults, journal_faults, seen_of, sunk}
 use Rattle.quizd.specs.Retries.{AnswersOnce, Follows, Seen, TakesLines, asked, stays}
-use Rattle.quizd.specs.Scripts.{HasRisenBy, ServeEnds, ServesAll}
+use Rattle.quizd.specs.Scripts.{HasRisenBy, ServeEnds}
 use Rattle.quizd.specs.Serving.{ServedDoor, Serving}
 use Rattle.quizd.proofs.ScriptLemmas.{serves_all}
 

@@ -30,7 +30,9 @@ fn is_built(command: &Command) -> bool
 {
     match command {
         Command::Serve {
-            workers, regraders, ..
+            workers,
+            regraders,
+            ..
         } => *workers == 1 && *regraders == 0,
         Command::Replay
         | Command::GiftCheck

@@ -10,11 +10,7 @@ use qz_text::{Bytes, Listed};
 use std::test::Fail;
 
 /// What comes of a script over the school of a folder: its status and what was written.
-fn scripted(
-    alloc: Global,
-    lines: &str,
-    shelf: &mut MemoryShelf,
-) -> Result<(u8, String), NoMemory>
+fn scripted(alloc: Global, lines: &str, shelf: &mut MemoryShelf) -> Result<(u8, String), NoMemory>
     requires { NoneOut (memory_files shelf.old.slots) }
     ensures { IfOk result (λ _. NoneOut (memory_files shelf.new.slots)) }
 {
@@ -64,7 +60,7 @@ const SECOND_SAID: &str = "\
 ok 2 made 2
 ok 2 step complete -
 ok 3 finished 2.0000000
-ok 3 total 2.0000000
+ok 3 attempt finished 2.0000000 -
 ";
 
 #[test]
@@ -82,12 +78,20 @@ fn a_school_stays_in_its_folder(rt: HostRuntime) -> Result<(), Fail> {
     Ok(())
 }
 
+/// A shelf whose catalogue is damaged.
+fn damaged(alloc: Global) -> Result<MemoryShelf, NoMemory>
+    ensures { IfOk result (λ shelf. NoneOut (memory_files shelf.slots)) }
+{
+    let disk = MemoryDisk::holding(alloc, b"\0\0\0\0\0\0\0\0\0\0", Listed::empty(alloc))?;
+    let mut shelf = MemoryShelf::new(alloc, Listed::empty(alloc));
+    shelf.put(alloc, b"school", b"catalog.jnl", disk)?;
+    Ok(shelf)
+}
+
 #[test]
 fn a_damaged_file_is_told(rt: HostRuntime) -> Result<(), Fail> {
     let alloc = rt.alloc();
-    let mut shelf = MemoryShelf::new(alloc, Listed::empty(alloc));
-    let disk = MemoryDisk::holding(alloc, b"\0\0\0\0\0\0\0\0\0\0", Listed::empty(alloc))?;
-    shelf.put(alloc, b"school", b"catalog.jnl", disk)?;
+    let mut shelf = damaged(alloc)?;
     let (status, written) = scripted(alloc, FIRST, &mut shelf)?;
     assert_eq!(rt; (status, written.as_str()), (7, "damaged catalog.jnl 0\n"));
     Ok(())

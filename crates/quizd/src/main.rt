@@ -125,7 +125,7 @@ fn tell_folder(rt: &HostRuntime, folder: &Text, status: u8) {
         let folder = folder.as_str();
         // Where standard error fails too, the status tells it.
         let _ = eprintln!(rt;
-            "quizd: the folder {folder} can't be used: it or its file can't be opened, read or written, or another program holds it"
+            "quizd: the folder {folder} can't be used: it or a file of it can't be opened, read or written, or another program holds it"
         );
     }
 }
@@ -173,9 +173,7 @@ fn main(rt: HostRuntime) -> ExitCode {
             tell_folder(&rt, folder, status);
             status
         }
-        Ok(
-            Command::Replay | Command::GiftCheck | Command::GiftFormat | Command::Bulk { .. },
-        )
+        Ok(Command::Replay | Command::GiftCheck | Command::GiftFormat | Command::Bulk { .. })
         | Err(WordsFault::BadWords) => run_alone(rt, &words),
         Err(WordsFault::Memory) => Stop::Memory.status(),
     };
