@@ -8,3 +8,4 @@ pub mod FollowLemmas
 pub mod BulkLemmas
 pub mod GiftLemmas
 pub mod ServingLemmas
+pub mod FolderLemmas

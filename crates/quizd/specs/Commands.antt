@@ -1,5 +1,5 @@
 -- The commands of the command line, and how a run of each ends.
-use Rattle.std.specs.Prelude.{◌≡◌, ◌⊎◌, ℕ, Bool, true, false, ◌&&◌, ◌==◌, if◌then◌else◌, List, ◌++◌, Option, Some, None, bytes_eq, codes}
+use Rattle.std.specs.Prelude.{◌≡◌, ◌⊎◌, ℕ, Bool, true, false, ◌&&◌, ◌==◌, if◌then◌else◌, List, ◌++◌, Option, Some, None, MatchBool, bytes_eq, codes}
 use Rattle.std.specs.Io.KnownBytes.{Appends, Keeps}
 use Rattle.qz_outside.specs.Causes.{HasRisen}
 use Rattle.qz_outside.specs.Sources.{AppendsFront}
@@ -14,14 +14,19 @@ use Rattle.quizd.specs.Bulk.{BulkEnds}
 use Rattle.quizd.specs.Solo.{first_lists}
 use Rattle.qz_replay.specs.ReplayEndings.{ReplayEnds, ReplaysAll}
 use Rattle.qz_disks.specs.Shelves.{Files, Place}
-use Rattle.qz_found.specs.FoundEndings.{School}
+use Rattle.qz_found.specs.FoundEndings.{FoundEnds, FoundsAll, Shelved, Sunk}
+use Rattle.quizd.specs.Folders.{Disks, DoorsFolderEnds, ScriptFolderEnds, ServesDoors, ServesFolder, sunk}
+use Rattle.quizd.specs.Serving.{DoorsEnd, Serving}
 use Rattle.quizd.specs.Scripts.{ScriptEnds, ServesAll, script_limit}
 use Rattle.quizd.specs.GiftEndings.{GiftEnds, GiftsAll}
 
--- So far a script is answered and links are served over a school in memory alone, by one worker and without a regrader.
+-- the school in memory, which is no folder's
+abbrev pub is_memory : List ℕ → Bool
+is_memory folder = bytes_eq folder (codes "memory")
+
+-- So far links are served by one worker and without a regrader.
 abbrev pub is_built : Command → Bool
-is_built (command.Script folder) = bytes_eq folder (codes "memory")
-is_built (command.Serve folder port workers regraders links) = bytes_eq folder (codes "memory") && ((workers == 1) && (regraders == 0))
+is_built (command.Serve folder port workers regraders links) = (workers == 1) && (regraders == 0)
 is_built c = true
 
 abbrev pub if_built : Option Command → Option Command
@@ -58,52 +63,83 @@ UsageEnds old new (Some s) = UsageShown old new s
 pub record NoneOut (files : Files) : Type 0 where
   pub each : (at : Place) → files.is_out at ≡ false
 
--- what a run is given beside words, source and sink
-pub record Beside (D F : Type 0) : Type 0 where
-  pub doors : D
+-- what a run is given beside words, source and sink: doors with their clocks, and a shelf, which tells its files and its count of faults
+pub record Beside (R C F : Type 0) : Type 1 where
+  pub doors : List (R × C)
   pub shelf : F
+  pub told : Shelved
 
--- all commands but one that serves links, and one that founds a school
+abbrev pub AreLeft : {R C F : Type 0} → Beside R C F → Beside R C F → Type 0
+AreLeft at after = (after.doors ≡ at.doors) × (after.shelf ≡ at.shelf)
+
+-- all commands but those that go to doors or to a shelf
 abbrev pub CommandEnds : Option Command → Outside → Outside → Option Stop → Type 0
 CommandEnds None old new s = UsageEnds old new s
 CommandEnds (Some command.Replay) old new s = ReplayEnds old new s
 CommandEnds (Some command.GiftCheck) old new s = GiftEnds false old new s
 CommandEnds (Some command.GiftFormat) old new s = GiftEnds true old new s
-CommandEnds (Some (command.Script folder)) old new s = ScriptEnds script_limit first_lists old new s
+CommandEnds (Some (command.Script folder)) old new s = ⊥
 CommandEnds (Some (command.Found folder shards token)) old new s = ⊥
 CommandEnds (Some (command.Serve folder port workers regraders links)) old new s = ⊥
 CommandEnds (Some (command.Bulk count)) old new s = Keeps old.left new.left × BulkEnds count old.holds new.holds old.sink_faults new.sink_faults s
 
--- One that serves links serves at the doors, and one that founds a school founds it on the shelf; both read nothing of the source. Else
--- doors and shelf are left as they are.
-abbrev pub CommandEndsAt : {D F : Type 0} → (School → Option Stop → Type 0) → (ℕ → Option Stop → Type 0) → Beside D F → Beside D F → Option Command → Outside → Outside → Option Stop → Type 0
-CommandEndsAt founding serving at after (Some (command.Found folder shards token)) old new s =
-    Keeps old.left new.left × (after.doors ≡ at.doors) × founding (record { folder = folder; shards = shards; token = token }) s
-CommandEndsAt founding serving at after (Some (command.Serve folder port workers regraders links)) old new s =
-    Keeps old.left new.left × (after.shelf ≡ at.shelf) × serving links s
-CommandEndsAt founding serving at after c old new s = CommandEnds c old new s × (after ≡ at)
+-- A script is answered over the school in memory, and the shelf stays; or over the school of a folder.
+abbrev pub ScriptEndsIn : {D : Type 0} → Disks D → List ℕ → Type 0 → Shelved → Shelved → Outside → Outside → Option Stop → Type 0
+ScriptEndsIn disks folder stays old new before now s =
+    MatchBool (is_memory folder) (ScriptEnds script_limit first_lists before now s × stays)
+    (ScriptFolderEnds disks folder script_limit old new before now s)
+
+-- Links are served at the first of some doors over the school in memory, and the shelf stays; or over the school of a folder.
+abbrev pub ServeEndsIn : {D R C : Type 0} → Disks D → List ℕ → Type 0 → Serving R C → List (R × C) → List (R × C) → Shelved → Shelved → Sunk → Sunk → Option Stop → Type 0
+ServeEndsIn disks folder stays serving doors after old new before now s =
+    MatchBool (is_memory folder) (DoorsEnd serving doors after before.holds now.holds before.faults now.faults s × stays)
+    (DoorsFolderEnds disks folder serving doors after old new before now s)
+
+-- A script and founding leave the doors as they are, and neither founding nor serving links reads anything of the source. All other commands
+-- leave doors and shelf as they are.
+abbrev pub CommandEndsAt : {D R C F : Type 0} → Disks D → (ℕ → Serving R C) → Beside R C F → Beside R C F → Option Command → Outside → Outside → Option Stop → Type 0
+CommandEndsAt disks serving at after (Some (command.Script folder)) old new s =
+    (after.doors ≡ at.doors) × ScriptEndsIn disks folder (after.shelf ≡ at.shelf) at.told after.told old new s
+CommandEndsAt disks serving at after (Some (command.Found folder shards token)) old new s =
+    Keeps old.left new.left × (after.doors ≡ at.doors)
+    × FoundEnds (record { folder = folder; shards = shards; token = token }) at.told after.told (sunk old) (sunk new) s
+CommandEndsAt disks serving at after (Some (command.Serve folder port workers regraders links)) old new s =
+    Keeps old.left new.left
+    × ServeEndsIn disks folder (after.shelf ≡ at.shelf) (serving links) at.doors after.doors at.told after.told (sunk old) (sunk new) s
+CommandEndsAt disks serving at after c old new s = CommandEnds c old new s × AreLeft at after
 
 -- memory was wanting for the words, and nothing was done
-pub record WordsUnread {D F : Type 0} (at after : Beside D F) (old new : Outside) (s : Option Stop) : Type 0 where
+pub record WordsUnread {R C F : Type 0} (at after : Beside R C F) (old new : Outside) (s : Option Stop) : Type 0 where
   pub memory : s ≡ Some stop.Memory
-  pub stays : after ≡ at
+  pub stays : AreLeft at after
   pub unread : Keeps old.left new.left
   pub unwritten : Keeps old.holds new.holds
 
-abbrev pub RunEnds : {D F : Type 0} → (School → Option Stop → Type 0) → (ℕ → Option Stop → Type 0) → Beside D F → Beside D F → List (List ℕ) → Outside → Outside → Option Stop → Type 0
-RunEnds founding serving at after words old new s =
-    CommandEndsAt founding serving at after (built_command words) old new s ⊎ WordsUnread at after old new s
+abbrev pub RunEnds : {D R C F : Type 0} → Disks D → (ℕ → Serving R C) → Beside R C F → Beside R C F → List (List ℕ) → Outside → Outside → Option Stop → Type 0
+RunEnds disks serving at after words old new s =
+    CommandEndsAt disks serving at after (built_command words) old new s ⊎ WordsUnread at after old new s
 
-abbrev pub CommandDoesAll : (School → ℕ → Type 0) → Option Command → Outside → Outside → ℕ → Type 0
-CommandDoesAll founds None old new status = Unit {0}
-CommandDoesAll founds (Some command.Replay) old new status = ReplaysAll old new status
-CommandDoesAll founds (Some command.GiftCheck) old new status = GiftsAll old new status
-CommandDoesAll founds (Some command.GiftFormat) old new status = GiftsAll old new status
-CommandDoesAll founds (Some (command.Script folder)) old new status = ServesAll script_limit old new status
-CommandDoesAll founds (Some (command.Found folder shards token)) old new status = founds (record { folder = folder; shards = shards; token = token }) status
-CommandDoesAll founds (Some (command.Serve folder port workers regraders links)) old new status =
-    ¬ HasRisen old.sink_faults new.sink_faults → (status ≡ 0) ⊎ ((status ≡ 8) ⊎ (status ≡ 10))
-CommandDoesAll founds (Some (command.Bulk count)) old new status = ¬ HasRisen old.sink_faults new.sink_faults → (status ≡ 0) ⊎ (status ≡ 8)
+-- over the school in memory, or of a folder
+abbrev pub ScriptDoesAll : Shelved → Shelved → List ℕ → Outside → Outside → ℕ → Type 0
+ScriptDoesAll at after folder old new status =
+    MatchBool (is_memory folder) (ServesAll script_limit old new status) (ServesFolder script_limit at after old new status)
 
-abbrev pub RunsAll : (School → ℕ → Type 0) → List (List ℕ) → Outside → Outside → ℕ → Type 0
-RunsAll founds words old new status = CommandDoesAll founds (built_command words) old new status
+abbrev pub ServeDoesAll : Shelved → Shelved → List ℕ → Sunk → Sunk → ℕ → Type 0
+ServeDoesAll at after folder before now status =
+    MatchBool (is_memory folder) (¬ HasRisen before.faults now.faults → (status ≡ 0) ⊎ ((status ≡ 8) ⊎ (status ≡ 10)))
+    (ServesDoors at after before now status)
+
+abbrev pub CommandDoesAll : Shelved → Shelved → Option Command → Outside → Outside → ℕ → Type 0
+CommandDoesAll at after None old new status = Unit {0}
+CommandDoesAll at after (Some command.Replay) old new status = ReplaysAll old new status
+CommandDoesAll at after (Some command.GiftCheck) old new status = GiftsAll old new status
+CommandDoesAll at after (Some command.GiftFormat) old new status = GiftsAll old new status
+CommandDoesAll at after (Some (command.Script folder)) old new status = ScriptDoesAll at after folder old new status
+CommandDoesAll at after (Some (command.Found folder shards token)) old new status =
+    FoundsAll (record { folder = folder; shards = shards; token = token }) at after (sunk old) (sunk new) status
+CommandDoesAll at after (Some (command.Serve folder port workers regraders links)) old new status =
+    ServeDoesAll at after folder (sunk old) (sunk new) status
+CommandDoesAll at after (Some (command.Bulk count)) old new status = ¬ HasRisen old.sink_faults new.sink_faults → (status ≡ 0) ⊎ (status ≡ 8)
+
+abbrev pub RunsAll : Shelved → Shelved → List (List ℕ) → Outside → Outside → ℕ → Type 0
+RunsAll at after words old new status = CommandDoesAll at after (built_command words) old new status

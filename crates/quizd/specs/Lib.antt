@@ -6,4 +6,5 @@ pub mod Solo
 pub mod Bulk
 pub mod GiftEndings
 pub mod Serving
+pub mod Folders
 pub mod Commands

@@ -1,16 +1,15 @@
 //! Which commands are built.
 
-ghost use Rattle.std.specs.Prelude.{◌≡◌, IfOk, codes, bytes_eq};
+ghost use Rattle.std.specs.Prelude.{◌≡◌, IfOk};
 ghost use Rattle.qz_command.specs.Commands.{IsInRange};
 ghost use Rattle.qz_command.specs.Readings.{Reads};
-ghost use Rattle.quizd.specs.Commands.{built_command, is_built};
+ghost use Rattle.quizd.specs.Commands.{built_command, is_built, is_memory};
 
 use qz_command::{Command, WordsFault, command_of};
 use qz_text::Text;
 use std::alloc::Global;
 
-/// The command that these words are, of those that are built so far: scripts and links are answered over a school in memory alone, and links by
-/// one worker and no regrader.
+/// The command that these words are, of those that are built so far: links are served by one worker and no regrader.
 ///
 /// # Errors
 ///
@@ -30,23 +29,23 @@ fn is_built(command: &Command) -> bool
     ensures { result ≡ is_built command.now }
 {
     match command {
-        Command::Script { folder } => is_memory(folder),
         Command::Serve {
-            folder,
             workers,
             regraders,
             ..
-        } => is_memory(folder) && *workers == 1 && *regraders == 0,
+        } => *workers == 1 && *regraders == 0,
         Command::Replay
         | Command::GiftCheck
         | Command::GiftFormat
+        | Command::Script { .. }
         | Command::Found { .. }
         | Command::Bulk { .. } => true,
     }
 }
 
-fn is_memory(folder: &Text) -> bool
-    ensures { result ≡ bytes_eq folder.now (codes "memory") }
+/// Whether a folder's word means the school in memory, which is no folder's.
+pub fn is_memory(folder: &Text) -> bool
+    ensures { result ≡ is_memory folder.now }
 {
     folder.as_str() == "memory"
 }

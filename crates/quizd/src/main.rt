@@ -5,6 +5,9 @@ ghost use Rattle.std.specs.Prelude.{◌≡◌, length, IfOk};
 
 mod built;
 mod bulk;
+mod folders;
+#[cfg(test)]
+mod folders_tests;
 mod gift;
 #[cfg(test)]
 mod gift_tests;
@@ -22,6 +25,7 @@ mod usage_tests;
 
 use built::built_command;
 pub use bulk::bulk;
+pub use folders::{script_folder, serve_folder};
 pub use gift::gift;
 use qz_command::{Command, WordsFault};
 use qz_disks::FolderShelf;
@@ -121,7 +125,7 @@ fn tell_folder(rt: &HostRuntime, folder: &Text, status: u8) {
         let folder = folder.as_str();
         // Where standard error fails too, the status tells it.
         let _ = eprintln!(rt;
-            "quizd: the folder {folder} can't be used: it or its file can't be opened, read or written, or another program holds it"
+            "quizd: the folder {folder} can't be used: it or a file of it can't be opened, read or written, or another program holds it"
         );
     }
 }
@@ -159,19 +163,17 @@ fn main(rt: HostRuntime) -> ExitCode {
     };
     let command = built_command(rt.alloc(), &words);
     let status = match &command {
-        Ok(Command::Serve { port, .. }) => run_at_port(rt, &words, *port),
-        Ok(Command::Found { folder, .. }) => {
+        Ok(Command::Serve { folder, port, .. }) => {
+            let status = run_at_port(rt, &words, *port);
+            tell_folder(&rt, folder, status);
+            status
+        }
+        Ok(Command::Found { folder, .. } | Command::Script { folder }) => {
             let status = run_alone(rt, &words);
             tell_folder(&rt, folder, status);
             status
         }
-        Ok(
-            Command::Replay
-            | Command::GiftCheck
-            | Command::GiftFormat
-            | Command::Script { .. }
-            | Command::Bulk { .. },
-        )
+        Ok(Command::Replay | Command::GiftCheck | Command::GiftFormat | Command::Bulk { .. })
         | Err(WordsFault::BadWords) => run_alone(rt, &words),
         Err(WordsFault::Memory) => Stop::Memory.status(),
     };

@@ -1,16 +1,15 @@
 //! The command line.
 
-ghost use Rattle.quizd.specs.Commands.{UsageWritten, NoneOut, RunEnds, RunsAll};
+ghost use Rattle.quizd.specs.Commands.{UsageWritten, NoneOut, RunEnds, RunsAll, ScriptDoesAll, ScriptEndsIn, ServeDoesAll, ServeEndsIn};
 ghost use Rattle.std.specs.Prelude.{◌≡◌, length};
 ghost use Rattle.qz_doors.specs.Answers.{Asks};
 ghost use Rattle.qz_doors.specs.Doors.{ServesDoor};
 ghost use Rattle.qz_ending.specs.Endings.{Ended};
-ghost use Rattle.qz_found.specs.FoundEndings.{FoundEnds, FoundsAll};
 ghost use Rattle.quizd.specs.Retries.{IsServedOnce};
-ghost use Rattle.quizd.specs.Serving.{DoorsEnd};
 
-use crate::built::built_command;
+use crate::built::{built_command, is_memory};
 use crate::bulk::bulk;
+use crate::folders::{script_folder, serve_folder};
 use crate::gift::gift;
 use crate::script::script;
 use crate::serve::serve;
@@ -30,9 +29,11 @@ const USAGE: &str =
 /// Runs the command that the words name, over a source, a sink, sixteen doors with a clock each, and a shelf of which no file is out, and
 /// answers its exit status.
 ///
-/// The commands so far are `replay`, `gift check`, `gift fmt`, `script memory`, `found FOLDER SHARDS TOKEN`, `bulk N` and
-/// `serve memory PORT 1 0 LINKS`, which serves the first of the doors. Words that are no command are status 2: nothing is read, and the usage
-/// line is written. Where the sink fails under the usage line the status is 5. Where memory is wanting for the words it is 8, and nothing is done.
+/// The commands so far are `replay`, `gift check`, `gift fmt`, `script FOLDER`, `found FOLDER SHARDS TOKEN`, `bulk N` and
+/// `serve FOLDER PORT 1 0 LINKS`, which serves the first of the doors. For a script and for serving, `memory` stands for a school in memory,
+/// just founded; any other word names a folder of the shelf, whose school is loaded, and given back with all that was accepted. Words that
+/// are no command are status 2: nothing is read, and the usage line is written. Where the sink fails under the usage line the status is 5.
+/// Where memory is wanting for the words it is 8, and nothing is done.
 pub fn run<S: Source, O: Sink, R: Door, C: Clock, F: Shelf>(
     alloc: Global,
     words: &[Text],
@@ -44,26 +45,21 @@ pub fn run<S: Source, O: Sink, R: Door, C: Clock, F: Shelf>(
     requires doors { length doors.old.items ≡ 16 }
     requires none_out { NoneOut (F.files shelf.old) }
     ensures ended { Ended
-        (RunEnds (λ school. FoundEnds school
-        (record { files = F.files shelf.old; faults = F.faults shelf.old })
-        (record { files = F.files shelf.new; faults = F.faults shelf.new })
-        (record { holds = O.holds sink.old; faults = O.faults sink.old })
-        (record { holds = O.holds sink.new; faults = O.faults sink.new }))
-        (λ links. DoorsEnd (λ door served a b end. ServesDoor (Asks C.tells IsServedOnce)
+        (RunEnds (record { moment = F.Disk.moment; left_at = F.Disk.left_at; sound = F.Disk.sound; faults = F.Disk.faults })
+        (λ links door served a b end. ServesDoor (Asks C.tells IsServedOnce)
         (λ link. record { left = R.Link.left link; holds = R.Link.holds link; faults = R.Link.faults link })
         links
         (record { left = R.left door; returned = R.returned door; returns = R.returns door; out = R.out door; faults = R.faults door })
         (record { left = R.left served; returned = R.returned served; returns = R.returns served; out = R.out served; faults = R.faults served })
-        a b end) doors.old.items doors.new.items (O.holds sink.old) (O.holds sink.new) (O.faults sink.old) (O.faults sink.new))
-        (record { doors = doors.old.items; shelf = shelf.old }) (record { doors = doors.new.items; shelf = shelf.new }) words.now
+        a b end)
+        (record { doors = doors.old.items; shelf = shelf.old; told = record { files = F.files shelf.old; faults = F.faults shelf.old } })
+        (record { doors = doors.new.items; shelf = shelf.new; told = record { files = F.files shelf.new; faults = F.faults shelf.new } }) words.now
         (record { left = S.left source.old; source_faults = S.faults source.old; holds = O.holds sink.old; sink_faults = O.faults sink.old })
         (record { left = S.left source.new; source_faults = S.faults source.new; holds = O.holds sink.new; sink_faults = O.faults sink.new }))
         result }
-    ensures complete { RunsAll (λ school status. FoundsAll school
+    ensures complete { RunsAll
         (record { files = F.files shelf.old; faults = F.faults shelf.old })
-        (record { files = F.files shelf.new; faults = F.faults shelf.new })
-        (record { holds = O.holds sink.old; faults = O.faults sink.old })
-        (record { holds = O.holds sink.new; faults = O.faults sink.new }) status) words.now
+        (record { files = F.files shelf.new; faults = F.faults shelf.new }) words.now
         (record { left = S.left source.old; source_faults = S.faults source.old; holds = O.holds sink.old; sink_faults = O.faults sink.old })
         (record { left = S.left source.new; source_faults = S.faults source.new; holds = O.holds sink.new; sink_faults = O.faults sink.new })
         result }
@@ -74,7 +70,7 @@ pub fn run<S: Source, O: Sink, R: Door, C: Clock, F: Shelf>(
         Ok(Command::Replay) => replay(alloc, source, sink),
         Ok(Command::GiftCheck) => gift(alloc, false, source, sink),
         Ok(Command::GiftFormat) => gift(alloc, true, source, sink),
-        Ok(Command::Script { folder: _folder }) => script(alloc, source, sink),
+        Ok(Command::Script { folder }) => run_script(alloc, &folder, source, sink, shelf),
         Ok(
             Command::Found {
                 folder,
@@ -84,16 +80,90 @@ pub fn run<S: Source, O: Sink, R: Door, C: Clock, F: Shelf>(
         ) => found_folder(alloc, folder.as_bytes(), shards, &token, sink, shelf),
         Ok(
             Command::Serve {
-                folder: _folder,
+                folder,
                 port: _port,
                 workers: _workers,
                 regraders: _regraders,
                 links,
             },
-        ) => serve(alloc, links as u64, sink, doors),
+        ) => run_serve(alloc, &folder, links as u64, sink, doors, shelf),
         Ok(Command::Bulk { count }) => bulk(alloc, count, sink),
         Err(WordsFault::BadWords) => show_usage(sink).status(),
         Err(WordsFault::Memory) => Stop::Memory.status(),
+    }
+}
+
+/// Answers a script over the school in memory, or over that of a folder.
+fn run_script<S: Source, O: Sink, F: Shelf>(
+    alloc: Global,
+    folder: &Text,
+    source: &mut S,
+    sink: &mut O,
+    shelf: &mut F,
+) -> u8
+    requires { NoneOut (F.files shelf.old) }
+    ensures ended { Ended
+        (ScriptEndsIn (record { moment = F.Disk.moment; left_at = F.Disk.left_at; sound = F.Disk.sound; faults = F.Disk.faults })
+        folder.now (shelf.new ≡ shelf.old)
+        (record { files = F.files shelf.old; faults = F.faults shelf.old })
+        (record { files = F.files shelf.new; faults = F.faults shelf.new })
+        (record { left = S.left source.old; source_faults = S.faults source.old; holds = O.holds sink.old; sink_faults = O.faults sink.old })
+        (record { left = S.left source.new; source_faults = S.faults source.new; holds = O.holds sink.new; sink_faults = O.faults sink.new }))
+        result }
+    ensures complete { ScriptDoesAll
+        (record { files = F.files shelf.old; faults = F.faults shelf.old })
+        (record { files = F.files shelf.new; faults = F.faults shelf.new }) folder.now
+        (record { left = S.left source.old; source_faults = S.faults source.old; holds = O.holds sink.old; sink_faults = O.faults sink.old })
+        (record { left = S.left source.new; source_faults = S.faults source.new; holds = O.holds sink.new; sink_faults = O.faults sink.new })
+        result }
+    ensures none_out { NoneOut (F.files shelf.new) }
+{
+    if is_memory(folder) {
+        script(alloc, source, sink)
+    } else {
+        script_folder(alloc, folder.as_bytes(), source, sink, shelf)
+    }
+}
+
+/// Serves links over the school in memory, or over that of a folder.
+fn run_serve<O: Sink, R: Door, C: Clock, F: Shelf>(
+    alloc: Global,
+    folder: &Text,
+    links: u64,
+    sink: &mut O,
+    doors: &mut Vec<(R, C)>,
+    shelf: &mut F,
+) -> u8
+    requires doors { length doors.old.items ≡ 16 }
+    requires none_out { NoneOut (F.files shelf.old) }
+    ensures ended { Ended
+        (ServeEndsIn (record { moment = F.Disk.moment; left_at = F.Disk.left_at; sound = F.Disk.sound; faults = F.Disk.faults })
+        folder.now (shelf.new ≡ shelf.old)
+        (λ door served a b end. ServesDoor (Asks C.tells IsServedOnce)
+        (λ link. record { left = R.Link.left link; holds = R.Link.holds link; faults = R.Link.faults link })
+        links
+        (record { left = R.left door; returned = R.returned door; returns = R.returns door; out = R.out door; faults = R.faults door })
+        (record { left = R.left served; returned = R.returned served; returns = R.returns served; out = R.out served; faults = R.faults served })
+        a b end)
+        doors.old.items doors.new.items
+        (record { files = F.files shelf.old; faults = F.faults shelf.old })
+        (record { files = F.files shelf.new; faults = F.faults shelf.new })
+        (record { holds = O.holds sink.old; faults = O.faults sink.old })
+        (record { holds = O.holds sink.new; faults = O.faults sink.new }))
+        result }
+    ensures complete { ServeDoesAll
+        (record { files = F.files shelf.old; faults = F.faults shelf.old })
+        (record { files = F.files shelf.new; faults = F.faults shelf.new }) folder.now
+        (record { holds = O.holds sink.old; faults = O.faults sink.old })
+        (record { holds = O.holds sink.new; faults = O.faults sink.new })
+        result }
+    ensures doors { length doors.new.items ≡ 16 }
+    ensures none_out { NoneOut (F.files shelf.new) }
+{
+    if is_memory(folder) {
+        serve(alloc, links, sink, doors)
+    } else {
+        serve_folder(alloc, folder.as_bytes(), links, sink, doors, shelf)
     }
 }
 

@@ -22,7 +22,7 @@ use std::alloc::Global;
 const CHUNK: usize = 65_536;
 
 /// A script has at most so many bytes.
-const LIMIT: usize = 1_073_741_824;
+pub(crate) const LIMIT: usize = 1_073_741_824;
 
 /// Answers the lines of a script over a school in memory that was just founded, with one shard and the manager's token `root`, and answers
 /// the exit status.

@@ -13,7 +13,7 @@ const USAGE: &str =
 
 /// What these words show, with nothing to read, over a shelf: the status and what was written, 9 bytes a call, of which the call with this
 /// number fails (0 for none).
-fn shown(
+pub(crate) fn shown(
     alloc: Global,
     words: &[&str],
     failing: u64,
@@ -39,7 +39,7 @@ fn shown(
 #[test]
 fn other_words_show_the_usage_line(rt: HostRuntime) -> Result<(), Fail> {
     let alloc = rt.alloc();
-    let rows: [&[&str]; 13] = [
+    let rows: [&[&str]; 11] = [
         &[],
         &[""],
         &["Replay"],
@@ -47,12 +47,10 @@ fn other_words_show_the_usage_line(rt: HostRuntime) -> Result<(), Fail> {
         &["--help"],
         &["gift"],
         &["script"],
-        &["script", "folder"],
         &["found", "school", "0", "root"],
         &["found", "school", "65", "root"],
-        &["serve", "folder", "8080", "1", "0", "1"],
         &["serve", "memory", "8080", "2", "0", "1"],
-        &["serve", "memory", "8080", "1", "1", "1"],
+        &["serve", "folder", "8080", "1", "1", "1"],
     ];
     for words in rows {
         let mut shelf = MemoryShelf::new(alloc, Listed::empty(alloc));
@@ -73,5 +71,8 @@ fn a_school_is_founded_on_the_shelf(rt: HostRuntime) -> Result<(), Fail> {
     assert_eq!(rt; (status, written.as_str()), (0, "founded 2\n"));
     let (status, written) = shown(alloc, &["found", "school", "3", "root"], 0, &mut shelf)?;
     assert_eq!(rt; (status, written.as_str()), (7, "founded already\n"));
+    let words = ["serve", "school", "8080", "1", "0", "1"];
+    let (status, written) = shown(alloc, &words, 0, &mut shelf)?;
+    assert_eq!(rt; (status, written.as_str()), (0, "served 0\n"));
     Ok(())
 }

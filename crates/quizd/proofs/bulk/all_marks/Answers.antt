@@ -1,4 +1,4 @@
-use Rattle.std.proofs.Common.{◌≡◌, length, ap, ◌∙◌}
+use Rattle.std.proofs.Common.{length, ap, ◌∙◌}
 use Rattle.qz_terms.specs.Serial.{Lists, part_list}
 use Rattle.quizd.proofs.BulkLemmas.{more_marks}
 use Rattle.quizd.proofs.bulk.all_marks.Goals as goal

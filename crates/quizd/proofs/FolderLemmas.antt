@@ -1,0 +1,226 @@
+-- A school whose lists keepers keep, as a desk; and how a command ends that serves the school of a folder.
+use Rattle.std.proofs.Common.{◌≡◌, ◌⊎◌, ℕ, ◌≤◌, Bool, true, false, List, [], length, Option, Some, None, inl, inr, refl, sym, ap, ◌∙◌, subst, arith}
+use Rattle.std.specs.Prelude.{IfSome, bytes_eq, unwrap_or}
+use Rattle.std.specs.Io.KnownBytes.{Keeps}
+use Rattle.std.proofs.lemmas.Bool.{true≢false}
+use Rattle.std.proofs.lemmas.List.{length-map}
+use Rattle.std.proofs.lemmas.Slice.Eq.{bytes_eq-Decides}
+use Rattle.qz_disks.specs.Shelves.{Files, NoneOutIn, Place, RisesBy, place}
+use Rattle.qz_ending.specs.declared.stop.Stop.{Stop}
+use Rattle.qz_ending.specs.declared.stop.Stop.TheVariants as stop
+use Rattle.qz_ending.specs.Endings.{Outside, status_of}
+use Rattle.qz_found.specs.FoundEndings.{Shelved, Sunk}
+use Rattle.qz_journal.specs.Journals.{IsSound, Ledger}
+use Rattle.qz_loading.specs.declared.fault.LoadFault.{LoadFault}
+use Rattle.qz_loading.specs.declared.fault.LoadFault.TheVariants as fault
+use Rattle.qz_loading.specs.Closing.{IsBack, PartsAreBack}
+use Rattle.qz_loading.specs.Opening.{IsLoadedFrom}
+use Rattle.qz_loading.specs.Places.{IsElsewhere, IsOut, KeepsElsewhere, catalog_place}
+use Rattle.qz_loading.proofs.Standing.{same_twice}
+use Rattle.qz_opening.specs.Unloaded.{IsUnloaded, UnloadedBy}
+use Rattle.qz_outside.specs.Causes.{HasRisen}
+use Rattle.qz_shard.specs.Keeping as part
+use Rattle.qz_solo.specs.Answering.{IsServed, MayBeAsked}
+use Rattle.qz_solo.specs.Solos.{Fails, GoOn, School, faults_of, held_of, lists_in}
+use Rattle.qz_solo.proofs.Keepers.{go_both, go_none}
+use Rattle.qz_serial.specs.Once.{AskedOnce}
+use Rattle.qz_serial.proofs.Staying.{asks_grow}
+use Rattle.qz_terms.specs.declared.ask.Ask.{Ask}
+use Rattle.qz_terms.specs.declared.reply.Reply.{Reply}
+use Rattle.qz_wire.specs.Brief.{IsBriefToken}
+use Rattle.quizd.specs.Commands.{NoneOut}
+use Rattle.quizd.specs.Folders.{Disks, DoorsFolderEnds, FolderEnds, IsGivenBack, ScriptFolderEnds, ServedFolder, ServesDoors, ServesFolder, Unserved, disk_faults, journal_faults, seen_of, sunk}
+use Rattle.quizd.specs.Retries.{AnswersOnce, Follows, Seen, TakesLines, asked, stays}
+use Rattle.quizd.specs.Scripts.{HasRisenBy, ServeEnds}
+use Rattle.quizd.specs.Serving.{ServedDoor, Serving}
+use Rattle.quizd.proofs.ScriptLemmas.{serves_all}
+
+-- ---- as a desk
+
+-- a keeper that is said to have failed has counted it
+by_count : {K : Type 0} (sound : K → Type 0) (faults : K → ℕ) (a b : School K) (now : ℕ) (ask : Ask) (r : Reply) → AskedOnce (Fails sound faults a b) (lists_in a) (lists_in b) now ask r
+    → AskedOnce (HasRisen (faults_of faults a) (faults_of faults b)) (lists_in a) (lists_in b) now ask r
+by_count sound faults a b now ask r o = record { asks = o.asks; cause = λ told. (o.cause told).rose; stands = o.stands; stays = o.stays; again = o.again }
+
+pub school_answers_once : {K : Type 0} (sound : K → Type 0) (faults : K → ℕ) → AnswersOnce lists_in (faults_of faults) (IsServed sound faults)
+school_answers_once sound faults = record { once = λ a b now ask r s. by_count sound faults a b now ask r s.once; later = λ a b now ask r s. s.goes_on.later }
+
+brief_key : (key : Option (List ℕ)) → IfSome key IsBriefToken → length (unwrap_or key []) ≤ 64
+brief_key None brief = omega arith
+brief_key (Some key) brief = brief.1
+
+pub school_takes_lines : TakesLines (λ (now : ℕ) (ask : Ask). MayBeAsked ask now)
+school_takes_lines = record {
+  taken = λ now ask c. record { keyed = c.keyed; kept = c.kept; described = c.described; moment_kept = c.moment_kept; brief = brief_key ask.key c.brief.key; names = c.brief.names };
+}
+
+-- ---- what requests leave
+
+count_held : {K : Type 0} (parts : List (part.Keeping K)) → length (held_of parts) ≡ length parts
+count_held parts = length-map parts (λ s. s.held)
+
+served-count : {K : Type 0} (sound : K → Type 0) (faults : K → ℕ) (a b : School K) (now : ℕ) (ask : Ask) (r : Reply) → IsServed sound faults a b now ask r → length b.parts ≡ length a.parts
+served-count sound faults a b now ask r s = sym (count_held b.parts) ∙ (asks_grow (lists_in a) (lists_in b) now ask r s.once.asks).count ∙ count_held a.parts
+
+pub follows_count : {K : Type 0} (sound : K → Type 0) (faults : K → ℕ) (a b : School K) → Follows (IsServed sound faults) a b → length b.parts ≡ length a.parts
+follows_count sound faults a _ (stays _) = refl
+follows_count sound faults a b (asked _ m _ now ask r front last) = served-count sound faults m b now ask r last ∙ follows_count sound faults a m front
+
+pub follows_goes : {K : Type 0} (sound : K → Type 0) (faults : K → ℕ) (a b : School K) → Follows (IsServed sound faults) a b → GoOn sound faults a b
+follows_goes sound faults a _ (stays _) = go_none sound faults a
+follows_goes sound faults a b (asked _ m _ now ask r front last) = go_both sound faults a m b (follows_goes sound faults a m front) last.goes_on
+
+-- ---- the shelf
+
+pub out_as_many : (folder : List ℕ) (n k : ℕ) (files : Files) → k ≡ n → IsOut folder n files → IsOut folder k files
+out_as_many folder n k files same out = subst (λ (m : ℕ). IsOut folder m files) (sym same) out
+
+elsewhere-on : (folder : List ℕ) (n k : ℕ) (a b c : Files) → k ≡ n → KeepsElsewhere folder n a b → KeepsElsewhere folder k b c → KeepsElsewhere folder n a c
+elsewhere-on folder n k a b c same one other = by (subst (λ (m : ℕ). KeepsElsewhere folder m b c) same other)
+  where
+    by : KeepsElsewhere folder n b c → KeepsElsewhere folder n a c
+    by two = record { is_out = λ at e. two.is_out at e ∙ one.is_out at e; file = λ at e. same_twice (a.file at) (b.file at) (c.file at) (one.file at e) (two.file at e) }
+
+rises-past : (before mid now n : ℕ) → before ≤ mid → RisesBy n mid now → HasRisenBy before n now
+rises-past before mid now n later rises = λ few. let more = rises.risen few in omega arith
+
+-- ---- a school that is given back
+
+-- What loading, serving and closing come to.
+pub given_back : {D : Type 0} (disks : Disks D) (folder : List ℕ) (old new : Shelved) (mid : Files) (count : ℕ) (a b : School (Ledger D))
+    → IsLoadedFrom disks.moment disks.left_at folder old.files a.catalog a.parts → KeepsElsewhere folder (length a.parts) old.files mid → old.faults ≤ count
+    → Follows (IsServed (IsSound disks.sound) (journal_faults disks)) a b
+    → IsBack b.catalog.keeper b.catalog.held (new.files.file (catalog_place folder)) → PartsAreBack folder b.parts new.files → KeepsElsewhere folder (length b.parts) mid new.files
+    → RisesBy (disk_faults disks b) count new.faults → IsGivenBack disks folder old new a b
+given_back disks folder old new mid count a b loaded apart later follows catalog parts others rises =
+    let same = follows_count (IsSound disks.sound) (journal_faults disks) a b follows in
+    record {
+      loaded = loaded;
+      count = same;
+      goes_on = follows_goes (IsSound disks.sound) (journal_faults disks) a b follows;
+      catalog = catalog;
+      parts = parts;
+      others = elsewhere-on folder (length a.parts) (length b.parts) old.files mid new.files same apart others;
+      risen = rises-past old.faults count new.faults (disk_faults disks b) later rises;
+    }
+
+pub served_ends : {D : Type 0} (disks : Disks D) (folder : List ℕ) (serves : Seen → Seen → Option Stop → Type 0) (kept : Type 0) (old new : Shelved) (before now : Sunk) (a b : School (Ledger D)) (s : Option Stop)
+    → IsGivenBack disks folder old new a b → serves (seen_of disks a) (seen_of disks b) s → NoneOutIn folder new.files → old.faults ≤ new.faults → FolderEnds disks folder serves kept old new before now s
+served_ends disks folder serves kept old new before now a b s back served inside later = record { by = inl (record { loaded = a; closed = b; back = back; served = served }); none_out = inside; later = later }
+
+-- ---- files that don't give a school
+
+record IsUnloadedFor (folder : List ℕ) (old new : Shelved) : Type 0 where
+  cause : LoadFault
+  unloaded : IsUnloaded folder old new cause
+
+unloaded-for : (folder : List ℕ) (old new : Shelved) (before now : Sunk) (s : Stop) → UnloadedBy folder old new before now s → IsUnloadedFor folder old new
+unloaded-for folder old new before now stop.BadWords u = absurd u
+unloaded-for folder old new before now (stop.Malformed line) u = absurd u
+unloaded-for folder old new before now (stop.Unreadable line rule) u = absurd u
+unloaded-for folder old new before now stop.SourceFault u = absurd u
+unloaded-for folder old new before now stop.SinkFault u = record { cause = u.cause; unloaded = u.unloaded }
+unloaded-for folder old new before now stop.ShelfFault u = record { cause = fault.Fault; unloaded = u.unloaded }
+unloaded-for folder old new before now stop.Refused u = record { cause = u.cause; unloaded = u.unloaded }
+unloaded-for folder old new before now stop.Memory u = record { cause = u.cause; unloaded = u.unloaded }
+unloaded-for folder old new before now stop.TooLong u = absurd u
+unloaded-for folder old new before now stop.DoorFault u = absurd u
+
+unloaded_none_out : (folder : List ℕ) (old new : Shelved) (before now : Sunk) (s : Stop) → UnloadedBy folder old new before now s → NoneOutIn folder new.files
+unloaded_none_out folder old new before now s u = (unloaded-for folder old new before now s u).unloaded.none_out
+
+pub unloaded_ends : {D : Type 0} (disks : Disks D) (folder : List ℕ) (serves : Seen → Seen → Option Stop → Type 0) (kept : Type 0) (old new : Shelved) (before now : Sunk) (s : Stop) → UnloadedBy folder old new before now s → kept → old.faults ≤ new.faults
+    → FolderEnds disks folder serves kept old new before now (Some s)
+unloaded_ends disks folder serves kept old new before now s u is later = record { by = inr (u, is); none_out = unloaded_none_out folder old new before now s u; later = later }
+
+-- ---- all that nothing kept from being done
+
+not_raised : (folder : List ℕ) (old new : Shelved) (before now : Sunk) (s : Stop) → UnloadedBy folder old new before now s → ¬ HasRisen before.faults now.faults → ¬ HasRisen old.faults new.faults → (status_of (Some s) ≡ 7) ⊎ (status_of (Some s) ≡ 8)
+not_raised folder old new before now stop.BadWords u sink shelf = absurd u
+not_raised folder old new before now (stop.Malformed line) u sink shelf = absurd u
+not_raised folder old new before now (stop.Unreadable line rule) u sink shelf = absurd u
+not_raised folder old new before now stop.SourceFault u sink shelf = absurd u
+not_raised folder old new before now stop.SinkFault u sink shelf = absurd (sink u.risen)
+not_raised folder old new before now stop.ShelfFault u sink shelf = absurd (shelf u.risen)
+not_raised folder old new before now stop.Refused u sink shelf = inl refl
+not_raised folder old new before now stop.Memory u sink shelf = inr refl
+not_raised folder old new before now stop.TooLong u sink shelf = absurd u
+not_raised folder old new before now stop.DoorFault u sink shelf = absurd u
+
+unserved_status : (folder : List ℕ) (kept : Type 0) (old new : Shelved) (before now : Sunk) (s : Option Stop) → Unserved folder kept old new before now s → ¬ HasRisen before.faults now.faults → ¬ HasRisen old.faults new.faults
+    → (status_of s ≡ 7) ⊎ (status_of s ≡ 8)
+unserved_status folder kept old new before now None u sink shelf = absurd u
+unserved_status folder kept old new before now (Some s) u sink shelf = not_raised folder old new before now s u.0 sink shelf
+
+pub serves_folder : {D : Type 0} (disks : Disks D) (folder : List ℕ) (limit : ℕ) (old new : Shelved) (before now : Outside) (s : Option Stop) → ScriptFolderEnds disks folder limit old new before now s → ServesFolder limit old new before now (status_of s)
+serves_folder disks folder limit old new before now s e = record { done = λ text is within source sink shelf. by text is within source sink shelf e.by }
+  where
+    by : (text : List ℕ) → before.left ≡ Some text → length text ≤ limit → ¬ HasRisen before.source_faults now.source_faults → ¬ HasRisen before.sink_faults now.sink_faults → ¬ HasRisen old.faults new.faults
+        → ServedFolder disks folder (λ a b. ServeEnds limit a b before now s) old new ⊎ Unserved folder (Keeps before.left now.left) old new (sunk before) (sunk now) s
+        → (status_of s ≡ 0) ⊎ ((status_of s ≡ 7) ⊎ (status_of s ≡ 8))
+    by text is within source sink shelf (inl done) = elim ((serves_all limit (seen_of disks done.loaded) (seen_of disks done.closed) before now s done.served).done text is within source sink) [ inl all ↦ inl all | inr wanting ↦ inr (inr wanting) ]
+    by text is within source sink shelf (inr not) = inr (unserved_status folder (Keeps before.left now.left) old new (sunk before) (sunk now) s not sink shelf)
+
+door-status : {R C : Type 0} (serves : Serving R C) (doors after : List (R × C)) (a b : Seen) (old new : Option (List ℕ)) (before now : ℕ) (s : Option Stop) → ServedDoor serves doors after a b old new before now s
+    → ¬ HasRisen before now → (status_of s ≡ 0) ⊎ ((status_of s ≡ 8) ⊎ (status_of s ≡ 10))
+door-status serves doors after a b old new before now None e quiet = inl refl
+door-status serves doors after a b old new before now (Some stop.BadWords) e quiet = absurd e.says
+door-status serves doors after a b old new before now (Some (stop.Malformed line)) e quiet = absurd e.says
+door-status serves doors after a b old new before now (Some (stop.Unreadable line rule)) e quiet = absurd e.says
+door-status serves doors after a b old new before now (Some stop.SourceFault) e quiet = absurd e.says
+door-status serves doors after a b old new before now (Some stop.SinkFault) e quiet = absurd (quiet e.says.1)
+door-status serves doors after a b old new before now (Some stop.Memory) e quiet = inr (inl refl)
+door-status serves doors after a b old new before now (Some stop.TooLong) e quiet = absurd e.says
+door-status serves doors after a b old new before now (Some stop.ShelfFault) e quiet = absurd e.says
+door-status serves doors after a b old new before now (Some stop.Refused) e quiet = absurd e.says
+door-status serves doors after a b old new before now (Some stop.DoorFault) e quiet = inr (inr refl)
+
+pub serves_doors : {D R C : Type 0} (disks : Disks D) (folder : List ℕ) (serves : Serving R C) (doors after : List (R × C)) (old new : Shelved) (before now : Sunk) (s : Option Stop)
+    → DoorsFolderEnds disks folder serves doors after old new before now s → ServesDoors old new before now (status_of s)
+serves_doors disks folder serves doors after old new before now s e = record { done = λ sink shelf. by sink shelf e.by }
+  where
+    by : ¬ HasRisen before.faults now.faults → ¬ HasRisen old.faults new.faults
+        → ServedFolder disks folder (λ a b. ServedDoor serves doors after a b before.holds now.holds before.faults now.faults s) old new ⊎ Unserved folder (after ≡ doors) old new before now s
+        → (status_of s ≡ 0) ⊎ ((status_of s ≡ 7) ⊎ ((status_of s ≡ 8) ⊎ (status_of s ≡ 10)))
+    by sink shelf (inl done) = elim (door-status serves doors after (seen_of disks done.loaded) (seen_of disks done.closed) before.holds now.holds before.faults now.faults s done.served sink) [
+      | inl all ↦ inl all
+      | inr other ↦ inr (inr other)
+    ]
+    by sink shelf (inr not) = elim (unserved_status folder (after ≡ doors) old new before now s not sink shelf) [ inl why ↦ inr (inl why) | inr wanting ↦ inr (inr (inl wanting)) ]
+
+pub unserved_folder : (folder : List ℕ) (limit : ℕ) (old new : Shelved) (before now : Outside) (s : Stop) → UnloadedBy folder old new (sunk before) (sunk now) s → ServesFolder limit old new before now (status_of (Some s))
+unserved_folder folder limit old new before now s u = record { done = λ text is within source sink shelf. inr (not_raised folder old new (sunk before) (sunk now) s u sink shelf) }
+
+pub unserved_doors : (folder : List ℕ) (old new : Shelved) (before now : Sunk) (s : Stop) → UnloadedBy folder old new before now s → ServesDoors old new before now (status_of (Some s))
+unserved_doors folder old new before now s u = record { done = λ sink shelf. elim (not_raised folder old new before now s u sink shelf) [ inl why ↦ inr (inl why) | inr wanting ↦ inr (inr (inl wanting)) ] }
+
+-- ---- no file is out
+
+same-folder : (folder : List ℕ) (at : Place) → at.folder ≡ folder → place folder at.name ≡ at
+same-folder folder at is = ap (λ (f : List ℕ). place f at.name) (sym is)
+
+other-folder : (folder : List ℕ) (count : ℕ) (at : Place) → (at.folder ≡ folder → ⊥) → IsElsewhere folder count at
+other-folder folder count at apart = record {
+  no_catalog = λ is. apart (ap (λ (p : Place). p.folder) is);
+  no_part = record { each = λ k within is. apart (ap (λ (p : Place). p.folder) is) };
+}
+
+none-out-by : (folder : List ℕ) (count : ℕ) (old new : Files) (at : Place) (b : Bool) → bytes_eq at.folder folder ≡ b → NoneOut old → NoneOutIn folder new → KeepsElsewhere folder count old new → new.is_out at ≡ false
+none-out-by folder count old new at true same was inside apart =
+    let is : at.folder ≡ folder = (bytes_eq-Decides at.folder folder).0 same in
+    subst (λ (p : Place). new.is_out p ≡ false) (same-folder folder at is) (inside.each at.name)
+none-out-by folder count old new at false same was inside apart =
+    let other : at.folder ≡ folder → ⊥ = λ is. true≢false (sym ((bytes_eq-Decides at.folder folder).1 is) ∙ same) in
+    apart.is_out at (other-folder folder count at other) ∙ was.each at
+
+elsewhere_none_out : (folder : List ℕ) (count : ℕ) (old new : Files) → NoneOut old → NoneOutIn folder new → KeepsElsewhere folder count old new → NoneOut new
+elsewhere_none_out folder count old new was inside apart = record { each = λ at. none-out-by folder count old new at (bytes_eq at.folder folder) refl was inside apart }
+
+pub folder_none_out : {D : Type 0} (disks : Disks D) (folder : List ℕ) (serves : Seen → Seen → Option Stop → Type 0) (kept : Type 0) (old new : Shelved) (before now : Sunk) (s : Option Stop)
+    → NoneOut old.files → FolderEnds disks folder serves kept old new before now s → NoneOut new.files
+folder_none_out disks folder serves kept old new before now s was e = by s e.by
+  where
+    by : (t : Option Stop) → ServedFolder disks folder (λ a b. serves a b t) old new ⊎ Unserved folder kept old new before now t → NoneOut new.files
+    by t (inl done) = elsewhere_none_out folder (length done.loaded.parts) old.files new.files was e.none_out done.back.others
+    by None (inr not) = absurd not
+    by (Some t) (inr not) = record { each = λ at. (unloaded-for folder old new before now t not.0).unloaded.stay.is_out at ∙ was.each at }

@@ -1,0 +1,105 @@
+//! Serving the school of a folder.
+
+ghost use Rattle.std.specs.Prelude.{◌≡◌, ◌<◌, length};
+ghost use Rattle.qz_disks.specs.Shelves.{NoneOutIn};
+ghost use Rattle.qz_doors.specs.Answers.{Asks};
+ghost use Rattle.qz_doors.specs.Doors.{ServesDoor};
+ghost use Rattle.qz_ending.specs.Endings.{Ended};
+ghost use Rattle.quizd.specs.Folders.{DoorsFolderEnds, ScriptFolderEnds, ServesDoors, ServesFolder};
+ghost use Rattle.quizd.specs.Retries.{IsServedOnce};
+ghost use Rattle.quizd.specs.Scripts.{script_limit};
+
+use crate::script::{LIMIT, serve};
+use crate::serve::serve_links;
+use qz_disks::Shelf;
+use qz_links::{Clock, Door};
+use qz_opening::open_school;
+use qz_outside::{Sink, Source};
+use qz_solo::close;
+use std::alloc::Global;
+
+/// Answers the lines of a script over the school of a folder, of which no file is out, and answers the exit status.
+///
+/// Each reply is written before the next line is read, and what it says is kept then: where a keeper of the lists failed the reply says so.
+/// With status 7 the files don't give a school, and one line says why; with status 6 the shelf failed, or the disk of a file; nothing was
+/// read then. Afterwards each file is given back, and stands for its list, also where the script ended early.
+pub fn script_folder<S: Source, O: Sink, F: Shelf>(
+    alloc: Global,
+    folder: &[u8],
+    source: &mut S,
+    sink: &mut O,
+    shelf: &mut F,
+) -> u8
+    requires { NoneOutIn folder.now (F.files shelf.old) }
+    ensures ended { Ended
+        (ScriptFolderEnds (record { moment = F.Disk.moment; left_at = F.Disk.left_at; sound = F.Disk.sound; faults = F.Disk.faults })
+        folder.now script_limit
+        (record { files = F.files shelf.old; faults = F.faults shelf.old })
+        (record { files = F.files shelf.new; faults = F.faults shelf.new })
+        (record { left = S.left source.old; source_faults = S.faults source.old; holds = O.holds sink.old; sink_faults = O.faults sink.old })
+        (record { left = S.left source.new; source_faults = S.faults source.new; holds = O.holds sink.new; sink_faults = O.faults sink.new }))
+        result }
+    ensures complete { ServesFolder script_limit
+        (record { files = F.files shelf.old; faults = F.faults shelf.old })
+        (record { files = F.files shelf.new; faults = F.faults shelf.new })
+        (record { left = S.left source.old; source_faults = S.faults source.old; holds = O.holds sink.old; sink_faults = O.faults sink.old })
+        (record { left = S.left source.new; source_faults = S.faults source.new; holds = O.holds sink.new; sink_faults = O.faults sink.new })
+        result }
+{
+    match open_school(alloc, folder, sink, shelf) {
+        Ok(mut desk) => {
+            let status = serve(alloc, LIMIT, &mut desk, source, sink);
+            close(shelf, folder, desk);
+            status
+        }
+        Err(stop) => stop.status(),
+    }
+}
+
+/// Serves the first of some doors over the school of a folder, of which no file is out, until `links` links were taken, none comes or the door
+/// fails; writes `served N`, how many were taken, and answers the exit status.
+///
+/// With status 7 the files don't give a school, and one line says why; with status 6 the shelf failed, or the disk of a file; no link was
+/// taken then. Afterwards each file is given back, and stands for its list.
+pub fn serve_folder<O: Sink, R: Door, C: Clock, F: Shelf>(
+    alloc: Global,
+    folder: &[u8],
+    links: u64,
+    sink: &mut O,
+    doors: &mut Vec<(R, C)>,
+    shelf: &mut F,
+) -> u8
+    requires none_out { NoneOutIn folder.now (F.files shelf.old) }
+    requires some_door { 0 < length doors.old.items }
+    ensures ended { Ended
+        (DoorsFolderEnds (record { moment = F.Disk.moment; left_at = F.Disk.left_at; sound = F.Disk.sound; faults = F.Disk.faults })
+        folder.now
+        (λ door served a b end. ServesDoor (Asks C.tells IsServedOnce)
+        (λ link. record { left = R.Link.left link; holds = R.Link.holds link; faults = R.Link.faults link })
+        links
+        (record { left = R.left door; returned = R.returned door; returns = R.returns door; out = R.out door; faults = R.faults door })
+        (record { left = R.left served; returned = R.returned served; returns = R.returns served; out = R.out served; faults = R.faults served })
+        a b end)
+        doors.old.items doors.new.items
+        (record { files = F.files shelf.old; faults = F.faults shelf.old })
+        (record { files = F.files shelf.new; faults = F.faults shelf.new })
+        (record { holds = O.holds sink.old; faults = O.faults sink.old })
+        (record { holds = O.holds sink.new; faults = O.faults sink.new }))
+        result }
+    ensures complete { ServesDoors
+        (record { files = F.files shelf.old; faults = F.faults shelf.old })
+        (record { files = F.files shelf.new; faults = F.faults shelf.new })
+        (record { holds = O.holds sink.old; faults = O.faults sink.old })
+        (record { holds = O.holds sink.new; faults = O.faults sink.new })
+        result }
+    ensures doors { length doors.new.items ≡ length doors.old.items }
+{
+    match open_school(alloc, folder, sink, shelf) {
+        Ok(mut desk) => {
+            let status = serve_links(alloc, links, &mut desk, sink, doors);
+            close(shelf, folder, desk);
+            status
+        }
+        Err(stop) => stop.status(),
+    }
+}
