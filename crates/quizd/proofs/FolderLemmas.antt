@@ -1,6 +1,6 @@
 -- A school whose lists keepers keep, as a desk; and how a command ends that serves the school of a folder.
 use Rattle.std.proofs.Common.{◌≡◌, ◌⊎◌, ℕ, ◌≤◌, Bool, true, false, List, [], length, Option, Some, None, inl, inr, refl, sym, ap, ◌∙◌, subst, arith}
-use Rattle.std.specs.Prelude.{IfSome, bytes_eq, unwrap_or}
+use Rattle.std.specs.Prelude.{bytes_eq}
 use Rattle.std.specs.Io.KnownBytes.{Keeps}
 use Rattle.std.proofs.lemmas.Bool.{true≢false}
 use Rattle.std.proofs.lemmas.List.{length-map}
@@ -20,17 +20,16 @@ use Rattle.qz_loading.proofs.Standing.{same_twice}
 use Rattle.qz_opening.specs.Unloaded.{IsUnloaded, UnloadedBy}
 use Rattle.qz_outside.specs.Causes.{HasRisen}
 use Rattle.qz_shard.specs.Keeping as part
-use Rattle.qz_solo.specs.Answering.{IsServed, MayBeAsked}
+use Rattle.qz_solo.specs.Answering.{IsServed}
 use Rattle.qz_solo.specs.Solos.{Fails, GoOn, School, faults_of, held_of, lists_in}
 use Rattle.qz_solo.proofs.Keepers.{go_both, go_none}
 use Rattle.qz_serial.specs.Once.{AskedOnce}
 use Rattle.qz_serial.proofs.Staying.{asks_grow}
 use Rattle.qz_terms.specs.declared.ask.Ask.{Ask}
 use Rattle.qz_terms.specs.declared.reply.Reply.{Reply}
-use Rattle.qz_wire.specs.Brief.{IsBriefToken}
 use Rattle.quizd.specs.Commands.{NoneOut}
 use Rattle.quizd.specs.Folders.{Disks, DoorsFolderEnds, FolderEnds, IsGivenBack, ScriptFolderEnds, ServedFolder, ServesDoors, ServesFolder, Unserved, disk_faults, journal_faults, seen_of, sunk}
-use Rattle.quizd.specs.Retries.{AnswersOnce, Follows, Seen, TakesLines, asked, stays}
+use Rattle.quizd.specs.Retries.{AnswersOnce, Follows, Seen, asked, stays}
 use Rattle.quizd.specs.Scripts.{HasRisenBy, ServeEnds}
 use Rattle.quizd.specs.Serving.{ServedDoor, Serving}
 use Rattle.quizd.proofs.ScriptLemmas.{serves_all}
@@ -44,15 +43,6 @@ by_count sound faults a b now ask r o = record { asks = o.asks; cause = λ told.
 
 pub school_answers_once : {K : Type 0} (sound : K → Type 0) (faults : K → ℕ) → AnswersOnce lists_in (faults_of faults) (IsServed sound faults)
 school_answers_once sound faults = record { once = λ a b now ask r s. by_count sound faults a b now ask r s.once; later = λ a b now ask r s. s.goes_on.later }
-
-brief_key : (key : Option (List ℕ)) → IfSome key IsBriefToken → length (unwrap_or key []) ≤ 64
-brief_key None brief = omega arith
-brief_key (Some key) brief = brief.1
-
-pub school_takes_lines : TakesLines (λ (now : ℕ) (ask : Ask). MayBeAsked ask now)
-school_takes_lines = record {
-  taken = λ now ask c. record { keyed = c.keyed; kept = c.kept; described = c.described; moment_kept = c.moment_kept; brief = brief_key ask.key c.brief.key; names = c.brief.names };
-}
 
 -- ---- what requests leave
 

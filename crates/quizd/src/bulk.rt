@@ -345,7 +345,12 @@ fn told_text(
 }
 
 /// What is told of a school of so many students, whose marks had this sum before its first question was corrected.
-fn school_text(alloc: Global, school: &mut MemorySchool, count: u32, before: i128) -> Result<Text, NoMemory>
+fn school_text(
+    alloc: Global,
+    school: &mut MemorySchool,
+    count: u32,
+    before: i128,
+) -> Result<Text, NoMemory>
     requires few { count ≤ 2000 }
     requires one { length school.old.parts ≡ 1 }
     ensures { IfOk result (λ text. text ≡ school_text count before school.old) }

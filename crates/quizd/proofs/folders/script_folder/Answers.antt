@@ -1,10 +1,11 @@
 use Rattle.std.proofs.Common.{Some, arith}
 use Rattle.std.proofs.KnownBytes.{Keeps-refl}
-use Rattle.quizd.proofs.FolderLemmas.{follows_count, given_back, out_as_many, school_answers_once, school_takes_lines, served_ends, serves_folder, unloaded_ends, unserved_folder}
+use Rattle.quizd.proofs.FolderLemmas.{follows_count, given_back, out_as_many, school_answers_once, served_ends, serves_folder, unloaded_ends, unserved_folder}
+use Rattle.quizd.proofs.SoloLemmas.{takes_lines}
 use Rattle.quizd.proofs.folders.script_folder.Goals as goal
 
 pub serve-status-requires-clause-takes : goal.serve-status-requires-clause-takes
-serve-status-requires-clause-takes g c = school_takes_lines
+serve-status-requires-clause-takes g c = takes_lines
 
 pub serve-status-requires-clause-answers : goal.serve-status-requires-clause-answers
 serve-status-requires-clause-answers g c = school_answers_once _ _

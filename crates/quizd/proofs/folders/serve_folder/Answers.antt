@@ -1,9 +1,10 @@
 use Rattle.std.proofs.Common.{Some, refl, arith}
-use Rattle.quizd.proofs.FolderLemmas.{follows_count, given_back, out_as_many, school_answers_once, school_takes_lines, served_ends, serves_doors, unloaded_ends, unserved_doors}
+use Rattle.quizd.proofs.FolderLemmas.{follows_count, given_back, out_as_many, school_answers_once, served_ends, serves_doors, unloaded_ends, unserved_doors}
+use Rattle.quizd.proofs.SoloLemmas.{takes_lines}
 use Rattle.quizd.proofs.folders.serve_folder.Goals as goal
 
 pub serve_links-status-requires-clause-takes : goal.serve_links-status-requires-clause-takes
-serve_links-status-requires-clause-takes g c = school_takes_lines
+serve_links-status-requires-clause-takes g c = takes_lines
 
 pub serve_links-status-requires-clause-answers : goal.serve_links-status-requires-clause-answers
 serve_links-status-requires-clause-answers g c = school_answers_once _ _
