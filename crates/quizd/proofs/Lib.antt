@@ -7,5 +7,4 @@ pub mod SeenLemmas
 pub mod FollowLemmas
 pub mod BulkLemmas
 pub mod GiftLemmas
-pub mod ServingLemmas
 pub mod FolderLemmas

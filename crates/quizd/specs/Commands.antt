@@ -16,11 +16,11 @@ use Rattle.qz_replay.specs.ReplayEndings.{ReplayEnds, ReplaysAll}
 use Rattle.qz_disks.specs.Shelves.{Files, Place}
 use Rattle.qz_found.specs.FoundEndings.{FoundEnds, FoundsAll, Shelved, Sunk}
 use Rattle.quizd.specs.Folders.{Disks, DoorsFolderEnds, ScriptFolderEnds, ServesDoors, ServesFolder, sunk}
-use Rattle.quizd.specs.Serving.{DoorsEnd, Serving}
+use Rattle.quizd.specs.Serving.{Serving}
 use Rattle.quizd.specs.Scripts.{ScriptEnds, ServesAll, script_limit}
 use Rattle.quizd.specs.GiftEndings.{GiftEnds, GiftsAll}
 
--- the school in memory, which is no folder's
+-- the school in memory of a script, which is no folder's
 abbrev pub is_memory : List ℕ → Bool
 is_memory folder = bytes_eq folder (codes "memory")
 
@@ -89,12 +89,6 @@ ScriptEndsIn disks folder stays old new before now s =
     MatchBool (is_memory folder) (ScriptEnds script_limit first_lists before now s × stays)
     (ScriptFolderEnds disks folder script_limit old new before now s)
 
--- Links are served at the first of some doors over the school in memory, and the shelf stays; or over the school of a folder.
-abbrev pub ServeEndsIn : {D R C : Type 0} → Disks D → List ℕ → Type 0 → Serving R C → List (R × C) → List (R × C) → Shelved → Shelved → Sunk → Sunk → Option Stop → Type 0
-ServeEndsIn disks folder stays serving doors after old new before now s =
-    MatchBool (is_memory folder) (DoorsEnd serving doors after before.holds now.holds before.faults now.faults s × stays)
-    (DoorsFolderEnds disks folder serving doors after old new before now s)
-
 -- A script and founding leave the doors as they are, and neither founding nor serving links reads anything of the source. All other commands
 -- leave doors and shelf as they are.
 abbrev pub CommandEndsAt : {D R C F : Type 0} → Disks D → (ℕ → Serving R C) → Beside R C F → Beside R C F → Option Command → Outside → Outside → Option Stop → Type 0
@@ -105,7 +99,7 @@ CommandEndsAt disks serving at after (Some (command.Found folder shards token)) 
     × FoundEnds (record { folder = folder; shards = shards; token = token }) at.told after.told (sunk old) (sunk new) s
 CommandEndsAt disks serving at after (Some (command.Serve folder port workers regraders links)) old new s =
     Keeps old.left new.left
-    × ServeEndsIn disks folder (after.shelf ≡ at.shelf) (serving links) at.doors after.doors at.told after.told (sunk old) (sunk new) s
+    × DoorsFolderEnds disks folder (serving links) at.doors after.doors at.told after.told (sunk old) (sunk new) s
 CommandEndsAt disks serving at after c old new s = CommandEnds c old new s × AreLeft at after
 
 -- memory was wanting for the words, and nothing was done
@@ -124,11 +118,6 @@ abbrev pub ScriptDoesAll : Shelved → Shelved → List ℕ → Outside → Outs
 ScriptDoesAll at after folder old new status =
     MatchBool (is_memory folder) (ServesAll script_limit old new status) (ServesFolder script_limit at after old new status)
 
-abbrev pub ServeDoesAll : Shelved → Shelved → List ℕ → Sunk → Sunk → ℕ → Type 0
-ServeDoesAll at after folder before now status =
-    MatchBool (is_memory folder) (¬ HasRisen before.faults now.faults → (status ≡ 0) ⊎ ((status ≡ 8) ⊎ (status ≡ 10)))
-    (ServesDoors at after before now status)
-
 abbrev pub CommandDoesAll : Shelved → Shelved → Option Command → Outside → Outside → ℕ → Type 0
 CommandDoesAll at after None old new status = Unit {0}
 CommandDoesAll at after (Some command.Replay) old new status = ReplaysAll old new status
@@ -138,7 +127,7 @@ CommandDoesAll at after (Some (command.Script folder)) old new status = ScriptDo
 CommandDoesAll at after (Some (command.Found folder shards token)) old new status =
     FoundsAll (record { folder = folder; shards = shards; token = token }) at after (sunk old) (sunk new) status
 CommandDoesAll at after (Some (command.Serve folder port workers regraders links)) old new status =
-    ServeDoesAll at after folder (sunk old) (sunk new) status
+    ServesDoors at after (sunk old) (sunk new) status
 CommandDoesAll at after (Some (command.Bulk count)) old new status = ¬ HasRisen old.sink_faults new.sink_faults → (status ≡ 0) ⊎ (status ≡ 8)
 
 abbrev pub RunsAll : Shelved → Shelved → List (List ℕ) → Outside → Outside → ℕ → Type 0

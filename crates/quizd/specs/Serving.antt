@@ -3,14 +3,12 @@ use Rattle.std.specs.Prelude.{◌≡◌, ◌⊎◌, ℕ, ◌<◌, true, false, L
 use Rattle.std.specs.Io.KnownBytes.{Appends, Keeps}
 use Rattle.qz_outside.specs.Causes.{HasRisen}
 use Rattle.qz_outside.specs.Sources.{AppendsFront}
-use Rattle.qz_terms.specs.Serial.{Lists}
 use Rattle.qz_doors.specs.declared.door.DoorEnd.{DoorEnd}
 use Rattle.qz_doors.specs.Answers.{Answerer}
 use Rattle.qz_ending.specs.declared.stop.Stop.{Stop}
 use Rattle.qz_ending.specs.declared.stop.Stop.TheVariants as stop
 use Rattle.qz_wire.specs.Lines.{newline}
 use Rattle.quizd.specs.Retries.{Seen}
-use Rattle.quizd.specs.Solo.{first_lists, in_memory}
 
 -- what serving a door means: the door, then what answers, of which its desk is seen, before and after, and how it ended
 abbrev pub Serving : Type 0 → Type 0 → Type 1
@@ -43,18 +41,3 @@ pub record ServedDoor {D C : Type 0} (serves : Serving D C) (doors after : List 
   pub end : DoorEnd
   pub first : ServesFirst serves doors after a b end
   pub says : SaysServed old new before now end s
-
--- it was served over a school in memory that was just founded
-pub record ServedFounded {D C : Type 0} (serves : Serving D C) (doors after : List (D × C)) (old new : Option (List ℕ)) (before now : ℕ) (s : Option Stop) : Type 0 where
-  pub lists : Lists
-  pub served : ServedDoor serves doors after (in_memory first_lists) (in_memory lists) old new before now s
-
--- memory was wanting for the school: no link was taken, and nothing written
-pub record NotServed {D C : Type 0} (doors after : List (D × C)) (old new : Option (List ℕ)) : Type 0 where
-  pub doors_stay : after ≡ doors
-  pub unwritten : Keeps old new
-
--- so serving ends over such a school
-abbrev pub DoorsEnd : {D C : Type 0} → Serving D C → List (D × C) → List (D × C) → Option (List ℕ) → Option (List ℕ) → ℕ → ℕ → Option Stop → Type 0
-DoorsEnd serves doors after old new before now (Some stop.Memory) = ServedFounded serves doors after old new before now (Some stop.Memory) ⊎ NotServed doors after old new
-DoorsEnd serves doors after old new before now s = ServedFounded serves doors after old new before now s

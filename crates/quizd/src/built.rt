@@ -43,8 +43,8 @@ fn is_built(command: &Command) -> bool
     }
 }
 
-/// Whether a folder's word means the school in memory, which is no folder's.
-pub fn is_memory(folder: &Text) -> bool
+/// Whether the folder's word of a script means the school in memory, which is no folder's.
+pub(crate) fn is_memory(folder: &Text) -> bool
     ensures { result ≡ is_memory folder.now }
 {
     folder.as_str() == "memory"

@@ -96,3 +96,66 @@ fn a_damaged_file_is_told(rt: HostRuntime) -> Result<(), Fail> {
     assert_eq!(rt; (status, written.as_str()), (7, "damaged catalog.jnl 0\n"));
     Ok(())
 }
+
+/// The first lines with the last of them twice, where a file fails to keep it at once.
+const UNKEPT: &str = "\
+100 root a1 user ann student ann
+100 root a2 import ::Sky::Sky{T}
+100 root a3 quiz Q deferredfeedback
+100 root a4 slot 1 1 2
+100 root a5 ready 1
+110 ann k1 start 1
+120 ann k2 save 2.1 1 0 pick:1
+120 ann k2 save 2.1 1 0 pick:1
+";
+
+/// What is written for that.
+const UNKEPT_SAID: &str = "\
+ok 2 made 2
+ok 3 imported 1 1
+ok 4 made 1
+ok 5 slot 1
+ok 6 done
+ok 1 started 2.1 1 -
+refused 19
+ok 2 step complete -
+";
+
+/// The same in a later run, and what it left.
+const KEPT: &str = "\
+120 ann k2 save 2.1 1 0 pick:1
+130 ann - view 2.1 1
+";
+
+/// What is written for that.
+const KEPT_SAID: &str = "\
+ok 2 step complete -
+ok 2 slot complete - 1 1
+";
+
+/// A shelf on which a file of the school fails one call.
+fn failing(alloc: Global, call: u64) -> Result<MemoryShelf, NoMemory>
+    ensures { IfOk result (λ shelf. NoneOut (memory_files shelf.slots)) }
+{
+    let mut calls = Listed::empty(alloc);
+    calls.items.push(call)?;
+    let disk = MemoryDisk::new(alloc, calls);
+    let mut shelf = MemoryShelf::new(alloc, Listed::empty(alloc));
+    shelf.put(alloc, b"school", b"part-00.jnl", disk)?;
+    Ok(shelf)
+}
+
+#[test]
+fn a_record_in_doubt_is_found_or_put_anew(rt: HostRuntime) -> Result<(), Fail> {
+    let alloc = rt.alloc();
+    // The write of the gate that opens the second record, and the sync after it: five calls load the file, and each record takes four.
+    for call in [12, 13] {
+        let mut shelf = failing(alloc, call)?;
+        shown(alloc, &["found", "school", "1", "root"], 0, &mut shelf)?;
+        let (status, written) = scripted(alloc, UNKEPT, &mut shelf)?;
+        assert_eq!(rt; (status, written.as_str()), (0, UNKEPT_SAID));
+        let (status, written) = scripted(alloc, KEPT, &mut shelf)?;
+        assert_eq!(rt; (status, written.as_str()), (0, KEPT_SAID));
+    }
+    Ok(())
+}

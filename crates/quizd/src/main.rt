@@ -37,7 +37,6 @@ pub use qz_replay::replay;
 use qz_text::{Listed, NoMemory, Text};
 pub use run::run;
 pub use script::script;
-pub use serve::serve;
 use std::alloc::Global;
 use std::process::ExitCode;
 use std::rt::Env;

@@ -1,6 +1,6 @@
 //! The command line.
 
-ghost use Rattle.quizd.specs.Commands.{UsageWritten, NoneOut, RunEnds, RunsAll, ScriptDoesAll, ScriptEndsIn, ServeDoesAll, ServeEndsIn};
+ghost use Rattle.quizd.specs.Commands.{UsageWritten, NoneOut, RunEnds, RunsAll, ScriptDoesAll, ScriptEndsIn};
 ghost use Rattle.std.specs.Prelude.{◌≡◌, length};
 ghost use Rattle.qz_doors.specs.Answers.{Asks};
 ghost use Rattle.qz_doors.specs.Doors.{ServesDoor};
@@ -12,7 +12,6 @@ use crate::bulk::bulk;
 use crate::folders::{script_folder, serve_folder};
 use crate::gift::gift;
 use crate::script::script;
-use crate::serve::serve;
 use qz_command::{Command, WordsFault};
 use qz_disks::Shelf;
 use qz_ending::Stop;
@@ -30,9 +29,8 @@ const USAGE: &str =
 /// answers its exit status.
 ///
 /// The commands so far are `replay`, `gift check`, `gift fmt`, `script FOLDER`, `found FOLDER SHARDS TOKEN`, `bulk N` and
-/// `serve FOLDER PORT 1 0 LINKS`, which serves the first of the doors. For a script and for serving, `memory` stands for a school in memory,
-/// just founded; any other word names a folder of the shelf, whose school is loaded, and given back with all that was accepted. Words that
-/// are no command are status 2: nothing is read, and the usage line is written. Where the sink fails under the usage line the status is 5.
+/// `serve FOLDER PORT 1 0 LINKS`, which serves the first of the doors. The folder's school is loaded, and given back with all that was
+/// accepted; for a script `memory` stands for a school in memory, just founded. Words that are no command are status 2: nothing is read, and the usage line is written. Where the sink fails under the usage line the status is 5.
 /// Where memory is wanting for the words it is 8, and nothing is done.
 pub fn run<S: Source, O: Sink, R: Door, C: Clock, F: Shelf>(
     alloc: Global,
@@ -86,7 +84,7 @@ pub fn run<S: Source, O: Sink, R: Door, C: Clock, F: Shelf>(
                 regraders: _regraders,
                 links,
             },
-        ) => run_serve(alloc, &folder, links as u64, sink, doors, shelf),
+        ) => serve_folder(alloc, folder.as_bytes(), links as u64, sink, doors, shelf),
         Ok(Command::Bulk { count }) => bulk(alloc, count, sink),
         Err(WordsFault::BadWords) => show_usage(sink).status(),
         Err(WordsFault::Memory) => Stop::Memory.status(),
@@ -122,48 +120,6 @@ fn run_script<S: Source, O: Sink, F: Shelf>(
         script(alloc, source, sink)
     } else {
         script_folder(alloc, folder.as_bytes(), source, sink, shelf)
-    }
-}
-
-/// Serves links over the school in memory, or over that of a folder.
-fn run_serve<O: Sink, R: Door, C: Clock, F: Shelf>(
-    alloc: Global,
-    folder: &Text,
-    links: u64,
-    sink: &mut O,
-    doors: &mut Vec<(R, C)>,
-    shelf: &mut F,
-) -> u8
-    requires doors { length doors.old.items ≡ 16 }
-    requires none_out { NoneOut (F.files shelf.old) }
-    ensures ended { Ended
-        (ServeEndsIn (record { moment = F.Disk.moment; left_at = F.Disk.left_at; sound = F.Disk.sound; faults = F.Disk.faults })
-        folder.now (shelf.new ≡ shelf.old)
-        (λ door served a b end. ServesDoor (Asks C.tells IsServedOnce)
-        (λ link. record { left = R.Link.left link; holds = R.Link.holds link; faults = R.Link.faults link })
-        links
-        (record { left = R.left door; returned = R.returned door; returns = R.returns door; out = R.out door; faults = R.faults door })
-        (record { left = R.left served; returned = R.returned served; returns = R.returns served; out = R.out served; faults = R.faults served })
-        a b end)
-        doors.old.items doors.new.items
-        (record { files = F.files shelf.old; faults = F.faults shelf.old })
-        (record { files = F.files shelf.new; faults = F.faults shelf.new })
-        (record { holds = O.holds sink.old; faults = O.faults sink.old })
-        (record { holds = O.holds sink.new; faults = O.faults sink.new }))
-        result }
-    ensures complete { ServeDoesAll
-        (record { files = F.files shelf.old; faults = F.faults shelf.old })
-        (record { files = F.files shelf.new; faults = F.faults shelf.new }) folder.now
-        (record { holds = O.holds sink.old; faults = O.faults sink.old })
-        (record { holds = O.holds sink.new; faults = O.faults sink.new })
-        result }
-    ensures doors { length doors.new.items ≡ 16 }
-    ensures none_out { NoneOut (F.files shelf.new) }
-{
-    if is_memory(folder) {
-        serve(alloc, links, sink, doors)
-    } else {
-        serve_folder(alloc, folder.as_bytes(), links, sink, doors, shelf)
     }
 }
 

@@ -5,44 +5,15 @@ ghost use Rattle.qz_ending.specs.Endings.{Ended};
 ghost use Rattle.qz_doors.specs.Answers.{Asks};
 ghost use Rattle.qz_doors.specs.Doors.{ServesDoor};
 ghost use Rattle.quizd.specs.Retries.{AnswersOnce, Follows, IsServedOnce, TakesLines};
-ghost use Rattle.quizd.specs.Serving.{DoorsEnd, SaysServed, ServedDoor, ServesFirst, served_line};
+ghost use Rattle.quizd.specs.Serving.{SaysServed, ServedDoor, ServesFirst, served_line};
 
 use qz_doors::{DoorEnd, serve_door};
 use qz_ending::Stop;
 use qz_links::{Clock, Door};
 use qz_outside::{Sink, write_all};
-use qz_solo::MemorySchool;
 use qz_terms::Desk;
 use qz_text::NoMemory;
 use std::alloc::Global;
-
-/// Serves the first of some doors over a school in memory that was just founded, with one shard and the manager's token `root`, until
-/// `links` links were taken, none comes or the door fails; writes `served N`, how many were taken, and answers the exit status.
-///
-/// Status 10: the door failed. Status 8: memory was wanting for the school, for the line, or for a link, which has ended then. The other doors stay as
-/// they are.
-pub fn serve<O: Sink, R: Door, C: Clock>(
-    alloc: Global,
-    links: u64,
-    sink: &mut O,
-    doors: &mut Vec<(R, C)>,
-) -> u8
-    requires some_door { 0 < length doors.old.items }
-    ensures ended { Ended
-        (DoorsEnd (λ door served a b end. ServesDoor (Asks C.tells IsServedOnce)
-        (λ link. record { left = R.Link.left link; holds = R.Link.holds link; faults = R.Link.faults link })
-        links
-        (record { left = R.left door; returned = R.returned door; returns = R.returns door; out = R.out door; faults = R.faults door })
-        (record { left = R.left served; returned = R.returned served; returns = R.returns served; out = R.out served; faults = R.faults served })
-        a b end) doors.old.items doors.new.items (O.holds sink.old) (O.holds sink.new) (O.faults sink.old) (O.faults sink.new))
-        result }
-    ensures doors { length doors.new.items ≡ length doors.old.items }
-{
-    match MemorySchool::founded(alloc, 1, "root") {
-        Ok(mut desk) => serve_links(alloc, links, &mut desk, sink, doors),
-        Err(NoMemory) => Stop::Memory.status(),
-    }
-}
 
 /// Serves the first of some doors over a desk, until `links` links were taken, none comes or the door fails; writes `served N`, how many were
 /// taken, and answers the exit status.
@@ -50,7 +21,7 @@ pub fn serve<O: Sink, R: Door, C: Clock>(
 /// The desk takes whatever a link can ask, and what was accepted with its key is told again. Where a keeper of its lists fails the reply
 /// says so, the desk's count of faults rises, and the next request is answered. Nothing but requests changes the desk.
 /// Status 10: the door failed. Status 8: memory was wanting for the line, or for a link, which has ended then. The other doors stay as they are.
-pub fn serve_links<D: Desk, O: Sink, R: Door, C: Clock>(
+pub(crate) fn serve_links<D: Desk, O: Sink, R: Door, C: Clock>(
     alloc: Global,
     links: u64,
     desk: &mut D,

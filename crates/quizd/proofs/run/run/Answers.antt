@@ -4,6 +4,7 @@ use Rattle.std.proofs.KnownBytes.{Keeps-refl}
 use Rattle.qz_command.specs.declared.command.Command.TheVariants as command
 use Rattle.qz_ending.specs.declared.stop.Stop.TheVariants as stop
 use Rattle.quizd.specs.Commands.{built_command}
+use Rattle.quizd.proofs.FolderLemmas.{folder_none_out}
 use Rattle.quizd.proofs.run.run.Goals as goal
 
 pub returns-in-Ok-Found-clause-ended : goal.returns-in-Ok-Found-clause-ended
@@ -38,14 +39,19 @@ pub returns-in-Ok-Serve-clause-ended : goal.returns-in-Ok-Serve-clause-ended
 returns-in-Ok-Serve-clause-ended g c =
     let s = c.in-Ok-Serve in
     let is : built_command c.args.words.now ≡ Some (command.Serve s.folder s._port s._workers s._regraders s.links) = search rules in
-    let e = c.run_serve.ensures.ended in
+    let e = rw c.as_bytes-in-Ok-Serve.ensures at c.serve_folder.ensures.ended in
     record { stop = e.stop; status_is = e.status_is; cause = inl (rw is (Keeps-refl _, e.cause)) }
 
 pub returns-in-Ok-Serve-clause-complete : goal.returns-in-Ok-Serve-clause-complete
 returns-in-Ok-Serve-clause-complete g c =
     let s = c.in-Ok-Serve in
     let is : built_command c.args.words.now ≡ Some (command.Serve s.folder s._port s._workers s._regraders s.links) = search rules in
-    rw is c.run_serve.ensures.complete
+    rw is c.serve_folder.ensures.complete
+
+pub returns-in-Ok-Serve-clause-none_out : goal.returns-in-Ok-Serve-clause-none_out
+returns-in-Ok-Serve-clause-none_out g c =
+    let e = rw c.as_bytes-in-Ok-Serve.ensures at c.serve_folder.ensures.ended in
+    folder_none_out _ _ _ _ _ _ _ _ e.stop c.requires.none_out e.cause
 
 pub returns-in-Err-BadWords-clause-ended : goal.returns-in-Err-BadWords-clause-ended
 returns-in-Err-BadWords-clause-ended g c =
