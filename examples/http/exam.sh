@@ -9,7 +9,8 @@ failed=0
 trap 'kill "$server" 2>/dev/null; rm -rf "$work"' EXIT
 requests=$(grep -c . "$here/exam.txt")
 # One link for each request, and four for the clients behind them.
-"$here/../../quizd" ${UNPROVED:+--unproved} serve memory "$port" 1 0 $((requests + 4)) >"$work/served" 2>"$work/errors" &
+"$here/../../quizd" ${UNPROVED:+--unproved} found "$work/school" 1 root >/dev/null || exit 1
+"$here/../../quizd" ${UNPROVED:+--unproved} serve "$work/school" "$port" 1 0 $((requests + 4)) >"$work/served" 2>"$work/errors" &
 server=$!
 for _ in $(seq 1200); do
     (exec 3<>"/dev/tcp/127.0.0.1/$port") 2>/dev/null && break
