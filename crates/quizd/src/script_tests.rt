@@ -56,15 +56,27 @@ fn scripted(alloc: Global, text: &[u8], outer: Outer) -> Result<(u8, String), No
     Ok((status, String::from_utf8_lossy(alloc, sink.bytes())?))
 }
 
-/// The same under a limit of bytes.
-fn scripted_within(alloc: Global, text: &[u8], limit: usize) -> Result<(u8, String), NoMemory>
+/// What comes of a text under a limit of bytes, over a school that the caller ends.
+fn served_within(
+    alloc: Global,
+    text: &[u8],
+    limit: usize,
+    desk: &mut MemorySchool,
+) -> Result<(u8, String), NoMemory>
     requires { limit < 2 ^ 32 }
 {
     let mut source = source_of(alloc, text, WELL)?;
     let mut sink = sink_for(alloc, WELL)?;
-    let mut desk = MemorySchool::founded(alloc, 1, "root")?;
-    let status = serve(alloc, limit, &mut desk, &mut source, &mut sink);
+    let status = serve(alloc, limit, desk, &mut source, &mut sink);
     Ok((status, String::from_utf8_lossy(alloc, sink.bytes())?))
+}
+
+/// The same over a school that was just founded.
+fn scripted_within(alloc: Global, text: &[u8], limit: usize) -> Result<(u8, String), NoMemory>
+    requires { limit < 2 ^ 32 }
+{
+    let mut desk = MemorySchool::founded(alloc, 1, "root")?;
+    served_within(alloc, text, limit, &mut desk)
 }
 
 /// Two students, a question of which true is right, and a quiz with one slot of max mark 2, which is ready.

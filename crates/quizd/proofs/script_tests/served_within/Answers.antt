@@ -1,5 +1,5 @@
 use Rattle.quizd.proofs.SoloLemmas.{solo_answers_once, takes_lines}
-use Rattle.quizd.proofs.script_tests.scripted_within.Goals as goal
+use Rattle.quizd.proofs.script_tests.served_within.Goals as goal
 
 pub serve-status-requires-clause-takes : goal.serve-status-requires-clause-takes
 serve-status-requires-clause-takes c = takes_lines
