@@ -1,11 +1,11 @@
 -- A school whose lists keepers keep, as a desk; and how a command ends that serves the school of a folder.
-use Rattle.std.proofs.Common.{◌≡◌, ◌⊎◌, ℕ, ◌≤◌, Bool, true, false, List, [], length, Option, Some, None, inl, inr, refl, sym, ap, ◌∙◌, subst, arith}
+use Rattle.std.proofs.Common.{◌≡◌, ◌⊎◌, ℕ, ◌≤◌, Bool, true, false, List, [], length, Option, Some, None, is_some, IfSome, inl, inr, refl, sym, ap, ◌∙◌, subst, arith}
 use Rattle.std.specs.Prelude.{bytes_eq}
 use Rattle.std.specs.Io.KnownBytes.{Keeps}
 use Rattle.std.proofs.lemmas.Bool.{true≢false}
 use Rattle.std.proofs.lemmas.List.{length-map}
 use Rattle.std.proofs.lemmas.Slice.Eq.{bytes_eq-Decides}
-use Rattle.qz_disks.specs.Shelves.{Files, NoneOutIn, Place, RisesBy, place}
+use Rattle.qz_disks.specs.Shelves.{File, Files, NoneOutIn, Place, RisesBy, place}
 use Rattle.qz_ending.specs.declared.stop.Stop.{Stop}
 use Rattle.qz_ending.specs.declared.stop.Stop.TheVariants as stop
 use Rattle.qz_ending.specs.Endings.{Outside, status_of}
@@ -15,7 +15,8 @@ use Rattle.qz_loading.specs.declared.fault.LoadFault.{LoadFault}
 use Rattle.qz_loading.specs.declared.fault.LoadFault.TheVariants as fault
 use Rattle.qz_loading.specs.Closing.{IsBack, PartsAreBack}
 use Rattle.qz_loading.specs.Opening.{IsLoadedFrom}
-use Rattle.qz_loading.specs.Places.{IsElsewhere, IsOut, KeepsElsewhere, catalog_place}
+use Rattle.qz_folders.specs.Names.{catalog_name, part_name}
+use Rattle.qz_loading.specs.Places.{IsElsewhere, IsOut, KeepsElsewhere, catalog_place, part_place}
 use Rattle.qz_loading.proofs.Standing.{same_twice}
 use Rattle.qz_opening.specs.Unloaded.{IsUnloaded, UnloadedBy}
 use Rattle.qz_outside.specs.Causes.{HasRisen}
@@ -27,8 +28,9 @@ use Rattle.qz_serial.specs.Once.{AskedOnce}
 use Rattle.qz_serial.proofs.Staying.{asks_grow}
 use Rattle.qz_terms.specs.declared.ask.Ask.{Ask}
 use Rattle.qz_terms.specs.declared.reply.Reply.{Reply}
+use Rattle.qz_terms.specs.Serial.{Held}
 use Rattle.quizd.specs.Commands.{NoneOut}
-use Rattle.quizd.specs.Folders.{Disks, DoorsFolderEnds, FolderEnds, IsGivenBack, ScriptFolderEnds, ServedFolder, ServesDoors, ServesFolder, Unserved, disk_faults, journal_faults, seen_of, sunk}
+use Rattle.quizd.specs.Folders.{Disks, DoorsFolderEnds, FolderEnds, IsGivenBack, IsStanding, ScriptFolderEnds, ServedFolder, ServesDoors, ServesFolder, Unserved, disk_faults, seen_of, sunk}
 use Rattle.quizd.specs.Retries.{AnswersOnce, Follows, Seen, asked, stays}
 use Rattle.quizd.specs.Scripts.{HasRisenBy, ServeEnds}
 use Rattle.quizd.specs.Serving.{ServedDoor, Serving}
@@ -74,24 +76,43 @@ elsewhere-on folder n k a b c same one other = by (subst (λ (m : ℕ). KeepsEls
 rises-past : (before mid now n : ℕ) → before ≤ mid → RisesBy n mid now → HasRisenBy before n now
 rises-past before mid now n later rises = λ few. let more = rises.risen few in omega arith
 
+often-past : (before mid now m n k : ℕ) → before ≤ mid → RisesBy n mid now → HasRisenBy m k n → HasRisenBy before k now
+often-past before mid now m n k later rises told = λ few. let more = rises.risen few in let those = told (omega arith) in omega arith
+
 -- ---- a school that is given back
+
+-- a file that was told stands for its list
+told-stands : {P : Type 0} (was is : Option (List ℕ)) (kept : Option (List (List ℕ))) → is_some was ≡ is_some is → is_some kept ≡ is_some is → IfSome kept (λ _. P) → IfSome was (λ _. P)
+told-stands None is kept same tells stands = tt
+told-stands (Some bytes) is None same tells stands = absurd cc
+told-stands (Some bytes) is (Some payloads) same tells stands = stands
+
+-- Shelves of a kind tell of the same files of a folder, of which none is out.
+abbrev pub TellAlike : List ℕ → Files → Files → Type 0
+TellAlike folder old new = (name : List ℕ) → is_some (old.file (place folder name)).reads ≡ is_some (new.file (place folder name)).reads
+
+back-stands : {D : Type 0} (old new : File) (journal : Ledger D) (held : Held) → is_some old.reads ≡ is_some new.reads → IsBack journal held new → IsStanding held old new
+back-stands old new journal held same back = told-stands old.reads new.reads journal.kept same back.tells back.stands
 
 -- What loading, serving and closing come to.
 pub given_back : {D : Type 0} (disks : Disks D) (folder : List ℕ) (old new : Shelved) (mid : Files) (count : ℕ) (a b : School (Ledger D))
-    → IsLoadedFrom disks.moment disks.left_at folder old.files a.catalog a.parts → KeepsElsewhere folder (length a.parts) old.files mid → old.faults ≤ count
-    → Follows (IsServed (IsSound disks.sound) (journal_faults disks)) a b
+    → TellAlike folder old.files new.files → IsLoadedFrom disks.moment disks.left_at folder old.files a.catalog a.parts → KeepsElsewhere folder (length a.parts) old.files mid → old.faults ≤ count
+    → Follows (IsServed (IsSound disks.sound) (λ journal. disks.faults journal.disk)) a b
     → IsBack b.catalog.keeper b.catalog.held (new.files.file (catalog_place folder)) → PartsAreBack folder b.parts new.files → KeepsElsewhere folder (length b.parts) mid new.files
     → RisesBy (disk_faults disks b) count new.faults → IsGivenBack disks folder old new a b
-given_back disks folder old new mid count a b loaded apart later follows catalog parts others rises =
-    let same = follows_count (IsSound disks.sound) (journal_faults disks) a b follows in
+given_back disks folder old new mid count a b alike loaded apart later follows catalog parts others rises =
+    let same = follows_count (IsSound disks.sound) (λ journal. disks.faults journal.disk) a b follows in
     record {
       loaded = loaded;
       count = same;
-      goes_on = follows_goes (IsSound disks.sound) (journal_faults disks) a b follows;
-      catalog = catalog;
-      parts = parts;
+      goes_on = follows_goes (IsSound disks.sound) (λ journal. disks.faults journal.disk) a b follows;
+      catalog = back-stands (old.files.file (catalog_place folder)) (new.files.file (catalog_place folder)) b.catalog.keeper b.catalog.held (alike catalog_name) catalog;
+      parts = record {
+        each = λ k s got. back-stands (old.files.file (part_place folder k)) (new.files.file (part_place folder k)) s.keeper s.held (alike (part_name k)) (parts.each k s got);
+      };
       others = elsewhere-on folder (length a.parts) (length b.parts) old.files mid new.files same apart others;
       risen = rises-past old.faults count new.faults (disk_faults disks b) later rises;
+      as_often = λ n told. often-past old.faults count new.faults (disk_faults disks a) (disk_faults disks b) n later rises told;
     }
 
 pub served_ends : {D : Type 0} (disks : Disks D) (folder : List ℕ) (serves : Seen → Seen → Option Stop → Type 0) (kept : Type 0) (old new : Shelved) (before now : Sunk) (a b : School (Ledger D)) (s : Option Stop)

@@ -1,17 +1,19 @@
 -- How a command ends that serves the school of a folder: a school as it was loaded, and as it was given back.
-use Rattle.std.specs.Prelude.{◌≡◌, ◌⊎◌, ℕ, ◌+◌, ◌≤◌, List, length, sum_by, Option, Some, None}
+use Rattle.std.specs.Prelude.{◌≡◌, ◌⊎◌, ℕ, ◌≤◌, List, length, Option, Some, None, IfSome, slice_get}
 use Rattle.std.specs.Io.KnownBytes.{Keeps}
-use Rattle.qz_disks.specs.Shelves.{NoneOutIn}
+use Rattle.qz_disks.specs.Shelves.{File, Files, NoneOutIn}
 use Rattle.qz_ending.specs.declared.stop.Stop.{Stop}
 use Rattle.qz_ending.specs.Endings.{Outside}
 use Rattle.qz_found.specs.FoundEndings.{Shelved, Sunk}
 use Rattle.qz_journal.specs.Journals.{IsSound, Ledger}
-use Rattle.qz_loading.specs.Closing.{IsBack, PartsAreBack}
+use Rattle.qz_loading.specs.Closing.{StandForList}
 use Rattle.qz_loading.specs.Opening.{IsLoadedFrom}
-use Rattle.qz_loading.specs.Places.{KeepsElsewhere, catalog_place}
+use Rattle.qz_loading.specs.Places.{KeepsElsewhere, catalog_place, part_place}
 use Rattle.qz_opening.specs.Unloaded.{UnloadedBy}
 use Rattle.qz_outside.specs.Causes.{HasRisen}
+use Rattle.qz_shard.specs.Keeping as part
 use Rattle.qz_solo.specs.Solos.{GoOn, School, faults_of, lists_in}
+use Rattle.qz_terms.specs.Serial.{Held}
 use Rattle.quizd.specs.Retries.{Seen}
 use Rattle.quizd.specs.Scripts.{HasRisenBy, ServeEnds}
 use Rattle.quizd.specs.Serving.{ServedDoor, Serving}
@@ -24,30 +26,36 @@ pub record Disks (D : Type 0) : Type 1 where
   pub sound : D → Type 0
   pub faults : D → ℕ
 
--- how often a journal failed: its disk did, or was found damaged when it was opened again
-abbrev pub journal_faults : {D : Type 0} → Disks D → Ledger D → ℕ
-journal_faults disks journal = disks.faults journal.disk + journal.damages
+-- how often the disks of a school's files failed, in all
+abbrev pub disk_faults : {D : Type 0} → Disks D → School (Ledger D) → ℕ
+disk_faults disks a = faults_of (λ journal. disks.faults journal.disk) a
 
 -- what is seen of a school whose lists journals keep
 abbrev pub seen_of : {D : Type 0} → Disks D → School (Ledger D) → Seen
-seen_of disks a = record { lists = lists_in a; faults = faults_of (journal_faults disks) a }
-
--- how often the disks of its files failed, in all
-abbrev pub disk_faults : {D : Type 0} → Disks D → School (Ledger D) → ℕ
-disk_faults disks a = disks.faults a.catalog.keeper.disk + sum_by (λ s. disks.faults s.keeper.disk) a.parts
+seen_of disks a = record { lists = lists_in a; faults = disk_faults disks a }
 
 -- ---- a school that is served
+
+-- each image that a crash may leave of a file stands for a list then, where the file was told
+abbrev pub IsStanding : Held → File → File → Type 0
+IsStanding held old new = IfSome old.reads (λ _. StandForList held new.left)
+
+-- so do those of these shards' files
+pub record PartsStand {D : Type 0} (folder : List ℕ) (parts : List (part.Keeping (Ledger D))) (old new : Files) : Type 0 where
+  pub each : (k : ℕ) (s : part.Keeping (Ledger D)) → slice_get parts k ≡ Some s → IsStanding s.held (old.file (part_place folder k)) (new.file (part_place folder k))
 
 -- The files of a folder gave the school a, and took b back: each stands for its list then, and no other file on the shelf changed.
 pub record IsGivenBack {D : Type 0} (disks : Disks D) (folder : List ℕ) (old new : Shelved) (a b : School (Ledger D)) : Type 0 where
   pub loaded : IsLoadedFrom disks.moment disks.left_at folder old.files a.catalog a.parts
   pub count : length b.parts ≡ length a.parts
-  pub goes_on : GoOn (IsSound disks.sound) (journal_faults disks) a b
-  pub catalog : IsBack b.catalog.keeper b.catalog.held (new.files.file (catalog_place folder))
-  pub parts : PartsAreBack folder b.parts new.files
+  pub goes_on : GoOn (IsSound disks.sound) (λ journal. disks.faults journal.disk) a b
+  pub catalog : IsStanding b.catalog.held (old.files.file (catalog_place folder)) (new.files.file (catalog_place folder))
+  pub parts : PartsStand folder b.parts old.files new.files
   pub others : KeepsElsewhere folder (length a.parts) old.files new.files
   -- the shelf's count takes those of the disks
   pub risen : HasRisenBy old.faults (disk_faults disks b) new.faults
+  -- so however often they failed while it was served, the shelf's count rose as often
+  pub as_often : (n : ℕ) → HasRisenBy (disk_faults disks a) n (disk_faults disks b) → HasRisenBy old.faults n new.faults
 
 -- it was served so, from what was seen of it as it was loaded to what was seen of it as it was given back
 pub record ServedFolder {D : Type 0} (disks : Disks D) (folder : List ℕ) (serves : Seen → Seen → Type 0) (old new : Shelved) : Type 0 where

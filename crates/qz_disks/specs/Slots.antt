@@ -1,5 +1,5 @@
 -- The slots in which a shelf keeps what it knows of its files, and what shelves in memory and over folders hold.
-use Rattle.std.specs.Prelude.{◌≡◌, ◌≢◌, ℕ, Bool, true, false, ◌&&◌, List, [], length, Option, Some, None, find, option_map, option_and_then, bytes_eq, unwrap_or, IfSome}
+use Rattle.std.specs.Prelude.{◌≡◌, ◌≢◌, ℕ, Bool, true, false, ◌&&◌, List, [], length, Option, Some, None, find, option_map, option_and_then, bytes_eq, unwrap_or, is_some, IfSome, refl}
 use Rattle.qz_disks.specs.Changes.{Change, content, LeftAt, left_now, History}
 use Rattle.qz_disks.specs.Shelves.{Place, File, Files}
 use Rattle.qz_disks.specs.declared.slots.Slot.{Slot}
@@ -47,6 +47,20 @@ reads_in (Some (Some disk)) here = left_now disk.changes
 pub memory_reads_now : (slots : List (Slot (Option History))) (at : Place) → (memory_files slots).is_out at ≡ false
     → IfSome ((memory_files slots).file at).reads ((memory_files slots).file at).left
 memory_reads_now slots at here = reads_in (stands_at at slots) here
+
+told_in : (o p : Option (Option History)) → is_taken o ≡ false → is_taken p ≡ false → is_some (file_in o).reads ≡ is_some (file_in p).reads
+told_in (Some None) p here there = absurd cc
+told_in None None here there = refl
+told_in None (Some None) here there = absurd cc
+told_in None (Some (Some disk)) here there = refl
+told_in (Some (Some disk)) None here there = refl
+told_in (Some (Some disk)) (Some None) here there = absurd cc
+told_in (Some (Some disk)) (Some (Some other)) here there = refl
+
+-- each file in memory is told
+pub memory_tells_alike : (one other : List (Slot (Option History))) (at : Place) → (memory_files one).is_out at ≡ false → (memory_files other).is_out at ≡ false
+    → is_some ((memory_files one).file at).reads ≡ is_some ((memory_files other).file at).reads
+memory_tells_alike one other at here there = told_in (stands_at at one) (stands_at at other) here there
 
 -- a disk on which nothing ever happened
 abbrev pub empty_disk : History

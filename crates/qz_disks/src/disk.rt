@@ -1,7 +1,7 @@
 //! A disk: a file as a journal sees it.
 
-ghost use Rattle.std.specs.Prelude.{◌≡◌, ℕ, ◌+◌, ◌-◌, ◌^◌, ◌<◌, ◌≤◌, List, length, take, drop, Option, option_map, is_some, IfSome, IfOk, IsErr, OnOk};
-ghost use Rattle.qz_outside.specs.Causes.{HasCause};
+ghost use Rattle.std.specs.Prelude.{◌≡◌, ℕ, ◌+◌, ◌-◌, ◌^◌, ◌<◌, ◌≤◌, List, length, take, drop, Option, None, option_map, is_some, IfSome, IfOk, IsErr, OnOk};
+ghost use Rattle.qz_outside.specs.Causes.{HasCause, HasRisen};
 ghost use Rattle.qz_disks.specs.Sound.{StaysSound};
 ghost use Rattle.qz_disks.specs.Disks.{overwritten, growth, Torn, Cut, Same, Elapses, IsDurable, Room, Spends, HasRoom};
 
@@ -107,6 +107,13 @@ pub trait Disk {
             (left_at self.old) (left_at self.new) }
         ensures faults { faults self.new ≡ faults self.old }
         ensures sound { sound self.old → sound self.new };
+
+    /// Counts a failure that no call told: what was read can't stand on the disk. Of one that tells its bytes that is never so.
+    fn count_fault(&mut self)
+        requires { reads self.old ≡ None }
+        ensures reads { reads self.new ≡ reads self.old }
+        ensures later { faults self.old ≤ faults self.new }
+        ensures rose { HasRisen (faults self.old) (faults self.new) };
 
     /// A disk as it reads is one of the outcomes of a crash.
     ghost reads_now: { (disk : Self) → IfSome (reads disk) (left_at disk (moment disk)) };

@@ -109,4 +109,8 @@ impl Disk for FileDisk {
     fn reserve(&mut self, _bytes: u64) -> Result<(), NoMemory> {
         Ok(())
     }
+
+    fn count_fault(&mut self) {
+        self.faults = self.faults.saturating_add(1);
+    }
 }

@@ -1,6 +1,6 @@
 //! Folders of std as a shelf.
 
-ghost use Rattle.std.specs.Prelude.{◌≡◌, ◌+◌, ◌-◌, ◌^◌, ◌<◌, ◌≤◌, min, true, false, [], Ok, Err, is_some, IfOk, OnOk, OnErr, IsErrOf};
+ghost use Rattle.std.specs.Prelude.{refl, ◌≡◌, ◌+◌, ◌-◌, ◌^◌, ◌<◌, ◌≤◌, min, true, false, [], Ok, Err, is_some, IfOk, OnOk, OnErr, IsErrOf};
 ghost use Rattle.qz_outside.specs.Causes.{counted};
 ghost use Rattle.qz_disks.specs.Shelves.{place, SameFiles, EndsHandingOut, TakesBack, RisesBy, HasShelfCause};
 ghost use Rattle.qz_disks.specs.Slots.{stands_at, untold, folder_files};
@@ -88,6 +88,8 @@ impl<R: Files<File = File>> Shelf for FolderShelf<R> {
     ghost faults = { λ s. s.faults };
 
     ghost sound = { λ _. ⊥ };
+
+    ghost tells_alike = { λ _ _ _ _ _. refl };
 
     ghost reads_now = { λ _ _ _. tt };
 

@@ -374,4 +374,9 @@ impl Disk for MemoryDisk {
         self.bytes_left = bytes;
         Ok(())
     }
+
+    // It tells its bytes.
+    fn count_fault(&mut self) {
+        unreachable!()
+    }
 }

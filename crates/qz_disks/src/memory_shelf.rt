@@ -5,7 +5,7 @@ ghost use Rattle.std.specs.Option.{option_copied};
 ghost use Rattle.qz_outside.specs.Causes.{counted};
 ghost use Rattle.qz_disks.specs.Shelves.{place, EndsHandingOut, TakesBack, RisesBy, HasShelfCause};
 ghost use Rattle.qz_disks.specs.Sound.{StaysSound};
-ghost use Rattle.qz_disks.specs.Slots.{stands_at, disk_at, IsSound, Puts, memory_file, memory_files, memory_reads_now};
+ghost use Rattle.qz_disks.specs.Slots.{stands_at, disk_at, IsSound, Puts, memory_file, memory_files, memory_reads_now, memory_tells_alike};
 ghost use Rattle.qz_disks.specs.declared.shelf.ShelfErr.TheVariants.{Failed, Memory};
 
 use crate::slots::{Slot, add, has, look, replace};
@@ -102,6 +102,8 @@ impl Shelf for MemoryShelf {
     ghost faults = { λ s. s.faults };
 
     ghost sound = { λ s. IsSound s };
+
+    ghost tells_alike = { λ s t. memory_tells_alike s.slots t.slots };
 
     ghost reads_now = { λ s. memory_reads_now s.slots };
 

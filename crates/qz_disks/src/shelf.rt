@@ -1,6 +1,6 @@
 //! A shelf of files.
 
-ghost use Rattle.std.specs.Prelude.{◌≡◌, ℕ, true, false, IfSome, IfOk, IsErrOf};
+ghost use Rattle.std.specs.Prelude.{◌≡◌, ℕ, true, false, is_some, IfSome, IfOk, IsErrOf};
 ghost use Rattle.qz_disks.specs.declared.shelf.ShelfErr.TheVariants.{Failed, Memory};
 
 use crate::Disk;
@@ -89,6 +89,11 @@ pub trait Shelf {
         ensures faults { RisesBy (Self.Disk.faults disk) (faults self.old) (faults self.new) }
         ensures stays_sound { Self.Disk.sound disk → Self.Disk.faults disk ≡ 0
             → StaysSound (sound self.old) (sound self.new) (faults self.old) (faults self.new) ⊥ };
+
+    /// Shelves of a kind tell of the same files what is read of them, while these aren't out.
+    ghost tells_alike: { (one other : Self) (at : Place) → (files one).is_out at ≡ false
+        → (files other).is_out at ≡ false
+        → is_some ((files one).file at).reads ≡ is_some ((files other).file at).reads };
 
     /// A file that isn't out may be left as it reads.
     ghost reads_now: { (shelf : Self) (at : Place) → (files shelf).is_out at ≡ false

@@ -21,7 +21,6 @@ pub record IsOpened {D : Type 0} (moment : D → ℕ) (left_at : D → ℕ → L
   pub list : IfSome file.reads (λ bytes. stands_for bytes ≡ Ok payloads)
   pub kept : journal.kept ≡ option_map (λ _. payloads) file.reads
   pub no_doubt : journal.doubt ≡ None
-  pub no_damage : journal.damages ≡ 0
   pub acknowledged : IfSome file.reads (λ _. StandFor payloads None (left_at journal.disk (moment journal.disk)))
   pub any_moment : IfSome file.reads (λ _. LeavesSince (StandsAs file.left) file (moment journal.disk) (left_at journal.disk))
 

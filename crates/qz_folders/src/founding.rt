@@ -68,7 +68,6 @@ fn put_first<D: Disk>(
     payload: &[u8],
 ) -> Result<(), FoundFault>
     requires settled { journal.old.doubt ≡ None }
-    requires whole { journal.old.damages ≡ 0 }
     requires size { length payload.now ≤ 67108864 }
     requires kept { IfSome journal.old.kept (λ told. told ≡ payloads.now) }
     ensures list { IfSome journal.old.kept (λ _. PutsFirst payloads.now payload.now

@@ -1,6 +1,6 @@
 //! Files of a folder as journals.
 
-ghost use Rattle.std.specs.Prelude.{◌≡◌, ℕ, List, true, false, IfSome, IfOk, IfErr, OnOk, OnErr, IsErrOf};
+ghost use Rattle.std.specs.Prelude.{◌≡◌, ℕ, List, true, false, IfSome, IfOk, IfErr, OnOk, OnErr, IsErrOf, is_some};
 ghost use Rattle.qz_disks.specs.Shelves.{place, disk_file, ChangesAt, TakesBack, RisesBy};
 ghost use Rattle.qz_disks.specs.Sound.{StaysSound};
 ghost use Rattle.qz_journal.specs.Frames.{stands_for};
@@ -58,6 +58,8 @@ pub fn give_back<F: Shelf>(shelf: &mut F, folder: &[u8], name: &[u8], journal: J
     ensures files { TakesBack (place folder.now name.now) (F.files shelf.old) (F.files shelf.new)
         (disk_file (F.Disk.reads journal.disk) (F.Disk.moment journal.disk)
         (F.Disk.left_at journal.disk)) }
+    ensures tells { is_some journal.kept
+        ≡ is_some ((F.files shelf.new).file (place folder.now name.now)).reads }
     ensures stands { IfSome journal.kept (λ payloads. StandFor payloads journal.doubt
         ((F.files shelf.new).file (place folder.now name.now)).left) }
     ensures faults { RisesBy (F.Disk.faults journal.disk) (F.faults shelf.old) (F.faults shelf.new) }

@@ -92,13 +92,11 @@ pub record IsRead (size gate : ℕ) (payloads : List (List ℕ)) (bytes : List �
 abbrev pub payload_of : List ℕ → List ℕ
 payload_of frame = take (length frame - 5) (drop 4 frame)
 
--- a journal: its disk, the list kept and the payload in doubt, where the disk tells them, and how often it was found damaged
--- when it was opened again
+-- a journal: its disk, and the list kept and the payload in doubt, where the disk tells them
 pub record Ledger (D : Type 0) : Type 0 where
   pub disk : D
   pub kept : Option (List (List ℕ))
   pub doubt : Option (List ℕ)
-  pub damages : ℕ
 
 -- A journal fails no call where its disk fails none and tells its bytes: it then knows that they aren't damaged.
 pub record IsSound {D : Type 0} (sound : D → Type 0) (journal : Ledger D) : Type 0 where

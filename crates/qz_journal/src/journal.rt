@@ -40,8 +40,6 @@ pub struct Journal<D: Disk> {
     gate: u64,
     /// The frame of the payload in doubt.
     doubt: Option<Bytes>,
-    /// How often the file was found damaged when it was opened again.
-    damages: u64,
 }
 
 impl<D: Disk> Model for Journal<D> {
@@ -54,7 +52,6 @@ impl<D: Disk> Model for Journal<D> {
       disk = j.disk;
       kept = option_map (payloads_before j.gate) (D.reads j.disk);
       doubt = option_map payload_of j.doubt;
-      damages = j.damages;
     } };
 
     ghost invariant = { λ j. IfSome (D.reads j.disk)
@@ -74,7 +71,6 @@ impl<D: Disk> Journal<D> {
         ensures kept { IfOk result (λ made.
             made.0.kept ≡ option_map (λ _. made.1) (D.reads disk)) }
         ensures no_doubt { IfOk result (λ made. made.0.doubt ≡ None) }
-        ensures no_damage { IfOk result (λ made. made.0.damages ≡ 0) }
         ensures acknowledged { IfOk result (λ made. IfSome (D.reads disk) (λ _.
             StandFor made.1 None (D.left_at made.0.disk (D.moment made.0.disk)))) }
         ensures any_moment { IfOk result (λ made. IfSome (D.reads disk) (λ _. LeavesOnly
@@ -99,7 +95,6 @@ impl<D: Disk> Journal<D> {
                     disk,
                     gate: found.gate,
                     doubt: None,
-                    damages: 0,
                 };
                 Ok((journal, found.payloads))
             }
@@ -110,6 +105,7 @@ impl<D: Disk> Journal<D> {
     /// The disk, as it is: a crash leaves of it the payloads kept, with the one in doubt or without.
     pub fn into_disk(self) -> D
         ensures disk { result ≡ self.disk }
+        ensures tells { is_some self.kept ≡ is_some (D.reads result) }
         ensures stands { IfSome self.kept (λ payloads.
             StandFor payloads self.doubt (D.left_at result (D.moment result))) }
     {
@@ -203,7 +199,7 @@ impl<D: Disk> Keeper for Journal<D> {
 
     ghost doubt = { λ j. j.doubt };
 
-    ghost faults = { λ j. D.faults j.disk + j.damages };
+    ghost faults = { λ j. D.faults j.disk };
 
     ghost sound = { λ j. IsSound D.sound j };
 
@@ -211,14 +207,9 @@ impl<D: Disk> Keeper for Journal<D> {
         requires settled { self.old.doubt ≡ None }
         requires size { length payload.now ≤ 67108864 }
         ensures list { EndsAppending self.old.kept self.new.kept self.new.doubt payload.now result }
-        ensures cause { HasKeepCause (D.faults self.old.disk + self.old.damages)
-            (D.faults self.new.disk + self.new.damages) result }
+        ensures cause { HasKeepCause (D.faults self.old.disk) (D.faults self.new.disk) result }
         ensures stays_sound { StaysSound (IsSound D.sound self.old) (IsSound D.sound self.new)
-            (D.faults self.old.disk + self.old.damages) (D.faults self.new.disk + self.new.damages)
-            (IsErrOf result keep.Fault) }
-
-        // It is the disk that failed.
-        ensures sound { self.new.damages ≡ self.old.damages }
+            (D.faults self.old.disk) (D.faults self.new.disk) (IsErrOf result keep.Fault) }
 
         // A crash at each moment of the call, and after it, leaves the list from before, with the payload or without.
         ensures any_moment { IfSome self.old.kept (λ payloads. LeavesOnly
@@ -248,14 +239,9 @@ impl<D: Disk> Keeper for Journal<D> {
 
     fn reopen(&mut self, alloc: Global) -> Result<Listed<Bytes>, KeepErr>
         ensures list { EndsReopening self.old.kept self.new.kept self.old.doubt self.new.doubt result }
-        ensures cause { HasKeepCause (D.faults self.old.disk + self.old.damages)
-            (D.faults self.new.disk + self.new.damages) result }
+        ensures cause { HasKeepCause (D.faults self.old.disk) (D.faults self.new.disk) result }
         ensures stays_sound { StaysSound (IsSound D.sound self.old) (IsSound D.sound self.new)
-            (D.faults self.old.disk + self.old.damages) (D.faults self.new.disk + self.new.damages)
-            (IsErrOf result keep.Fault) }
-
-        // Over a disk that tells its bytes it is the disk that failed.
-        ensures sound { IfSome self.old.kept (λ _. self.new.damages ≡ self.old.damages) }
+            (D.faults self.old.disk) (D.faults self.new.disk) (IsErrOf result keep.Fault) }
 
         // A crash at each moment of the call, and after it, leaves one of the lists that one might have left before.
         ensures any_moment { IfSome self.old.kept (λ _. LeavesOnly
@@ -280,7 +266,8 @@ impl<D: Disk> Keeper for Journal<D> {
             }
             Err(JournalFault::Fault) => Err(KeepErr::Fault),
             Err(JournalFault::Damaged { .. }) => {
-                self.damages = self.damages.saturating_add(1);
+                // It was whole when it was loaded.
+                self.disk.count_fault();
                 Err(KeepErr::Fault)
             }
             Err(JournalFault::Memory) => Err(KeepErr::Memory),

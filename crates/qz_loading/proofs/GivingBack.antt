@@ -1,5 +1,5 @@
 -- Files that are given back one behind another.
-use Rattle.std.proofs.Common.{◌≡◌, ◌≢◌, ℕ, zero, suc, ◌+◌, ◌<◌, ◌≤◌, inl, inr, ⊎_elim, List, [], ◌∷◌, ◌++◌, map, length, Option, None, Some, IfSome, Ok, option_map, true, false, ap, sym, subst, ◌∙◌, refl, arith, length-append, append_assoc}
+use Rattle.std.proofs.Common.{◌≡◌, ◌≢◌, ℕ, zero, suc, ◌+◌, ◌<◌, ◌≤◌, inl, inr, ⊎_elim, List, [], ◌∷◌, ◌++◌, map, length, Option, None, Some, IfSome, Ok, option_map, is_some, true, false, ap, sym, subst, ◌∙◌, refl, arith, length-append, append_assoc}
 use Rattle.std.proofs.lemmas.Bool.{cases_lt}
 use Rattle.std.proofs.lemmas.List.{append-nil, map-append}
 use Rattle.std.proofs.lemmas.List.Sums.{sum_by-cons}
@@ -39,7 +39,10 @@ stored_back None doubt held outcomes stored stand = tt
 stored_back (Some payloads) doubt held outcomes stored stand = record { each = λ c left. stored_each payloads doubt held c stored (stand.each c left) }
 
 pub back_same : {D : Type 0} (journal : Ledger D) (held : Held) (a b : File) → SameFile a b → IsBack journal held a → IsBack journal held b
-back_same journal held a b same back = carried journal.kept journal.kept refl back (λ _ h. record { each = λ c left. h.each c (same.adds_nothing c left) })
+back_same journal held a b same back = record {
+  tells = back.tells ∙ ap is_some (sym same.reads);
+  stands = carried journal.kept journal.kept refl back.stands (λ _ h. record { each = λ c left. h.each c (same.adds_nothing c left) });
+}
 
 -- ---- one file behind another
 

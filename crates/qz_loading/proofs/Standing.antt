@@ -55,7 +55,6 @@ opened_like moment left_at a b journal payloads same opened = record {
   list = carried a.reads b.reads same.reads opened.list (λ _ h. h);
   kept = opened.kept ∙ ap (option_map (λ _. payloads)) same.reads;
   no_doubt = opened.no_doubt;
-  no_damage = opened.no_damage;
   acknowledged = carried a.reads b.reads same.reads opened.acknowledged (λ _ h. h);
   any_moment = carried a.reads b.reads same.reads opened.any_moment (λ _ h. since_like a b (moment journal.disk) (left_at journal.disk) same h);
 }
@@ -78,4 +77,4 @@ stood old new held payloads (Some bytes) kept list is here none spelled back =
 
 pub stays_back : {D : Type 0} (moment : D → ℕ) (left_at : D → ℕ → List ℕ → Type 0) (old new : File) (journal : Ledger D) (held : Held) (payloads : List (List ℕ)) → IsOpened moment left_at old journal payloads → IfSome old.reads old.left
     → held.doubt ≡ None → map spelling held.list ≡ payloads → IsBack journal held new → StaysLike old new
-stays_back moment left_at old new journal held payloads opened here none spelled back = stood old new held payloads old.reads journal.kept opened.list opened.kept here none spelled back
+stays_back moment left_at old new journal held payloads opened here none spelled back = stood old new held payloads old.reads journal.kept opened.list opened.kept here none spelled back.stands

@@ -1,5 +1,5 @@
 -- What becomes of the lists of a school that are given back.
-use Rattle.std.specs.Prelude.{◌≡◌, ◌⊎◌, ℕ, List, [], ◌∷◌, ◌++◌, map, Option, None, Some, Ok, IfSome, slice_get}
+use Rattle.std.specs.Prelude.{◌≡◌, ◌⊎◌, ℕ, List, [], ◌∷◌, ◌++◌, map, Option, None, Some, Ok, is_some, IfSome, slice_get}
 use Rattle.qz_disks.specs.Shelves.{File, Files}
 use Rattle.qz_journal.specs.Frames.{stands_for}
 use Rattle.qz_journal.specs.Journals.{Ledger}
@@ -17,9 +17,10 @@ stands_with list (Some r) image = (stands_for image ≡ Ok (map spelling list)) 
 pub record StandForList (held : Held) (outcomes : List ℕ → Type 0) : Type 0 where
   pub each : (c : List ℕ) → outcomes c → stands_with held.list held.doubt c
 
--- where a journal tells its payloads, its file stands for the list that it keeps
-abbrev pub IsBack : {D : Type 0} → Ledger D → Held → File → Type 0
-IsBack journal held file = IfSome journal.kept (λ _. StandForList held file.left)
+-- A file stands for the list that its journal kept, where it tells what it reads as; a journal tells its payloads where its file does.
+pub record IsBack {D : Type 0} (journal : Ledger D) (held : Held) (file : File) : Type 0 where
+  pub tells : is_some journal.kept ≡ is_some file.reads
+  pub stands : IfSome journal.kept (λ _. StandForList held file.left)
 
 -- so do the files of these shards
 pub record PartsAreBack {D : Type 0} (folder : List ℕ) (parts : List (part.Keeping (Ledger D))) (files : Files) : Type 0 where

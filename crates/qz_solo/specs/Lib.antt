@@ -1,4 +1,5 @@
 pub mod Solos
+pub mod Restarting
 pub mod Planning
 pub mod Answering
 pub mod Reports

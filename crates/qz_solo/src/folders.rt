@@ -9,6 +9,7 @@ ghost use Rattle.qz_loading.specs.Closing.{IsBack, PartsAreBack};
 ghost use Rattle.qz_loading.specs.Opening.{AreSound, AreSoundOut, IsLoadedFrom};
 ghost use Rattle.qz_loading.specs.Places.{IsOut, KeepsElsewhere, ListsStay, catalog_place};
 ghost use Rattle.qz_loading.specs.Reading.{IsLoadFault};
+ghost use Rattle.qz_solo.specs.Restarting.{Restarts};
 
 use crate::Solo;
 use qz_disks::{Keeper, Shelf};
@@ -16,7 +17,8 @@ use qz_journal::Journal;
 use qz_loading::{LoadFault, Loaded};
 use std::alloc::Global;
 
-/// Loads the school of a folder, of which no file is out. Its lists are those that the folder's files stand for.
+/// Loads the school of a folder, of which no file is out. Its lists are those that the folder's files stand for: where these stand for the
+/// lists of a school, what is loaded has these very lists, and nothing but a fault or want of memory keeps it from being loaded.
 ///
 /// After an error every file is back. The causes are told in this order: what is wrong with the catalogue's file, with each shard's
 /// file, in order, and with the first record that disagrees, over all shards. `Damaged`, `NotFounded`, `Behind` and `Altered` are of
@@ -29,6 +31,7 @@ pub fn load<F: Shelf>(
     requires { NoneOutIn folder.now (F.files shelf.old) }
     ensures loaded { IfOk result (λ made. IsLoadedFrom F.Disk.moment F.Disk.left_at folder.now
         (F.files shelf.old) made.catalog made.parts) }
+    ensures restarts { Restarts folder.now (F.files shelf.old) result }
     ensures few { IfOk result (λ made. length made.parts ≤ 64) }
     ensures out { IfOk result (λ made. IsOut folder.now (length made.parts) (F.files shelf.new)) }
     ensures others { IfOk result (λ made. KeepsElsewhere folder.now (length made.parts)

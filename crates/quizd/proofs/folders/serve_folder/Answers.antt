@@ -1,4 +1,5 @@
 use Rattle.std.proofs.Common.{Some, refl, arith}
+use Rattle.qz_disks.specs.Shelves.{place}
 use Rattle.quizd.proofs.FolderLemmas.{follows_count, given_back, out_as_many, school_answers_once, served_ends, serves_doors, unloaded_ends, unserved_doors}
 use Rattle.quizd.proofs.SoloLemmas.{takes_lines}
 use Rattle.quizd.proofs.folders.serve_folder.Goals as goal
@@ -18,13 +19,13 @@ close-requires-clause-out g c κs within = out_as_many _ _ _ _ (follows_count _ 
 pub returns-in-Ok-clause-ended : goal.returns-in-Ok-clause-ended
 returns-in-Ok-clause-ended g c =
     let e = rw c.in-Ok.ensures.unwritten at c.serve_links-status.ensures.ended in
-    let back = given_back _ _ _ _ _ _ _ _ c.in-Ok.ensures.loaded c.in-Ok.ensures.others c.open_school.ensures.later c.serve_links-status.ensures.follows c.close.ensures.catalog c.close.ensures.parts c.close.ensures.others c.close.ensures.faults in
+    let back = given_back _ _ _ _ _ _ _ _ (λ name. g.met.F.Shelf.tells_alike c.args.shelf.now c.close.new.shelf (place c.args.folder.now name) (c.requires.none_out.each name) (c.close.ensures.none_out.each name)) c.in-Ok.ensures.loaded c.in-Ok.ensures.others c.open_school.ensures.later c.serve_links-status.ensures.follows c.close.ensures.catalog c.close.ensures.parts c.close.ensures.others c.close.ensures.faults in
     record { stop = e.stop; status_is = e.status_is; cause = served_ends _ _ _ _ _ _ _ _ _ _ e.stop back e.cause c.close.ensures.none_out (omega (arith, c.open_school.ensures.later, c.close.ensures.faults.later)) }
 
 pub returns-in-Ok-clause-complete : goal.returns-in-Ok-clause-complete
 returns-in-Ok-clause-complete g c =
     let e = rw c.in-Ok.ensures.unwritten at c.serve_links-status.ensures.ended in
-    let back = given_back _ _ _ _ _ _ _ _ c.in-Ok.ensures.loaded c.in-Ok.ensures.others c.open_school.ensures.later c.serve_links-status.ensures.follows c.close.ensures.catalog c.close.ensures.parts c.close.ensures.others c.close.ensures.faults in
+    let back = given_back _ _ _ _ _ _ _ _ (λ name. g.met.F.Shelf.tells_alike c.args.shelf.now c.close.new.shelf (place c.args.folder.now name) (c.requires.none_out.each name) (c.close.ensures.none_out.each name)) c.in-Ok.ensures.loaded c.in-Ok.ensures.others c.open_school.ensures.later c.serve_links-status.ensures.follows c.close.ensures.catalog c.close.ensures.parts c.close.ensures.others c.close.ensures.faults in
     rw e.status_is (serves_doors _ _ _ _ _ _ _ _ _ e.stop (served_ends _ _ _ _ _ _ _ _ _ _ e.stop back e.cause c.close.ensures.none_out (omega (arith, c.open_school.ensures.later, c.close.ensures.faults.later))))
 
 pub returns-in-Err-clause-ended : goal.returns-in-Err-clause-ended

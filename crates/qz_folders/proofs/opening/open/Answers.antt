@@ -11,7 +11,6 @@ returns-in-Ok-clause-opened g c =
       list = carried _ _ same.reads load.list (λ _ h. h);
       kept = load.kept ∙ ap (option_map (λ _. c.in-Ok.made.1)) same.reads;
       no_doubt = load.no_doubt;
-      no_damage = load.no_damage;
       acknowledged = carried _ _ same.reads load.acknowledged (λ _ h. h);
       any_moment = since_then _ _ (g.F.Disk.Disk.moment c.in_ok-disk.disk) _ (g.F.Disk.Disk.left_at c.in_ok-disk.disk) _ same load.any_moment;
     }

@@ -1,4 +1,5 @@
 use Rattle.qz_loading.specs.declared.fault.LoadFault.TheVariants.{Fault}
+use Rattle.qz_restart.proofs.Restarting.{loaded-same, refused-by}
 use Rattle.qz_solo.proofs.Beginning.{caused_ok, loaded_solo, sound_ok}
 use Rattle.qz_solo.proofs.folders.load.Goals as goal
 
@@ -14,3 +15,12 @@ returns-in-Ok-clause-stays_sound g c =
 
 pub returns-in-Ok-clause-sound_catalog : goal.returns-in-Ok-clause-sound_catalog
 returns-in-Ok-clause-sound_catalog g c = rw c.of.ensures c.in-Ok.ensures.sound_catalog
+
+pub returns-in-Ok-clause-restarts : goal.returns-in-Ok-clause-restarts
+returns-in-Ok-clause-restarts g c =
+    rw c.of.ensures (record {
+      each = λ l ls kept. loaded-same g.F.Disk.Disk.moment g.F.Disk.Disk.left_at c.args.folder.now (g.F.Shelf.files c.args.shelf.now) l ls c.in-Ok.field-0.catalog c.in-Ok.field-0.shards.items kept c.in-Ok.ensures.loaded;
+    })
+
+pub returns-in-Err-clause-restarts : goal.returns-in-Err-clause-restarts
+returns-in-Err-clause-restarts g c = record { each = λ l ls kept. refused-by c.args.folder.now (g.F.Shelf.files c.args.shelf.now) l ls _ kept c.in-Err.ensures.why }
