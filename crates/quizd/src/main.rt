@@ -21,6 +21,8 @@ mod script_line;
 mod script_tests;
 mod serve;
 #[cfg(test)]
+mod stops_tests;
+#[cfg(test)]
 mod usage_tests;
 
 use built::built_command;
