@@ -24,8 +24,3 @@ mod sizes;
 
 pub use catalog::Catalog;
 pub use catalog_core::CatalogCore;
-
-#[cfg(test)]
-mod kept_tests;
-#[cfg(test)]
-mod tests;

@@ -110,7 +110,7 @@ impl Disk for FileDisk {
         Ok(())
     }
 
-    fn count_fault(&mut self) {
+    fn blame(&mut self) {
         self.faults = self.faults.saturating_add(1);
     }
 }

@@ -267,7 +267,7 @@ impl<D: Disk> Keeper for Journal<D> {
             Err(JournalFault::Fault) => Err(KeepErr::Fault),
             Err(JournalFault::Damaged { .. }) => {
                 // It was whole when it was loaded.
-                self.disk.count_fault();
+                self.disk.blame();
                 Err(KeepErr::Fault)
             }
             Err(JournalFault::Memory) => Err(KeepErr::Memory),

@@ -33,8 +33,3 @@ mod working;
 
 pub use shard::{Older, Shard};
 pub use shard_core::ShardCore;
-
-#[cfg(test)]
-mod kept_tests;
-#[cfg(test)]
-mod tests;

@@ -19,6 +19,3 @@ pub use folders::{close, load};
 pub use memory::MemorySchool;
 pub use solo::Solo;
 pub use unkept::Unkept;
-
-#[cfg(test)]
-mod tests;

@@ -5,7 +5,7 @@ ghost use Rattle.qz_terms.specs.Kept.{IsKeptPlan, KeepsAsked, is_moment};
 ghost use Rattle.qz_terms.specs.Legal.{is_plan_for};
 ghost use Rattle.qz_shard.specs.Holdings.{IsAsked, StartsHere, is_change, is_look};
 
-use super::*;
+use qz_shard::ShardCore;
 use qz_decimal::{Fraction, Grade, Mark, ONE};
 use qz_grading::{Answer, AttemptId, Behaviour, State, Steps};
 use qz_samples::truth;

@@ -3,7 +3,7 @@ ghost use Rattle.qz_record.specs.Lengths.{NamesBriefly};
 ghost use Rattle.qz_terms.specs.Cause.{is_keyless};
 ghost use Rattle.qz_terms.specs.Kept.{KeepsAsked, asks_described};
 
-use super::*;
+use qz_solo::MemorySchool;
 use qz_decimal::{Fraction, Mark, ONE};
 use qz_grading::{Answer, AttemptId, Bank, Behaviour, Item, Refusal, Thing};
 use qz_samples::truth;

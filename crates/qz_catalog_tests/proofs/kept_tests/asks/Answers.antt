@@ -4,7 +4,7 @@ use Rattle.qz_terms.specs.declared.request.Request.TheVariants as request
 use Rattle.qz_catalog.specs.Applying.{IsAsked}
 use Rattle.qz_catalog.specs.Keeping.{TellsUser}
 use Rattle.qz_catalog.proofs.KeptCalls.{each_settled, looked_so}
-use Rattle.qz_catalog.proofs.kept_tests.asks.Goals as goal
+use Rattle.qz_catalog_tests.proofs.kept_tests.asks.Goals as goal
 
 pub apply-requires-clause-asked : goal.apply-requires-clause-asked
 apply-requires-clause-asked g c =

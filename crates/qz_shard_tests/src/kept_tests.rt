@@ -2,7 +2,7 @@ ghost use Rattle.std.specs.Prelude.{◌≡◌, ◌<◌, length, [], None};
 ghost use Rattle.qz_terms.specs.Kept.{IsKeptPlan};
 ghost use Rattle.qz_shard.specs.Keeping.{IsSamePart};
 
-use super::*;
+use qz_shard::Shard;
 use crate::tests::{ask, is_started, plan, user};
 use qz_disks::{KeepErr, Keeper};
 use qz_grading::{Refusal, Steps};

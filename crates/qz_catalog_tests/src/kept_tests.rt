@@ -1,6 +1,6 @@
 ghost use Rattle.std.specs.Prelude.{◌≡◌, IfOk, None};
 
-use super::*;
+use qz_catalog::Catalog;
 use qz_disks::{KeepErr, Keeper};
 use qz_grading::{Refusal, Thing};
 use qz_record::spell;

@@ -3,7 +3,7 @@ ghost use Rattle.qz_terms.specs.Cause.{is_keyless};
 ghost use Rattle.qz_terms.specs.CatalogAnswer.{asks_catalog};
 ghost use Rattle.qz_terms.specs.Kept.{KeepsAsked, asks_described};
 
-use super::*;
+use qz_catalog::CatalogCore;
 use qz_grading::{Behaviour, Refusal, Thing};
 use qz_terms::{Ask, Caller, Handling, Job, Plan, Reply, Request, Review, Role, User};
 use qz_text::Text;
