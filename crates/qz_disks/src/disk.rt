@@ -1,6 +1,6 @@
 //! A disk: a file as a journal sees it.
 
-ghost use Rattle.std.specs.Prelude.{◌≡◌, ℕ, ◌+◌, ◌-◌, ◌^◌, ◌<◌, ◌≤◌, List, length, take, drop, Option, option_map, is_some, IfSome, IfOk, IsErr, OnOk};
+ghost use Rattle.std.specs.Prelude.{◌≡◌, ℕ, ◌+◌, ◌-◌, ◌^◌, ◌<◌, ◌≤◌, List, length, take, drop, Option, None, option_map, is_some, IfSome, IfOk, IsErr, OnOk};
 ghost use Rattle.qz_outside.specs.Causes.{HasCause, HasRisen};
 ghost use Rattle.qz_disks.specs.Sound.{StaysSound};
 ghost use Rattle.qz_disks.specs.Disks.{overwritten, growth, Torn, Cut, Same, Elapses, IsDurable, Room, Spends, HasRoom};
@@ -108,15 +108,15 @@ pub trait Disk {
         ensures faults { faults self.new ≡ faults self.old }
         ensures sound { sound self.old → sound self.new };
 
-    /// Counts a failure that no call told: what was read can't stand on the disk. One that tells its bytes and fails no call isn't
-    /// blamed.
+    /// Counts a failure that no call told: what was read can't stand on the disk. Of one that tells its bytes that is never so, and
+    /// nothing is counted.
     fn blame(&mut self)
-        requires { IfSome (reads self.old) (λ _. sound self.old → ⊥) }
         ensures reads { reads self.new ≡ reads self.old }
         ensures crash { Elapses Same (moment self.old) (moment self.new)
             (left_at self.old) (left_at self.new) }
         ensures later { faults self.old ≤ faults self.new }
-        ensures rose { HasRisen (faults self.old) (faults self.new) };
+        ensures rose { reads self.old ≡ None → HasRisen (faults self.old) (faults self.new) }
+        ensures steady { IfSome (reads self.old) (λ _. self.new ≡ self.old) };
 
     /// A disk as it reads is one of the outcomes of a crash.
     ghost reads_now: { (disk : Self) → IfSome (reads disk) (left_at disk (moment disk)) };

@@ -375,7 +375,6 @@ impl Disk for MemoryDisk {
         Ok(())
     }
 
-    fn blame(&mut self) {
-        self.calls.faults = self.calls.faults.saturating_add(1);
-    }
+    // It tells its bytes.
+    fn blame(&mut self) {}
 }
