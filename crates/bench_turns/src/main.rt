@@ -46,7 +46,7 @@ struct Step {
 }
 
 impl Errand<Count> for Step {
-    ghost can = { λ _ _. Unit {0} };
+    ghost can = { λ _ _ _. Unit {0} };
 
     ghost does = { λ _ _ _ _. Unit {0} };
 
@@ -63,7 +63,7 @@ struct SleepyStep<'a, R: Clock> {
 }
 
 impl<'a, R: Clock> Errand<Count> for SleepyStep<'a, R> {
-    ghost can = { λ _ _. Unit {0} };
+    ghost can = { λ _ _ _. Unit {0} };
 
     ghost does = { λ _ _ _ _. Unit {0} };
 

@@ -8,3 +8,4 @@ pub mod Joining
 pub mod Closing
 pub mod Dealing
 pub mod Gathering
+pub mod Turning

@@ -33,7 +33,7 @@ abbrev value_of : {S : Type 0} → S → List (ℕ × S) → S
 value_of y [] = y
 value_of y (x ∷ xs) = x.1
 
-carried_one : {S : Type 0} (y z : S) → one_carried y ≡ one_carried z → y ≡ z
+pub carried_one : {S : Type 0} (y z : S) → one_carried y ≡ one_carried z → y ≡ z
 carried_one y z e = ap (value_of y) e
 
 module _ {I K S : Type 0} (tells : S → Tale I) (fits : K → S → Type 0) (key : K) (seats : ℕ) where

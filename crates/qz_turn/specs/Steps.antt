@@ -108,22 +108,39 @@ module _ {I K S : Type 0} where
   abbrev pub compares : Step S → Me S (View I K) → ℕ → Me S (View I K) → Type 0
   compares st m r m' = Compares m m'
 
-module _ {I K S E : Type 0} (fits : K → S → Type 0) (can : K → E → Type 0) where
+module _ {I K S E : Type 0} (tells : S → Tale I) (fits : K → S → Type 0) (can : K → Tale I → E → Type 0) where
   -- the seat has the value, on which the errand can go
   pub record CanSend (m : Me S (View I K)) (errand : E) : Type 0 where
     pub value : S
     pub holds : m.1 ≡ (0, value) ∷ []
-    pub can_go : CanGo fits can errand value
+    pub can_go : CanGo tells fits can errand value
 
   -- the errand went once, and the seat has the value that it left
-  pub record Went (tells : S → Tale I) (does : E → S → S → E → Type 0) (m m' : Me S (View I K)) (errand done : E) : Type 0 where
+  pub record Went (does : E → S → S → E → Type 0) (m m' : Me S (View I K)) (errand done : E) : Type 0 where
     pub before : S
     pub after : S
     pub held : m.1 ≡ (0, before) ∷ []
     pub holds : m' ≡ (m.0, (0, after) ∷ [])
     pub went : does errand before after done
     pub grows : Follows (tells before) (tells after)
-    pub fits_still : KeepsFit fits can errand before after
+    pub fits_still : KeepsFit tells fits can errand before after
+
+-- the view has a key, of which this holds
+pub record IsKeyed {I K : Type 0} (holds : K → Type 0) (v : View I K) : Type 0 where
+  pub key : K
+  pub keyed : v.key ≡ Some key
+  pub of_key : holds key
+
+-- The turn of the seat came, its errand went once, and it gave the turn on. What it had seen begins what was found.
+pub record HasServed {I K S E : Type 0} (tells : S → Tale I) (fits : K → S → Type 0) (does : E → S → S → E → Type 0) (m m' : Me S (View I K)) (errand done : E) : Type 0 where
+  pub before : S
+  pub after : S
+  pub went : does errand before after done
+  pub rests : m' ≡ (record m.0 { stage = Resting; found = tells before; seen = tells after }, [])
+  pub begins : Follows m.0.seen (tells before)
+  pub grows : Follows (tells before) (tells after)
+  pub fits_before : (key : K) → m.0.key ≡ Some key → fits key before
+  pub fits_after : (key : K) → m.0.key ≡ Some key → fits key after
 
 -- the seat rests, with the numbers below the count and no slot, and has found what it has seen
 pub record MayDeal {I K S : Type 0} (count : ℕ) (m : Me S (View I K)) : Type 0 where

@@ -21,13 +21,15 @@ longer a b = if nat_lt (length a.list) (length b.list) then b else a
 abbrev pub merged : {I : Type 0} → Tale I → Tale I → Tale I
 merged a b = record { list = (longer a b).list; doubt = (longer a b).doubt; faults = max a.faults b.faults }
 
-module _ {K E S : Type 0} (fits : K → S → Type 0) (can : K → E → Type 0) where
-  -- the value fits some key, under which the errand can go
+module _ {I K E S : Type 0} (tells : S → Tale I) (fits : K → S → Type 0) (can : K → Tale I → E → Type 0) where
+  -- the value fits some key, and goes on from some tale that was seen of it, under which the errand can go
   pub record CanGo (errand : E) (value : S) : Type 0 where
     pub key : K
+    pub seen : Tale I
     pub fits_key : fits key value
-    pub can_go : can key errand
+    pub begins : Follows seen (tells value)
+    pub can_go : can key seen errand
 
   -- the value still fits each key that it fitted, and under which the errand could go
   pub record KeepsFit (errand : E) (before after : S) : Type 0 where
-    pub still : (key : K) → fits key before → can key errand → fits key after
+    pub still : (key : K) (seen : Tale I) → fits key before → Follows seen (tells before) → can key seen errand → fits key after

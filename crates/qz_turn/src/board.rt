@@ -3,7 +3,7 @@ ghost use Rattle.std.specs.Prelude.{◌≡◌, [], ◌∷◌, IfOk, IfErr};
 ghost use Rattle.qz_turn.specs.declared.view.Stage.TheVariants.{Resting};
 ghost use Rattle.qz_turn.specs.Tales.{Follows};
 ghost use Rattle.qz_turn.specs.Rule.{dealer, HasEvery};
-ghost use Rattle.qz_turn.specs.Steps.{IsReady, IsWaiting, Draws, Comes, CanSend, Went, MayEnd, Ends, Compares, dealing, dealt_to, noted, joining};
+ghost use Rattle.qz_turn.specs.Steps.{IsReady, IsWaiting, Draws, Comes, CanSend, Went, MayEnd, Ends, IsKeyed, HasServed, Compares, dealing, dealt_to, noted, joining};
 
 use crate::room::Room;
 use crate::rule::{About, Compare, Deal, Draw, InTurn, Look, Merge, Note, Serve};
@@ -184,8 +184,8 @@ impl<T: Told> Board<T> {
         unreachable!()
     }
 
-    /// Waits until the turn of the seat has come. Then the seat has the value.
-    pub fn enter<R: Wait>(&self, rt: &R, seat: &mut Place<T>)
+    // Waits until the turn of the seat has come. Then the seat has the value.
+    fn enter<R: Wait>(&self, rt: &R, seat: &mut Place<T>)
         requires own { seat.old.table_id ≡ self.now.table.shared.table_id }
         requires ready { IsReady seat.old.me }
         ensures own { seat.new.table_id ≡ seat.old.table_id }
@@ -199,18 +199,18 @@ impl<T: Told> Board<T> {
         self.wait(rt, seat, ticket);
     }
 
-    /// Sends the errand to the value that the seat has.
-    pub fn send<E: Errand<T>>(&self, seat: &mut Place<T>, errand: &mut E)
+    // Sends the errand to the value that the seat has.
+    fn send<E: Errand<T>>(&self, seat: &mut Place<T>, errand: &mut E)
         requires own { seat.old.table_id ≡ self.now.table.shared.table_id }
-        requires can { CanSend T.fits E.can seat.old.me errand.old }
+        requires can { CanSend T.tells T.fits E.can seat.old.me errand.old }
         ensures own { seat.new.table_id ≡ seat.old.table_id }
-        ensures went { Went T.fits E.can T.tells E.does seat.old.me seat.new.me errand.old errand.new }
+        ensures went { Went T.tells T.fits E.can E.does seat.old.me seat.new.me errand.old errand.new }
     {
         errand.go(seat.slot_mut(&self.table.shared, 0));
     }
 
-    /// Gives the value back, and the turn on.
-    pub fn leave(&self, seat: &mut Place<T>)
+    // Gives the value back, and the turn on.
+    fn leave(&self, seat: &mut Place<T>)
         requires own { seat.old.table_id ≡ self.now.table.shared.table_id }
         requires may { MayEnd T.tells T.fits seat.old.me }
         ensures own { seat.new.table_id ≡ seat.old.table_id }
@@ -221,6 +221,19 @@ impl<T: Told> Board<T> {
         if self.sleepers.load(SeqCst) > 0 {
             self.rouse();
         }
+    }
+
+    /// Waits until the turn of the seat has come, sends the errand, and gives the turn on.
+    pub fn serve<E: Errand<T>, R: Wait>(&self, rt: &R, seat: &mut Place<T>, errand: &mut E)
+        requires own { seat.old.table_id ≡ self.now.table.shared.table_id }
+        requires ready { IsReady seat.old.me }
+        requires can { IsKeyed (λ key. E.can key seat.old.me.0.seen errand.old) seat.old.me.0 }
+        ensures own { seat.new.table_id ≡ seat.old.table_id }
+        ensures turn { HasServed T.tells T.fits E.does seat.old.me seat.new.me errand.old errand.new }
+    {
+        self.enter(rt, seat);
+        self.send(seat, errand);
+        self.leave(seat);
     }
 
     /// Cuts off a new seat, with the first number.

@@ -39,7 +39,7 @@ struct Append {
 impl Errand<Words> for Append {
     ghost use Rattle.std.specs.Prelude.{◌≡◌, length};
 
-    ghost can = { λ _ _. Unit {0} };
+    ghost can = { λ _ _ _. Unit {0} };
 
     ghost does = { λ _ _ words done. done.count ≡ length words.items.items };
 
@@ -79,7 +79,7 @@ struct Mark<'a> {
 impl<'a> Errand<Marks> for Mark<'a> {
     ghost use Rattle.std.specs.Prelude.{◌≡◌, ◌≤◌, length};
 
-    ghost can = { λ key mark. (mark.words.now.lock ≡ key.lock) × (mark.note.lock ≡ key.lock) × (mark.count ≤ length mark.note.seen.list) };
+    ghost can = { λ key _ mark. (mark.words.now.lock ≡ key.lock) × (mark.note.lock ≡ key.lock) × (mark.count ≤ length mark.note.seen.list) };
 
     ghost does = { λ _ _ _ _. Unit {0} };
 

@@ -17,17 +17,17 @@ pub trait Told {
 
 /// The work of one turn.
 pub trait Errand<T: Told> {
-    // What has to hold of the errand, under the lock's key, before it goes.
-    ghost can: { T.Key → Self → Type 0 };
+    // What has to hold of the errand before it goes, under the lock's key and after what its pass has seen.
+    ghost can: { T.Key → Tale T.Item → Self → Type 0 };
 
     // What it did: of the errand and the value before, and of the value and the errand after.
     ghost does: { Self → T → T → Self → Type 0 };
 
-    /// Goes once, while it has the turn. The list that the value tells only grows, and the count of faults
-    /// never falls.
+    /// Goes once, while it has the turn. What its pass has seen begins what the value tells. The list that the value tells only
+    /// grows, and the count of faults never falls.
     fn go(&mut self, value: &mut T)
-        requires { CanGo T.fits can self.old value.old }
+        requires { CanGo T.tells T.fits can self.old value.old }
         ensures done { does self.old value.old value.new self.new }
         ensures grows { Follows (T.tells value.old) (T.tells value.new) }
-        ensures fits { KeepsFit T.fits can self.old value.old value.new };
+        ensures fits { KeepsFit T.tells T.fits can self.old value.old value.new };
 }

@@ -75,18 +75,16 @@ impl<T: Told> Turns<T> {
         }
     }
 
-    /// Waits until the turn of the pass has come, lets the errand go once, and gives the turn on. A waiting thread
-    /// looks a few times, and then sleeps until it is woken.
+    /// Waits until the turn of the pass has come, lets the errand go once, and gives the turn on. The errand may rely on what the
+    /// pass has seen. A waiting thread looks a few times, and then sleeps until it is woken.
     pub fn turn<E: Errand<T>, R: Wait>(&self, rt: &R, pass: &mut Pass<T>, errand: &mut E)
         requires pass { pass.old.lock ≡ self.now.lock }
         requires number { pass.old.numbers ≢ [] }
-        requires errand { UnderKey self.now.lock (λ key. E.can key errand.old) }
+        requires errand { UnderKey self.now.lock (λ key. E.can key pass.old.seen errand.old) }
         ensures { HasTurn T.tells T.fits E.does pass.old pass.new errand.old errand.new }
     {
         let mut seat = mem::replace(&mut pass.badge, Badge::blank()).into_seat();
-        self.board.enter(rt, &mut seat);
-        self.board.send(&mut seat, errand);
-        self.board.leave(&mut seat);
+        self.board.serve(rt, &mut seat, errand);
         pass.badge = seat.into_badge();
     }
 
