@@ -1,0 +1,12 @@
+//! The catalogue of a school behind a lock that threads take in turn. Each call is one turn: the list is mended first, and what is told is
+//! said over the list that was found.
+#![tactic(auto)]
+
+mod answering;
+mod looking;
+mod questions;
+mod records;
+
+pub use answering::answer;
+pub use looking::{job, names, plan, policy, user};
+pub use records::Records;

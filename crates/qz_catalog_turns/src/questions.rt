@@ -1,0 +1,115 @@
+//! What is looked up in a catalogue.
+
+ghost use Rattle.std.specs.Prelude.{◌≡◌, ℕ, List, Result, Err};
+ghost use Rattle.qz_grading.specs.declared.refusal.Refusal.{Refusal};
+ghost use Rattle.qz_keeper.specs.Lists.{Looks, OneCall};
+ghost use Rattle.qz_keeper.specs.Recording.{GoesOn, HasFailed};
+ghost use Rattle.qz_terms.specs.declared.record.Record.{Record};
+
+use qz_catalog::Catalog;
+use qz_disks::Keeper;
+use qz_grading::Refusal;
+use qz_terms::{Job, Plan, Policy, User};
+use qz_text::{Listed, Text};
+use std::alloc::Global;
+
+/// What is looked up in a catalogue.
+pub(crate) trait Question<K: Keeper> {
+    type Found;
+
+    // What may be told of a list.
+    ghost says: { Self → List Record → Result Self.Found Refusal → Type 0 };
+
+    /// Looks it up. The list is mended first.
+    fn look_up(&self, alloc: Global, catalog: &mut Catalog<K>) -> Result<Self::Found, Refusal>
+        ensures told { OneCall (HasFailed (K.sound catalog.old.keeper)
+            (K.faults catalog.old.keeper) (K.faults catalog.new.keeper)) (λ r. Err r)
+            (Looks (says self.now)) catalog.old.held catalog.new.held result }
+        ensures goes_on { GoesOn (K.sound catalog.old.keeper) (K.sound catalog.new.keeper)
+            (K.faults catalog.old.keeper) (K.faults catalog.new.keeper) };
+}
+
+/// Whose a token is.
+pub(crate) struct OfToken<'a> {
+    pub token: &'a Text,
+}
+
+impl<'a, K: Keeper> Question<K> for OfToken<'a> {
+    ghost use Rattle.qz_catalog.specs.Keeping.{TellsUser};
+
+    type Found = User;
+
+    ghost says = { λ q. TellsUser q.token.now };
+
+    fn look_up(&self, alloc: Global, catalog: &mut Catalog<K>) -> Result<User, Refusal> {
+        catalog.user(alloc, self.token)
+    }
+}
+
+/// The plan of a quiz for a user.
+pub(crate) struct PlanFor {
+    pub quiz: u32,
+    pub user: u32,
+    pub whole: bool,
+}
+
+impl<K: Keeper> Question<K> for PlanFor {
+    ghost use Rattle.qz_catalog.specs.Keeping.{TellsPlan};
+
+    type Found = Plan;
+
+    ghost says = { λ q. TellsPlan q.quiz q.user q.whole };
+
+    fn look_up(&self, alloc: Global, catalog: &mut Catalog<K>) -> Result<Plan, Refusal> {
+        catalog.plan(alloc, self.quiz, self.user, self.whole)
+    }
+}
+
+/// How a quiz is graded.
+pub(crate) struct PolicyOf {
+    pub quiz: u32,
+}
+
+impl<K: Keeper> Question<K> for PolicyOf {
+    ghost use Rattle.qz_catalog.specs.Keeping.{TellsPolicy};
+
+    type Found = Policy;
+
+    ghost says = { λ q. TellsPolicy q.quiz };
+
+    fn look_up(&self, alloc: Global, catalog: &mut Catalog<K>) -> Result<Policy, Refusal> {
+        catalog.policy(alloc, self.quiz)
+    }
+}
+
+/// A job.
+pub(crate) struct JobOf {
+    pub number: u32,
+}
+
+impl<K: Keeper> Question<K> for JobOf {
+    ghost use Rattle.qz_catalog.specs.Keeping.{TellsJob};
+
+    type Found = Job;
+
+    ghost says = { λ q. TellsJob q.number };
+
+    fn look_up(&self, alloc: Global, catalog: &mut Catalog<K>) -> Result<Job, Refusal> {
+        catalog.job(alloc, self.number)
+    }
+}
+
+/// The users' names.
+pub(crate) struct AllNames;
+
+impl<K: Keeper> Question<K> for AllNames {
+    ghost use Rattle.qz_catalog.specs.Keeping.{TellsNames};
+
+    type Found = Listed<Text>;
+
+    ghost says = { λ _. TellsNames };
+
+    fn look_up(&self, alloc: Global, catalog: &mut Catalog<K>) -> Result<Listed<Text>, Refusal> {
+        catalog.names(alloc)
+    }
+}
