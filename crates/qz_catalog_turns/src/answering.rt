@@ -20,7 +20,8 @@ use std::alloc::Global;
 use std::sync::Wait;
 
 /// A request of a user, and the reply.
-struct Answer<'a> {
+#[derive(Drop)]
+struct Answering<'a> {
     alloc: Global,
     user: &'a User,
     ask: &'a Ask,
@@ -28,7 +29,7 @@ struct Answer<'a> {
     reply: Option<Reply>,
 }
 
-impl<'a, K: Keeper> Errand<Records<K>> for Answer<'a> {
+impl<'a, K: Keeper> Errand<Records<K>> for Answering<'a> {
     ghost use Rattle.qz_catalog.specs.Keeping.{IsTold};
     ghost use Rattle.qz_terms.specs.declared.reply.Reply.TheVariants as reply;
     ghost use Rattle.qz_catalog_turns.specs.Answering.{CanAnswer};
@@ -69,7 +70,7 @@ pub fn answer<K: Keeper, R: Wait>(
     ensures { TurnCalls IsLegalCatalog reply.Refused (IsTold moment user.now ask.now)
         pass.old pass.new result }
 {
-    let mut errand = Answer {
+    let mut errand = Answering {
         alloc,
         user,
         ask,

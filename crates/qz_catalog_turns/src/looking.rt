@@ -17,13 +17,17 @@ use std::alloc::Global;
 use std::sync::Wait;
 
 /// A look, and what it told.
+#[derive(Drop)]
 struct Look<'a, Q, T> {
     alloc: Global,
     question: &'a Q,
     told: Option<Result<T, Refusal>>,
 }
 
-impl<'a, K: Keeper, Q: Question<K>> Errand<Records<K>> for Look<'a, Q, Q::Found> {
+impl<'a, K: Keeper, Q: Question<K>> Errand<Records<K>> for Look<'a, Q, Q::Found>
+where
+    Q::Found: Drop,
+{
     ghost use Rattle.std.specs.Prelude.{Err};
     ghost use Rattle.qz_keeper.specs.Lists.{Looks};
     ghost use Rattle.qz_catalog_turns.specs.Turning.{Did};
@@ -42,13 +46,15 @@ impl<'a, K: Keeper, Q: Question<K>> Errand<Records<K>> for Look<'a, Q, Q::Found>
 }
 
 // Looks something up in one turn.
-fn look<K: Keeper, Q: Question<K>, R: Wait>(
+fn look_up_in_turn<K: Keeper, Q: Question<K>, R: Wait>(
     turns: &Turns<Records<K>>,
     rt: &R,
     pass: &mut Pass<Records<K>>,
     alloc: Global,
     question: &Q,
 ) -> Result<Q::Found, Refusal>
+where
+    Q::Found: Drop,
     requires pass { pass.old.lock ≡ turns.now.lock }
     requires number { pass.old.numbers ≢ [] }
     ensures { TurnCalls IsLegalCatalog (λ r. Err r) (Looks (Q.says question.now))
@@ -79,7 +85,7 @@ pub fn user<K: Keeper, R: Wait>(
     ensures { TurnCalls IsLegalCatalog (λ r. Err r) (Looks (TellsUser token.now))
         pass.old pass.new result }
 {
-    look(turns, rt, pass, alloc, &OfToken { token })
+    look_up_in_turn(turns, rt, pass, alloc, &OfToken { token })
 }
 
 /// The plan of a quiz for a user, over all the records, with the questions of its slots where it is to be whole.
@@ -99,7 +105,7 @@ pub fn plan<K: Keeper, R: Wait>(
     ensures { TurnCalls IsLegalCatalog (λ r. Err r) (Looks (TellsPlan quiz user whole))
         pass.old pass.new result }
 {
-    look(turns, rt, pass, alloc, &PlanFor { quiz, user, whole })
+    look_up_in_turn(turns, rt, pass, alloc, &PlanFor { quiz, user, whole })
 }
 
 /// How a quiz is graded, over all the records.
@@ -117,7 +123,7 @@ pub fn policy<K: Keeper, R: Wait>(
     ensures { TurnCalls IsLegalCatalog (λ r. Err r) (Looks (TellsPolicy quiz))
         pass.old pass.new result }
 {
-    look(turns, rt, pass, alloc, &PolicyOf { quiz })
+    look_up_in_turn(turns, rt, pass, alloc, &PolicyOf { quiz })
 }
 
 /// A job: its position, and the plan of its quiz over the records up to there.
@@ -135,7 +141,7 @@ pub fn job<K: Keeper, R: Wait>(
     ensures { TurnCalls IsLegalCatalog (λ r. Err r) (Looks (TellsJob number))
         pass.old pass.new result }
 {
-    look(turns, rt, pass, alloc, &JobOf { number })
+    look_up_in_turn(turns, rt, pass, alloc, &JobOf { number })
 }
 
 /// The users' names, in order of number.
@@ -150,5 +156,5 @@ pub fn names<K: Keeper, R: Wait>(
     ensures { TurnCalls IsLegalCatalog (λ r. Err r) (Looks TellsNames)
         pass.old pass.new result }
 {
-    look(turns, rt, pass, alloc, &AllNames)
+    look_up_in_turn(turns, rt, pass, alloc, &AllNames)
 }

@@ -30,6 +30,7 @@ pub(crate) trait Question<K: Keeper> {
 }
 
 /// Whose a token is.
+#[derive(Drop)]
 pub(crate) struct OfToken<'a> {
     pub token: &'a Text,
 }
@@ -47,6 +48,7 @@ impl<'a, K: Keeper> Question<K> for OfToken<'a> {
 }
 
 /// The plan of a quiz for a user.
+#[derive(Drop)]
 pub(crate) struct PlanFor {
     pub quiz: u32,
     pub user: u32,
@@ -66,6 +68,7 @@ impl<K: Keeper> Question<K> for PlanFor {
 }
 
 /// How a quiz is graded.
+#[derive(Drop)]
 pub(crate) struct PolicyOf {
     pub quiz: u32,
 }
@@ -83,6 +86,7 @@ impl<K: Keeper> Question<K> for PolicyOf {
 }
 
 /// A job.
+#[derive(Drop)]
 pub(crate) struct JobOf {
     pub number: u32,
 }
@@ -100,6 +104,7 @@ impl<K: Keeper> Question<K> for JobOf {
 }
 
 /// The users' names.
+#[derive(Drop)]
 pub(crate) struct AllNames;
 
 impl<K: Keeper> Question<K> for AllNames {

@@ -115,7 +115,7 @@ user-longer c rest n there =
     let found = some-there (at_place (catalog.users c) n) there in
     ap is_some (user-stays c rest n found.0 found.1)
 
-agrees-longer : (c rest l : List Record) (r : Record) → Agrees c l r → Agrees (c ++ rest) l r
+pub agrees-longer : (c rest l : List Record) (r : Record) → Agrees c l r → Agrees (c ++ rest) l r
 agrees-longer c rest l r a = record { caller = or-longer (r.caller == 0) (at_place (catalog.users c) r.caller) (at_place (catalog.users (c ++ rest)) r.caller) (λ there. user-longer c rest r.caller there) a.caller; event = event-longer c rest l r r.event a.event }
 
 pub all-longer : (c rest h : List Record) → AllAgree c h → AllAgree (c ++ rest) h

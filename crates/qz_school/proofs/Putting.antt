@@ -23,7 +23,7 @@ use Rattle.qz_terms.specs.declared.record.Record.{Record}
 use Rattle.qz_terms.specs.declared.request.Request.{Request}
 use Rattle.qz_terms.specs.declared.request.Request.TheVariants as request
 use Rattle.qz_terms.specs.Access.{settled_by, start_cause}
-use Rattle.qz_terms.specs.Answer.{acted_or_noted, event_here, is_overdue, list_after, list_with, max_now, moment_of, put_here, record_under, started_by, stepped_by, terms_under}
+use Rattle.qz_terms.specs.Answer.{acted_or_noted, attempt_named, event_here, is_overdue, list_after, list_with, max_now, moment_of, put_here, record_under, started_by, stepped_by, terms_under}
 use Rattle.qz_terms.specs.Catalog as catalog
 use Rattle.qz_terms.specs.Cause.{Denied, Granted, Repeated, Verdict, by_key, cause_here, forbidden, missing_here, spells, verdict_here}
 use Rattle.qz_terms.specs.History as history
@@ -33,9 +33,10 @@ use Rattle.qz_terms.specs.Lists.{only_if}
 use Rattle.qz_terms.specs.SchoolAnswer.{plan_for}
 use Rattle.qz_terms.proofs.Standing.{free-by, never-granted}
 use Rattle.qz_terms.proofs.Walks.{first_told_in}
-use Rattle.qz_school.specs.Agreement.{AttemptsAreKnown, GoesOnAgreeing}
-use Rattle.qz_school.proofs.Agreeing.{all-empty, all-longer, all-push}
+use Rattle.qz_school.specs.Agreement.{AgreesUnderAnOlder, AttemptsAreKnown, GoesOnAgreeing, HasQuizReady}
+use Rattle.qz_school.proofs.Agreeing.{agrees-longer, all-empty, all-longer, all-push}
 use Rattle.qz_school.proofs.Callers.{caller-placed}
+use Rattle.qz_serial.proofs.Growing.{quiz-append}
 use Rattle.qz_serial.proofs.Longer.{plan-there, quiz-stays, ready-stays, user-stays}
 use Rattle.qz_serial.proofs.Places.{some-there}
 use Rattle.qz_school.proofs.Slotting.{both-true, start-learns}
@@ -154,10 +155,10 @@ planning-by : (c h : List Record) (a : AttemptId) (plan : Plan) (o : Option ℕ)
 planning-by c h a plan None is told = absurd cc
 planning-by c h a plan (Some q) is told = record { quiz = q; of_quiz = is; told = told }
 
-step-agrees : (c h : List Record) (r : Record) (a : AttemptId) (plan : Plan) → AllAgree c h → r.terms ≡ Some (terms_under plan) → option_and_then (λ q. catalog.plan c q a.user) (history.quiz h a) ≡ Some plan → StepAgrees c h r a
-step-agrees c h r a plan all terms told =
+step-agrees : (c h : List Record) (r : Record) (a : AttemptId) (plan : Plan) (x : Request) → HasQuizReady c h x → attempt_named x ≡ Some a → r.terms ≡ Some (terms_under plan) → option_and_then (λ q. catalog.plan c q a.user) (history.quiz h a) ≡ Some plan → StepAgrees c h r a
+step-agrees c h r a plan x there named terms told =
     let p = planning-by c h a plan (history.quiz h a) refl told in
-    let ready = (planned-so c p.quiz a.user plan p.told).ready ∙ (known c h a p.quiz all p.of_quiz).ready in
+    let ready = (planned-so c p.quiz a.user plan p.told).ready ∙ there.ready a p.quiz named p.of_quiz in
     record { quiz = p.quiz; of_quiz = p.of_quiz; its_terms = terms-agree c r p.quiz a.user plan terms p.told ready }
 
 stepped-agrees : (c h : List Record) (r : Record) (v : Moved) (a : AttemptId) (k : ℕ) (s : Step) → StepAgrees c h r a → EventAgrees c h r (acted_or_noted v a k s)
@@ -168,7 +169,7 @@ stepped-agrees c h r moved_as.Same a k s agrees = agrees
 
 record IsPutUnder (c h : List Record) (moment : ℕ) (user : User) (plan : Plan) (key : Option (List ℕ)) (x : Request) : Type 0 where
   legal : IsLegalCatalog c
-  all : AllAgree c h
+  there : HasQuizReady c h x
   placed : (user.number == 0) || is_some (at_place (catalog.users c) user.number) ≡ true
   known : (user.number == 0) ≡ false → at_place (catalog.users c) user.number ≡ Some user
   planned : plan_for c h user x ≡ Some plan
@@ -185,55 +186,65 @@ not-worker : (user : User) (q : ℕ) (b : Bool) → (user.number == 0) ≡ b →
 not-worker user q true is allowed = let none : Some (refusal.Forbidden 3) ≡ None = rw is at allowed in absurd cc
 not-worker user q false is allowed = is
 
-put-step : (c h : List Record) (moment : ℕ) (user : User) (plan : Plan) (key : Option (List ℕ)) (x : Request) (a : AttemptId) (k : ℕ) (s : Step) (r : Record) → IsPutUnder c h moment user plan key x
+put-step : (c h : List Record) (moment : ℕ) (user : User) (plan : Plan) (key : Option (List ℕ)) (x : Request) (a : AttemptId) (k : ℕ) (s : Step) (r : Record) → IsPutUnder c h moment user plan key x → attempt_named x ≡ Some a
     → option_and_then (λ q. catalog.plan c q a.user) (history.quiz h a) ≡ Some plan → Some (record_under moment user a.user key plan (stepped_by h a k s)) ≡ Some r → Agrees c h r
-put-step c h moment user plan key x a k s r p told put =
+put-step c h moment user plan key x a k s r p named told put =
     let made = record_under moment user a.user key plan (stepped_by h a k s) in
-    put-event c h moment user plan key x a.user (stepped_by h a k s) r p (stepped-agrees c h made (moved (history.steps h a k) s) a k s (step-agrees c h made a plan p.all refl told)) put
+    put-event c h moment user plan key x a.user (stepped_by h a k s) r p (stepped-agrees c h made (moved (history.steps h a k) s) a k s (step-agrees c h made a plan x p.there named refl told)) put
 
-put-settled : (c h : List Record) (moment : ℕ) (user : User) (plan : Plan) (key : Option (List ℕ)) (x : Request) (a : AttemptId) (how : How) (r : Record) (overdue : Bool) → IsPutUnder c h moment user plan key x
+put-settled : (c h : List Record) (moment : ℕ) (user : User) (plan : Plan) (key : Option (List ℕ)) (x : Request) (a : AttemptId) (how : How) (r : Record) (overdue : Bool) → IsPutUnder c h moment user plan key x → attempt_named x ≡ Some a
     → option_and_then (λ q. catalog.plan c q a.user) (history.quiz h a) ≡ Some plan → option_map (λ (e : ℕ × Event). record_under moment user e.0 key plan e.1) (if overdue then Some (a.user, event.Ended a how) else None) ≡ Some r → Agrees c h r
-put-settled c h moment user plan key x a how r true p told put =
-    put-event c h moment user plan key x a.user (event.Ended a how) r p (step-agrees c h (record_under moment user a.user key plan (event.Ended a how)) a plan p.all refl told) put
-put-settled c h moment user plan key x a how r false p told put = absurd cc
+put-settled c h moment user plan key x a how r true p named told put =
+    put-event c h moment user plan key x a.user (event.Ended a how) r p (step-agrees c h (record_under moment user a.user key plan (event.Ended a how)) a plan x p.there named refl told) put
+put-settled c h moment user plan key x a how r false p named told put = absurd cc
 
 put-by : (c h : List Record) (moment : ℕ) (user : User) (plan : Plan) (key : Option (List ℕ)) (x : Request) (r : Record) → IsPutUnder c h moment user plan key x
     → option_map (λ (e : ℕ × Event). record_under moment user e.0 key plan e.1) (event_here h moment user plan x) ≡ Some r → Agrees c h r
 put-by c h moment user plan key (request.Start q) r p put =
     let there = p.known (not-worker user q (user.number == 0) refl p.allowed) in
     put-event c h moment user plan key (request.Start q) user.number (started_by h user plan) r p (start-agrees c h moment user key plan q p.legal p.planned (start-ready h moment user plan q p.causeless) there) put
-put-by c h moment user plan key (request.Save a k certainty response) r p put = put-step c h moment user plan key (request.Save a k certainty response) a k (step.Save (record { answer = response; certainty = certainty })) r p p.planned put
-put-by c h moment user plan key (request.Submit a k certainty response) r p put = put-step c h moment user plan key (request.Submit a k certainty response) a k (step.Submit (record { answer = response; certainty = certainty })) r p p.planned put
+put-by c h moment user plan key (request.Save a k certainty response) r p put = put-step c h moment user plan key (request.Save a k certainty response) a k (step.Save (record { answer = response; certainty = certainty })) r p refl p.planned put
+put-by c h moment user plan key (request.Submit a k certainty response) r p put = put-step c h moment user plan key (request.Submit a k certainty response) a k (step.Submit (record { answer = response; certainty = certainty })) r p refl p.planned put
 put-by c h moment user plan key (request.Again a k) r p put =
-    put-event c h moment user plan key (request.Again a k) a.user (event.Acted a k step.Again) r p (step-agrees c h (record_under moment user a.user key plan (event.Acted a k step.Again)) a plan p.all refl p.planned) put
+    put-event c h moment user plan key (request.Again a k) a.user (event.Acted a k step.Again) r p (step-agrees c h (record_under moment user a.user key plan (event.Acted a k step.Again)) a plan (request.Again a k) p.there refl refl p.planned) put
 put-by c h moment user plan key (request.Finish a) r p put =
-    put-event c h moment user plan key (request.Finish a) a.user (event.Ended a how.Finished) r p (step-agrees c h (record_under moment user a.user key plan (event.Ended a how.Finished)) a plan p.all refl p.planned) put
+    put-event c h moment user plan key (request.Finish a) a.user (event.Ended a how.Finished) r p (step-agrees c h (record_under moment user a.user key plan (event.Ended a how.Finished)) a plan (request.Finish a) p.there refl refl p.planned) put
 put-by c h moment user plan key (request.Mark a k mark) r p put =
     let e = event.Acted a k (step.Mark mark (max_now h a k)) in
-    put-event c h moment user plan key (request.Mark a k mark) a.user e r p (step-agrees c h (record_under moment user a.user key plan e) a plan p.all refl p.planned) put
-put-by c h moment user plan key (request.Settle a) r p put = put-settled c h moment user plan key (request.Settle a) a (settled_by plan.settings.handling) r (is_overdue h moment plan a) p p.planned put
+    put-event c h moment user plan key (request.Mark a k mark) a.user e r p (step-agrees c h (record_under moment user a.user key plan e) a plan (request.Mark a k mark) p.there refl refl p.planned) put
+put-by c h moment user plan key (request.Settle a) r p put = put-settled c h moment user plan key (request.Settle a) a (settled_by plan.settings.handling) r (is_overdue h moment plan a) p refl p.planned put
 put-by c h moment user plan key x r p put = absurd cc
 
-put-agrees : (c h : List Record) (moment : ℕ) (user : User) (plan : Plan) (ask : Ask) (r : Record) → IsLegalCatalog c → AllAgree c h → catalog.user_of c ask.caller ≡ Some user → plan_for c h user ask.request ≡ Some plan
-    → verdict_here h moment user plan ask ≡ Granted → put_here h moment user plan ask ≡ Some r → AllAgree c (h ++ r ∷ [])
-put-agrees c h moment user plan ask r legal all found planned granted put =
+-- what a request puts agrees with the catalogue that gave its plan
+put-here-agrees : (c h : List Record) (moment : ℕ) (user : User) (plan : Plan) (ask : Ask) (r : Record) → IsLegalCatalog c → HasQuizReady c h ask.request → catalog.user_of c ask.caller ≡ Some user → plan_for c h user ask.request ≡ Some plan
+    → verdict_here h moment user plan ask ≡ Granted → put_here h moment user plan ask ≡ Some r → Agrees c h r
+put-here-agrees c h moment user plan ask r legal there found planned granted put =
     let parts = free-by (forbidden user ask.request) (missing_here h user ask.request) (by_key (spells ask.request) user.number ask.key h) (cause_here h moment user plan ask.request) (never-granted (spells ask.request) user.number ask.key h) granted in
     let placed = caller-placed c ask.caller user found in
-    all-push c h r all (put-by c h moment user plan ask.key ask.request r (record {
+    put-by c h moment user plan ask.key ask.request r (record {
       legal = legal;
-      all = all;
+      there = there;
       placed = placed.0;
       known = placed.1;
       planned = planned;
       allowed = parts.0;
       causeless = parts.3;
-    }) put)
+    }) put
 
 list-agrees : (c h : List Record) (v : Verdict) (put : Option Record) → AllAgree c h → ((r : Record) → v ≡ Granted → put ≡ Some r → AllAgree c (h ++ r ∷ [])) → AllAgree c (list_with v h put)
 list-agrees c h (Denied r) put all more = all
 list-agrees c h (Repeated l r) put all more = all
 list-agrees c h Granted None all more = subst (AllAgree c) (sym (append-nil h)) all
 list-agrees c h Granted (Some r) all more = more r refl refl
+
+-- the quiz of each attempt of a shard that agrees is ready
+ready-there : (c h : List Record) (x : Request) → AllAgree c h → HasQuizReady c h x
+ready-there c h x all = record { ready = λ a q named of_quiz. (known c h a q all of_quiz).ready }
+
+put-agrees : (c h : List Record) (moment : ℕ) (user : User) (plan : Plan) (ask : Ask) (r : Record) → IsLegalCatalog c → AllAgree c h → catalog.user_of c ask.caller ≡ Some user → plan_for c h user ask.request ≡ Some plan
+    → verdict_here h moment user plan ask ≡ Granted → put_here h moment user plan ask ≡ Some r → AllAgree c (h ++ r ∷ [])
+put-agrees c h moment user plan ask r legal all found planned granted put =
+    all-push c h r all (put-here-agrees c h moment user plan ask r legal (ready-there c h ask.request all) found planned granted put)
 
 answered-agrees : (c h : List Record) (now : ℕ) (user : User) (plan : Plan) (ask : Ask) → IsLegalCatalog c → AllAgree c h → catalog.user_of c ask.caller ≡ Some user → plan_for c h user ask.request ≡ Some plan → AllAgree c (list_after h now user plan ask)
 answered-agrees c h now user plan ask legal all found planned =
@@ -242,3 +253,24 @@ answered-agrees c h now user plan ask legal all found planned =
 
 pub agreeing_law : GoesOnAgreeing
 agreeing_law = record { empty = all-empty; longer = all-longer; put = put-agrees; answered = answered-agrees }
+
+-- ---- under an older catalogue
+
+older-answered : (c rest h : List Record) (now : ℕ) (user : User) (plan : Plan) (ask : Ask) → IsLegalCatalog c → AllAgree (c ++ rest) h → HasQuizReady c h ask.request → catalog.user_of c ask.caller ≡ Some user → plan_for c h user ask.request ≡ Some plan
+    → AllAgree (c ++ rest) (list_after h now user plan ask)
+older-answered c rest h now user plan ask legal all there found planned =
+    let moment = moment_of h now user ask.request in
+    list-agrees (c ++ rest) h (verdict_here h moment user plan ask) (put_here h moment user plan ask) all
+    (λ r granted put. all-push (c ++ rest) h r all (agrees-longer c rest h r (put-here-agrees c h moment user plan ask r legal there found planned granted put)))
+
+one-quiz : (o : Option ℕ) (p : Option ℕ) (q : ℕ) → is_some o ≡ true → ((n : ℕ) → o ≡ Some n → p ≡ Some n) → p ≡ Some q → o ≡ Some q
+one-quiz None p q some stays is = absurd cc
+one-quiz (Some n) p q some stays is = let same : p ≡ Some n = stays n refl in cc
+
+older-ready : (c h more : List Record) (x : Request) → AllAgree c h → ((a : AttemptId) → attempt_named x ≡ Some a → is_some (history.quiz h a) ≡ true) → HasQuizReady c (h ++ more) x
+older-ready c h more x all there = record {
+  ready = λ a q named of_quiz. (known c h a q all (one-quiz (history.quiz h a) (history.quiz (h ++ more) a) q (there a named) (λ n is. quiz-append h more a n (history.start h a) refl is) of_quiz)).ready;
+}
+
+pub older_law : AgreesUnderAnOlder
+older_law = record { answered = older-answered; ready = older-ready }

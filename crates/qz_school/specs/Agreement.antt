@@ -8,7 +8,7 @@ use Rattle.qz_terms.specs.declared.plan.Plan.{Plan}
 use Rattle.qz_terms.specs.declared.record.Record.{Record}
 use Rattle.qz_terms.specs.declared.request.Request.{Request}
 use Rattle.qz_terms.specs.declared.request.Request.TheVariants as request
-use Rattle.qz_terms.specs.Answer.{answer_here, list_after, put_here}
+use Rattle.qz_terms.specs.Answer.{answer_here, attempt_named, list_after, put_here}
 use Rattle.qz_terms.specs.Catalog as catalog
 use Rattle.qz_terms.specs.Cause.{Granted, verdict_here}
 use Rattle.qz_terms.specs.History as history
@@ -35,6 +35,18 @@ pub record GoesOnAgreeing : Type 0 where
   pub answered : (c h : List Record) (now : ℕ) (user : User) (plan : Plan) (ask : Ask)
       → IsLegalCatalog c → AllAgree c h → catalog.user_of c ask.caller ≡ Some user → plan_for c h user ask.request ≡ Some plan
       → AllAgree c (list_after h now user plan ask)
+
+-- the quiz of the attempt that a request names, if it is there, is ready
+pub record HasQuizReady (c h : List Record) (x : Request) : Type 0 where
+  pub ready : (a : AttemptId) (q : ℕ) → attempt_named x ≡ Some a → history.quiz h a ≡ Some q → catalog.is_ready c q ≡ true
+
+-- What a request puts under the plan that a catalogue gave agrees with each longer one with which the shard's records agree.
+pub record AgreesUnderAnOlder : Type 0 where
+  pub answered : (c rest h : List Record) (now : ℕ) (user : User) (plan : Plan) (ask : Ask)
+      → IsLegalCatalog c → AllAgree (c ++ rest) h → HasQuizReady c h ask.request → catalog.user_of c ask.caller ≡ Some user → plan_for c h user ask.request ≡ Some plan
+      → AllAgree (c ++ rest) (list_after h now user plan ask)
+  -- an attempt that was there when its shard agreed with the catalogue has its quiz there
+  pub ready : (c h more : List Record) (x : Request) → AllAgree c h → ((a : AttemptId) → attempt_named x ≡ Some a → is_some (history.quiz h a) ≡ true) → HasQuizReady c (h ++ more) x
 
 -- An attempt of a shard that agrees has its quiz and its user in the catalogue.
 pub record AttemptsAreKnown : Type 0 where

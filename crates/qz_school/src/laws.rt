@@ -1,6 +1,6 @@
 //! What stays true while the catalogue and the shards of a school grow.
 
-ghost use Rattle.qz_school.specs.Agreement.{AttemptsAreKnown, GoesOnAgreeing, NeedsNoQuestions, UsersHaveTokens};
+ghost use Rattle.qz_school.specs.Agreement.{AgreesUnderAnOlder, AttemptsAreKnown, GoesOnAgreeing, NeedsNoQuestions, UsersHaveTokens};
 ghost use Rattle.qz_school.specs.Alike.{AlikeInASchool};
 ghost use Rattle.qz_school.specs.Working.{GoesOnWorking};
 
@@ -14,6 +14,12 @@ pub fn users_have_tokens()
 /// the plan of its catalogue agrees too.
 pub fn goes_on_agreeing()
     ensures { GoesOnAgreeing }
+{}
+
+/// What a request puts under the plan that a catalogue gave agrees with each longer one with which the shard's records agree, where the quiz of
+/// the attempt that it names was ready there; and so it was where the attempt was there when the shard agreed with that catalogue.
+pub fn agrees_under_an_older()
+    ensures { AgreesUnderAnOlder }
 {}
 
 /// A job that the catalogue has can be worked in a shard that agrees, and what its steps put agrees too; and no plan over the whole

@@ -83,7 +83,7 @@ grown_part c h now user ask = grown-free c h now user ask (is_some (first_refusa
 
 -- ---- an attempt keeps its plan
 
-quiz-append : (h rest : List Record) (a : AttemptId) (q : ℕ) (o : Option history.Start) → history.start h a ≡ o → option_map (λ (s : history.Start). s.quiz) o ≡ Some q → history.quiz (h ++ rest) a ≡ Some q
+pub quiz-append : (h rest : List Record) (a : AttemptId) (q : ℕ) (o : Option history.Start) → history.start h a ≡ o → option_map (λ (s : history.Start). s.quiz) o ≡ Some q → history.quiz (h ++ rest) a ≡ Some q
 quiz-append h rest a q None begun is = absurd cc
 quiz-append h rest a q (Some s) begun is =
     let longer : history.start (h ++ rest) a ≡ Some s = ap first_of (filter_map-append (history.starts a) h rest) ∙ first_of-append (filter_map (history.starts a) h) (filter_map (history.starts a) rest) s begun in
