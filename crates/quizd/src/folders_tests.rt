@@ -10,7 +10,11 @@ use qz_text::{Bytes, Listed};
 use std::test::Fail;
 
 /// What comes of a script over the school of a folder: its status and what was written.
-pub(crate) fn scripted(alloc: Global, lines: &str, shelf: &mut MemoryShelf) -> Result<(u8, String), NoMemory>
+pub(crate) fn scripted(
+    alloc: Global,
+    lines: &str,
+    shelf: &mut MemoryShelf,
+) -> Result<(u8, String), NoMemory>
     requires { NoneOut (memory_files shelf.old.slots) }
     ensures { IfOk result (λ _. NoneOut (memory_files shelf.new.slots)) }
 {

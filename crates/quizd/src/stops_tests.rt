@@ -180,7 +180,9 @@ fn a_stop_at_each_call_of_a_shard_keeps_what_was_acknowledged(rt: HostRuntime) -
 }
 
 #[test]
-fn a_stop_at_each_call_of_the_catalogue_keeps_what_was_acknowledged(rt: HostRuntime) -> Result<(), Fail> {
+fn a_stop_at_each_call_of_the_catalogue_keeps_what_was_acknowledged(
+    rt: HostRuntime,
+) -> Result<(), Fail> {
     let alloc = rt.alloc();
     for call in 1..=32 {
         for fill in FILLS {

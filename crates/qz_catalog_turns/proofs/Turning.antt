@@ -1,6 +1,5 @@
 -- What one turn at a list comes to.
-use Rattle.std.proofs.Common.{◌≡◌, ℕ, List, [], ◌∷◌, ◌++◌, Option, Some, None, IfSome, Result, Err, refl, ap, sym, ◌∙◌, subst}
-use Rattle.std.proofs.lemmas.List.{append-nil}
+use Rattle.std.proofs.Common.{◌≡◌, ℕ, List, [], ◌∷◌, ◌++◌, Option, Some, None, IfSome, refl, ap, sym, ◌∙◌, subst}
 use mathlib.Core.List.{IsPrefix}
 use Rattle.qz_catalog.specs.Applying.{IsAsked}
 use Rattle.qz_catalog.specs.Keeping.{IsTold, Keeping}
@@ -13,12 +12,11 @@ use Rattle.qz_serial.proofs.Longer.{staying_law}
 use Rattle.qz_terms.specs.declared.ask.Ask.{Ask}
 use Rattle.qz_terms.specs.declared.people.User.{User}
 use Rattle.qz_terms.specs.declared.record.Record.{Record}
-use Rattle.qz_terms.specs.declared.reply.Reply.{Reply}
 use Rattle.qz_terms.specs.Legal.{IsLegalCatalog}
 use Rattle.qz_terms.specs.Serial.{Held, Mended, adopted, dropped, stays}
 use Rattle.qz_turn.specs.Tales.{Follows}
 use Rattle.qz_turn.proofs.Prefixes.{prefix_self, prefix_trans}
-use Rattle.qz_catalog_turns.specs.Turning.{Calls, Did, tale_of}
+use Rattle.qz_catalog_turns.specs.Turning.{Did, tale_of}
 
 -- ---- a list only grows
 

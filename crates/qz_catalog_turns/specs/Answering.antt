@@ -1,5 +1,5 @@
 -- What may be asked of a catalogue in a turn.
-use Rattle.std.specs.Prelude.{◌≡◌, ℕ, ◌≤◌, List, [], length, unwrap_or}
+use Rattle.std.specs.Prelude.{ℕ, ◌≤◌, List, [], length, unwrap_or}
 use Rattle.qz_catalog.specs.Applying.{IsAsked}
 use Rattle.qz_record.specs.Lengths.{NamesBriefly}
 use Rattle.qz_terms.specs.declared.ask.Ask.{Ask}

@@ -43,7 +43,9 @@ impl<'a, K: Keeper> Errand<Records<K>> for Answering<'a> {
 
     fn go(&mut self, records: &mut Records<K>) {
         let _found = records.catalog.len();
-        let reply = records.catalog.apply(self.alloc, self.user, self.ask, self.moment);
+        let reply = records
+            .catalog
+            .apply(self.alloc, self.user, self.ask, self.moment);
         let _left = records.catalog.len();
         self.reply = Some(reply);
     }

@@ -2,10 +2,10 @@ ghost use Rattle.std.specs.Prelude.{◌≡◌, ◌<◌, length, [], None};
 ghost use Rattle.qz_terms.specs.Kept.{IsKeptPlan};
 ghost use Rattle.qz_shard.specs.Keeping.{IsSamePart};
 
-use qz_shard::Shard;
 use crate::tests::{ask, is_started, plan, user};
 use qz_disks::{KeepErr, Keeper};
 use qz_grading::{Refusal, Steps};
+use qz_shard::Shard;
 use qz_terms::{Plan, Reply, Request, Role, User};
 use qz_text::{Bytes, Listed, NoMemory, Text, TryCopy};
 use std::alloc::Global;

@@ -5,10 +5,10 @@ ghost use Rattle.qz_terms.specs.Kept.{IsKeptPlan, KeepsAsked, is_moment};
 ghost use Rattle.qz_terms.specs.Legal.{is_plan_for};
 ghost use Rattle.qz_shard.specs.Holdings.{IsAsked, StartsHere, is_change, is_look};
 
-use qz_shard::ShardCore;
 use qz_decimal::{Fraction, Grade, Mark, ONE};
 use qz_grading::{Answer, AttemptId, Behaviour, State, Steps};
 use qz_samples::truth;
+use qz_shard::ShardCore;
 use qz_terms::{
     Ask, Caller, Done, Handling, How, Method, Plan, Planned, Policy, Reply, Request, Review, Role,
     Settings, Shown, Status, User,

@@ -3,10 +3,10 @@ ghost use Rattle.qz_record.specs.Lengths.{NamesBriefly};
 ghost use Rattle.qz_terms.specs.Cause.{is_keyless};
 ghost use Rattle.qz_terms.specs.Kept.{KeepsAsked, asks_described};
 
-use qz_solo::MemorySchool;
 use qz_decimal::{Fraction, Mark, ONE};
 use qz_grading::{Answer, AttemptId, Bank, Behaviour, Item, Refusal, Thing};
 use qz_samples::truth;
+use qz_solo::MemorySchool;
 use qz_terms::{Ask, Caller, Desk, Done, Reply, Request, Role};
 use qz_text::{Listed, NoMemory, Text};
 use std::alloc::Global;
