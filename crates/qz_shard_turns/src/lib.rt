@@ -1,0 +1,9 @@
+//! A shard of a school behind a lock that threads take in turn. Each call is one turn: the list is mended first, and what is told is said
+//! over the list that was found.
+#![tactic(auto)]
+
+mod looking;
+mod part;
+
+pub use looking::{live, quiz_of};
+pub use part::{Part, Place};
