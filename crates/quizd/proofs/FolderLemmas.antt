@@ -13,7 +13,7 @@ use Rattle.qz_found.specs.FoundEndings.{Shelved, Sunk}
 use Rattle.qz_journal.specs.Journals.{IsSound, Ledger}
 use Rattle.qz_loading.specs.declared.fault.LoadFault.{LoadFault}
 use Rattle.qz_loading.specs.declared.fault.LoadFault.TheVariants as fault
-use Rattle.qz_loading.specs.Closing.{IsBack, PartsAreBack}
+use Rattle.qz_loading.specs.Closing.{IsBack, PartsAreBack, StandForList}
 use Rattle.qz_loading.specs.Opening.{IsLoadedFrom}
 use Rattle.qz_folders.specs.Names.{catalog_name, part_name}
 use Rattle.qz_loading.specs.Places.{IsElsewhere, IsOut, KeepsElsewhere, catalog_place, part_place}
@@ -82,17 +82,17 @@ often-past before mid now m n k later rises told = λ few. let more = rises.rise
 -- ---- a school that is given back
 
 -- a file that was told stands for its list
-told-stands : {P : Type 0} (was is : Option (List ℕ)) (kept : Option (List (List ℕ))) → is_some was ≡ is_some is → is_some kept ≡ is_some is → IfSome kept (λ _. P) → IfSome was (λ _. P)
-told-stands None is kept same tells stands = tt
-told-stands (Some bytes) is None same tells stands = absurd cc
-told-stands (Some bytes) is (Some payloads) same tells stands = stands
+told-stands : (P : Type 0) (was is : Option (List ℕ)) (kept : Option (List (List ℕ))) → is_some was ≡ is_some is → is_some kept ≡ is_some is → IfSome kept (λ _. P) → IfSome was (λ _. P)
+told-stands P None is kept same tells stands = tt
+told-stands P (Some bytes) is None same tells stands = absurd cc
+told-stands P (Some bytes) is (Some payloads) same tells stands = stands
 
 -- Shelves of a kind tell of the same files of a folder, of which none is out.
 abbrev pub TellAlike : List ℕ → Files → Files → Type 0
 TellAlike folder old new = (name : List ℕ) → is_some (old.file (place folder name)).reads ≡ is_some (new.file (place folder name)).reads
 
 back-stands : {D : Type 0} (old new : File) (journal : Ledger D) (held : Held) → is_some old.reads ≡ is_some new.reads → IsBack journal held new → IsStanding held old new
-back-stands old new journal held same back = told-stands old.reads new.reads journal.kept same back.tells back.stands
+back-stands old new journal held same back = told-stands (StandForList held new.left) old.reads new.reads journal.kept same back.tells back.stands
 
 -- What loading, serving and closing come to.
 pub given_back : {D : Type 0} (disks : Disks D) (folder : List ℕ) (old new : Shelved) (mid : Files) (count : ℕ) (a b : School (Ledger D))
