@@ -31,11 +31,11 @@ look-tied failed Says place before after told tied call same kept = record {
 
 -- ---- the pass of the catalogue
 
-agree-on : (c d h : List Record) → IsPrefix c d → AllAgree c h → AllAgree d h
+pub agree-on : (c d h : List Record) → IsPrefix c d → AllAgree c h → AllAgree d h
 agree-on c d h p all = subst (λ (l : List Record). AllAgree l h) p.1 (all-longer c p.0 h all)
 
 -- of two lists, one of which begins the other, that which isn't shorter is the longer
-no-more : (c d : List Record) → IsPrefix c d → length d ≤ length c → d ≡ c
+pub no-more : (c d : List Record) → IsPrefix c d → length d ≤ length c → d ≡ c
 no-more c d p le =
     let none : p.0 ≡ [] = nil_from_length p.0 (let long = ap length p.1 in omega (arith, long, Rattle.std.proofs.Common.length-append c p.0)) in
     sym p.1 ∙ ap (λ (l : List Record). c ++ l) none ∙ append-nil c
@@ -54,6 +54,11 @@ joined-agrees before other after h j all =
 prefix-longer : (a b : Tale Record) (shorter : Bool) → nat_lt (length a.list) (length b.list) ≡ shorter → IsPrefix a.list b.list ⊎ IsPrefix b.list a.list → IsPrefix a.list (if shorter then b else a).list
 prefix-longer a b true is one = ⊎_elim (λ p. p) (λ p. absurd (let lt = Rattle.std.proofs.lemmas.Bool.ltb-true (length a.list) (length b.list) is in let long = ap length p.1 in omega (arith, lt, long, Rattle.std.proofs.Common.length-append b.list p.0))) one
 prefix-longer a b false is one = ([], append-nil a.list)
+
+-- what was seen begins what is seen together
+pub joined-first : {K : Type 0} (before other after : Standing Record K) → Joins before other after → IsPrefix before.seen.list after.seen.list
+joined-first before other after j =
+    subst (λ (t : Tale Record). IsPrefix before.seen.list t.list) (sym j.seen) (prefix-longer before.seen other.seen (nat_lt (length before.seen.list) (length other.seen.list)) refl j.one_list)
 
 -- a pass without numbers was joined into another
 pub joined-more : {K : Type 0} (before other after : Standing Record K) → Joins before other after → other.numbers ≡ [] → SeesMore before after

@@ -1,1 +1,2 @@
 pub mod Tying
+pub mod Posing

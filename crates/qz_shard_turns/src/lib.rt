@@ -2,8 +2,10 @@
 //! over the list that was found.
 #![tactic(auto)]
 
+mod answering;
 mod looking;
 mod part;
 
+pub use answering::answer;
 pub use looking::{live, quiz_of};
 pub use part::{Part, Place};

@@ -1,0 +1,147 @@
+-- What a shard answers under a plan that was read before, and that it stays tied to its catalogue.
+use Rattle.std.proofs.Common.{◌≡◌, ◌⊎◌, ⊎_elim, ℕ, ◌≤◌, Bool, true, false, List, [], ◌∷◌, ◌++◌, length, Option, Some, None, IfSome, Result, Ok, Err, IfOk, IfErr, refl, ap, sym, ◌∙◌, subst}
+use Rattle.std.specs.Prelude.{if◌then◌else◌, nat_lt}
+use Rattle.std.proofs.lemmas.Bool.{ltb-false}
+use mathlib.Core.List.{IsPrefix}
+use Rattle.qz_catalog.specs.Holdings.{lean}
+use Rattle.qz_keeper.specs.Lists.{EachMayStand, OneCall}
+use Rattle.qz_keeper.specs.Recording.{HasFailed}
+use Rattle.qz_outside.specs.Causes.{HasRisen}
+use Rattle.qz_school.specs.Agreement.{is_start}
+use Rattle.qz_school.proofs.Leaning.{leaning_law}
+use Rattle.qz_school.proofs.Putting.{older_law}
+use Rattle.qz_serial.specs.Calls.{ShardAnswers}
+use Rattle.qz_serial.proofs.Composing.{calls_mean}
+use Rattle.qz_serial.proofs.Growing.{grown_part}
+use Rattle.qz_serial.proofs.Seats.{mended_grows}
+use Rattle.qz_shard.specs.declared.shard.Older.{Older}
+use Rattle.qz_shard.specs.Holdings.{IsAsked}
+use Rattle.qz_shard.specs.Keeping as part
+use Rattle.qz_solo.proofs.Calls.{call_grows, call_stands, means_there, stand_as, stand_both, stands_mended}
+use Rattle.qz_solo.proofs.Planning.{planned_means}
+use Rattle.qz_terms.specs.declared.ask.Ask.{Ask}
+use Rattle.qz_terms.specs.declared.people.User.{User}
+use Rattle.qz_terms.specs.declared.plan.Plan.{Plan}
+use Rattle.qz_terms.specs.declared.record.Record.{Record}
+use Rattle.qz_terms.specs.declared.reply.Reply.{Reply}
+use Rattle.qz_terms.specs.declared.reply.Reply.TheVariants as reply
+use Rattle.qz_terms.specs.Answer.{list_after}
+use Rattle.qz_terms.specs.Legal.{AllAgree, IsLegal}
+use Rattle.qz_terms.specs.Serial.{Held}
+use Rattle.qz_turn.specs.declared.view.Tale.{Tale}
+use Rattle.qz_turn.specs.Passes.{Standing}
+use Rattle.qz_turn.specs.Turns.{Joins}
+use Rattle.qz_turn.proofs.Prefixes.{prefix_self, prefix_trans}
+use Rattle.qz_shard_turns.specs.Posing.{CanPose, Comes, IsAnsweredNow, IsPlannedBy, shard_at}
+use Rattle.qz_shard_turns.specs.Tying.{Behind, IsTied, Placed}
+use Rattle.qz_shard_turns.proofs.Tying.{agree-on, joined-first, no-more}
+
+-- ---- each list that goes on from what was seen
+
+later-doubt : (P : List Record → Type 0) (seen l : List Record) (doubt : Option Record) → IsPrefix seen l → ((h : List Record) → IsPrefix seen h → P h) → IfSome doubt (λ r. P (l ++ r ∷ []))
+later-doubt P seen l None p each = tt
+later-doubt P seen l (Some r) p each = each (l ++ r ∷ []) (prefix_trans seen l (l ++ r ∷ []) p (r ∷ [], refl))
+
+pub each-later : (P : List Record → Type 0) (seen : List Record) (held : Held) → IsPrefix seen held.list → ((h : List Record) → IsPrefix seen h → P h) → EachMayStand P held
+each-later P seen held p each = record { without = each held.list p; with_doubt = later-doubt P seen held.list held.doubt p each }
+
+-- ---- what is asked
+
+pub posed-asked : (c seen : List Record) (index count : ℕ) (user : User) (plan : Plan) (ask : Ask) (moment : ℕ) (held : Held) → CanPose c seen index count user plan ask moment → IsPrefix seen held.list → EachMayStand (λ h. IsAsked h plan ask moment) held
+posed-asked c seen index count user plan ask moment held pose p = each-later (λ h. IsAsked h plan ask moment) seen held p
+    (λ h q. let is = pose.planned h q in record { keyed = pose.asked.keyed; of_quiz = is.of_quiz; kept_plan = is.kept; kept_request = pose.asked.kept; kept_moment = pose.asked.moment_kept })
+
+-- ---- what is answered
+
+pub answered-now : (failed : Type 0) (index count moment : ℕ) (user : User) (plan : Plan) (ask : Ask) (old new : Held) (told : Reply) → OneCall failed reply.Refused (part.IsTold index count moment user plan ask) old new told
+    → OneCall failed reply.Refused (IsAnsweredNow moment user plan ask) old new told
+answered-now failed index count moment user plan ask old new told call = (calls_mean failed failed reply.Refused (part.IsTold index count moment user plan ask) (IsAnsweredNow moment user plan ask)).each old new told (λ f. f) (λ h t g is. record { answered = is.answered; newer = is.newer }) call
+
+pub answered-ok : (failed : Type 0) (index count moment : ℕ) (user : User) (plan : Plan) (ask : Ask) (old new : Held) (result : Result Reply Older) → IfOk result (λ told. OneCall failed reply.Refused (part.IsTold index count moment user plan ask) old new told)
+    → IfOk result (λ told. OneCall failed reply.Refused (IsAnsweredNow moment user plan ask) old new told)
+answered-ok failed index count moment user plan ask old new (Ok told) call = answered-now failed index count moment user plan ask old new told call
+answered-ok failed index count moment user plan ask old new (Err o) call = tt
+
+now-means : (c : List Record) (index count moment : ℕ) (user : User) (plan : Plan) (ask : Ask) (h : List Record) (t : Reply) (g : List Record) → Rattle.qz_terms.specs.Catalog.user_of c ask.caller ≡ Some user → IsPlannedBy c index count user ask.request plan h → IsAnsweredNow moment user plan ask h t g
+    → ShardAnswers c moment user ask h t g
+now-means c index count moment user plan ask h t g found p is =
+    planned_means c (shard_at index count h) moment user plan ask t g found
+    (record { whole = p.whole; free = p.free; plan_is = p.plan_is; given_is = p.given_is; of_quiz = p.of_quiz; kept = p.kept; here = p.here; newer = is.newer }) is.answered
+
+-- it is the catalogue's answer
+pub answers-catalog : (failed worse : Type 0) (c seen : List Record) (index count moment : ℕ) (user : User) (plan : Plan) (ask : Ask) (old new : Held) (told : Reply) → (failed → worse) → CanPose c seen index count user plan ask moment → IsPrefix seen old.list
+    → OneCall failed reply.Refused (IsAnsweredNow moment user plan ask) old new told → OneCall worse reply.Refused (ShardAnswers c moment user ask) old new told
+answers-catalog failed worse c seen index count moment user plan ask old new told to pose p call =
+    means_there failed worse reply.Refused (IsAnsweredNow moment user plan ask) (ShardAnswers c moment user ask) old new told to
+    (each-later (λ h. (t : Reply) (g : List Record) → IsAnsweredNow moment user plan ask h t g → ShardAnswers c moment user ask h t g) seen old p
+    (λ h q t g is. now-means c index count moment user plan ask h t g pose.known (pose.planned h q) is)) call
+
+-- ---- what it leaves agrees
+
+list-under : (h : List Record) (now : ℕ) (user : User) (given whole : Plan) (ask : Ask) (b : Bool) → is_start ask.request ≡ b → given ≡ lean b whole → list_after h now user given ask ≡ list_after h now user whole ask
+list-under h now user given whole ask true start is = ap (λ (p : Plan). list_after h now user p ask) is
+list-under h now user given whole ask false start is = ap (λ (p : Plan). list_after h now user p ask) is ∙ leaning_law.list h now user whole ask start
+
+now-agrees : (c d seen : List Record) (index count moment : ℕ) (user : User) (plan : Plan) (ask : Ask) (h : List Record) (t : Reply) (g : List Record) → CanPose c seen index count user plan ask moment → IsPrefix c d → AllAgree d h → IsPrefix seen h → IsAnsweredNow moment user plan ask h t g → AllAgree d g
+now-agrees c d seen index count moment user plan ask h t g pose more all p is =
+    let by = pose.planned h p in
+    let under = list-under h moment user plan by.whole ask (is_start ask.request) refl by.given_is in
+    let left = older_law.answered c more.0 h moment user by.whole ask pose.legal (subst (λ (l : List Record). AllAgree l h) (sym more.1) all) by.ready pose.known by.plan_is in
+    subst (λ (l : List Record). AllAgree l g) more.1 (subst (λ (l : List Record). AllAgree (c ++ more.0) l) (sym (is.answered.list ∙ under)) left)
+
+pub answer-stands : (failed : Type 0) (c d seen : List Record) (index count moment : ℕ) (user : User) (plan : Plan) (ask : Ask) (old new : Held) (told : Reply) → CanPose c seen index count user plan ask moment → IsPrefix c d → IsPrefix seen old.list → EachMayStand (AllAgree d) old
+    → OneCall failed reply.Refused (IsAnsweredNow moment user plan ask) old new told → EachMayStand (AllAgree d) new
+answer-stands failed c d seen index count moment user plan ask old new told pose more p agree call =
+    call_stands failed reply.Refused (IsAnsweredNow moment user plan ask) (AllAgree d) (λ h. AllAgree d h × IsPrefix seen h) old new told (λ h q. q.0) (λ h t g q is. now-agrees c d seen index count moment user plan ask h t g pose more q.0 q.1 is)
+    (stand_both (AllAgree d) (IsPrefix seen) old agree (each-later (IsPrefix seen) seen old p (λ h q. q))) call
+
+-- whatever came of it
+pub left-standing : (failed : Type 0) (c d seen : List Record) (index count moment : ℕ) (user : User) (plan : Plan) (ask : Ask) (old new : Held) (result : Result Reply Older) → CanPose c seen index count user plan ask moment → IsPrefix c d → IsPrefix seen old.list → EachMayStand (AllAgree d) old
+    → IfOk result (λ told. OneCall failed reply.Refused (IsAnsweredNow moment user plan ask) old new told) → IfErr result (λ o. part.IsOlder plan ask.request old new o.floor) → EachMayStand (AllAgree d) new
+left-standing failed c d seen index count moment user plan ask old new (Ok told) pose more p agree call late = answer-stands failed c d seen index count moment user plan ask old new told pose more p agree call
+left-standing failed c d seen index count moment user plan ask old new (Err o) pose more p agree call late = stands_mended (AllAgree d) old new late.mends agree
+
+pub answer-tied : {K : Type 0} (failed : Type 0) (place : Placed) (before after : Behind K) (note : Standing Record (Unit {0})) (seen : List Record) (moment : ℕ) (user : User) (plan : Plan) (ask : Ask) (result : Result Reply Older) → IsTied place before
+    → Joins before.note note after.note → part.IsSamePart before.shard after.shard → CanPose note.seen.list seen place.index place.count user plan ask moment → IsPrefix seen before.shard.held.list
+    → IfOk result (λ told. OneCall failed reply.Refused (IsAnsweredNow moment user plan ask) before.shard.held after.shard.held told) → IfErr result (λ o. part.IsOlder plan ask.request before.shard.held after.shard.held o.floor) → IsTied place after
+answer-tied failed place before after note seen moment user plan ask result tied j same pose p call late = record {
+  index_is = same.index ∙ tied.index_is;
+  count_is = same.count ∙ tied.count_is;
+  own = j.lock ∙ tied.own;
+  agree = left-standing failed note.seen.list after.note.seen.list seen place.index place.count moment user plan ask before.shard.held after.shard.held result pose (joined-second before.note note after.note j) p
+      (stand_as (AllAgree after.note.seen.list) (AllAgree before.note.seen.list) before.shard.held (λ h all. agree-on before.note.seen.list after.note.seen.list h (joined-first before.note note after.note j) all) tied.agree) call late;
+}
+  where
+    second : (a b : Tale Record) (shorter : Bool) → nat_lt (length a.list) (length b.list) ≡ shorter → IsPrefix a.list b.list ⊎ IsPrefix b.list a.list → IsPrefix b.list (if shorter then b else a).list
+    second a b true is one = prefix_self b.list
+    second a b false is one =
+        let le : length b.list ≤ length a.list = ltb-false (length a.list) (length b.list) is in
+        ⊎_elim (λ q. subst (λ (l : List Record). IsPrefix l a.list) (sym (no-more a.list b.list q le)) (prefix_self a.list)) (λ q. q) one
+
+    joined-second : {L : Type 0} (x y z : Standing Record L) → Joins x y z → IsPrefix y.seen.list z.seen.list
+    joined-second x y z j = subst (λ (t : Tale Record). IsPrefix y.seen.list t.list) (sym j.seen) (second x.seen y.seen (nat_lt (length x.seen.list) (length y.seen.list)) refl j.one_list)
+
+-- ---- what came of it
+
+same-legal : {K : Type 0} (before after : part.Keeping K) → part.IsSamePart before after → EachMayStand (IsLegal after.index after.count) after.held → EachMayStand (IsLegal before.index before.count) after.held
+same-legal before after same legal =
+    subst (λ (n : ℕ). EachMayStand (IsLegal n before.count) after.held) same.index (subst (λ (n : ℕ). EachMayStand (IsLegal after.index n) after.held) same.count legal)
+
+pub came : {K : Type 0} (sound : K → Type 0) (faults : K → ℕ) (c seen : List Record) (moment : ℕ) (user : User) (plan : Plan) (ask : Ask) (index count : ℕ) (before after : part.Keeping K) (result : Result Reply Older) → CanPose c seen index count user plan ask moment → IsPrefix seen before.held.list
+    → IfOk result (λ told. OneCall (HasFailed (sound before.keeper) (faults before.keeper) (faults after.keeper)) reply.Refused (IsAnsweredNow moment user plan ask) before.held after.held told) → IfErr result (λ o. part.IsOlder plan ask.request before.held after.held o.floor)
+    → part.IsSamePart before after → EachMayStand (IsLegal before.index before.count) before.held → EachMayStand (IsLegal after.index after.count) after.held → Comes faults c moment user plan ask before after result
+came sound faults c seen moment user plan ask index count before after (Ok told) pose p call late same found left = record {
+  call = answers-catalog (HasFailed (sound before.keeper) (faults before.keeper) (faults after.keeper)) (HasRisen (faults before.keeper) (faults after.keeper)) c seen index count moment user plan ask before.held after.held told (λ f. f.rose) pose p call;
+  found_may = found;
+  seen_may = same-legal before after same left;
+}
+came sound faults c seen moment user plan ask index count before after (Err o) pose p call late same found left = late
+
+grown-prefix : (old new : Held) → Rattle.qz_serial.proofs.Growing.Grows old.list new.list → IsPrefix old.list new.list
+grown-prefix old new g = (g.rest, sym g.grown)
+
+-- the list only grows
+pub came-longer : {K : Type 0} (faults : K → ℕ) (c : List Record) (moment : ℕ) (user : User) (plan : Plan) (ask : Ask) (before after : part.Keeping K) (result : Result Reply Older) → Comes faults c moment user plan ask before after result → IsPrefix before.held.list after.held.list
+came-longer faults c moment user plan ask before after (Ok told) is =
+    grown-prefix before.held after.held (call_grows _ reply.Refused (ShardAnswers c moment user ask) before.held after.held told (λ h t g says. let grown = grown_part c h moment user ask in record { rest = grown.rest; grown = says.1 ∙ grown.grown }) is.call)
+came-longer faults c moment user plan ask before after (Err o) is = grown-prefix before.held after.held (mended_grows before.held after.held is.mends)
