@@ -7,5 +7,5 @@ mod looking;
 mod part;
 
 pub use answering::answer;
-pub use looking::{live, quiz_of};
+pub use looking::{live, quiz_of, rows};
 pub use part::{Part, Place};

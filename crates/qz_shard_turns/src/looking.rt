@@ -1,10 +1,11 @@
 //! Looks at a shard, each in a turn of its own.
 
-ghost use Rattle.std.specs.Prelude.{◌≡◌, ◌≢◌, ℕ, List, [], Result, Ok, Err};
+ghost use Rattle.std.specs.Prelude.{◌≡◌, ◌≢◌, ◌<◌, ℕ, List, [], Result, Ok, Err};
+ghost use Rattle.qz_decimal.specs.Numbers.{IsMaxSum, IsQuizGrade};
 ghost use Rattle.qz_grading.specs.declared.refusal.Refusal.{Refusal};
 ghost use Rattle.qz_keeper.specs.Lists.{Looks, OneCall};
 ghost use Rattle.qz_keeper.specs.Recording.{GoesOn, HasFailed};
-ghost use Rattle.qz_shard.specs.Keeping.{IsSamePart, TellsQuiz};
+ghost use Rattle.qz_shard.specs.Keeping.{IsSamePart, TellsQuiz, TellsRows};
 ghost use Rattle.qz_terms.specs.declared.record.Record.{Record};
 ghost use Rattle.qz_terms.specs.History.{live_after};
 ghost use Rattle.qz_terms.specs.Legal.{AllAgree, IsLegal};
@@ -14,22 +15,31 @@ ghost use Rattle.qz_shard_turns.specs.Tying.{IsTiedTo, SeesMore};
 
 use crate::part::Part;
 use qz_catalog_turns::Records;
+use qz_decimal::Grade;
 use qz_disks::Keeper;
-use qz_grading::{AttemptId, Refusal};
+use qz_grading::{AttemptId, Refusal, Steps};
 use qz_shard::Shard;
+use qz_terms::Policy;
+use qz_text::Listed;
 use qz_turn::{Errand, Pass, Turns};
 use std::alloc::Global;
+use std::marker::Brand;
 use std::sync::Wait;
+use std::sync::ledger::{Blank, Ledger};
 
 /// What is looked up in a shard.
 trait Question<K: Keeper> {
     type Found;
+
+    // What has to hold of it.
+    ghost in_range: { Self → Type 0 };
 
     // What may be told of a list.
     ghost says: { Self → List Record → Result Self.Found Refusal → Type 0 };
 
     /// Looks it up. The list is mended first.
     fn look_up(&self, alloc: Global, shard: &mut Shard<K>) -> Result<Self::Found, Refusal>
+        requires in_range { in_range self.now }
         ensures told { OneCall (HasFailed (K.sound shard.old.keeper)
             (K.faults shard.old.keeper) (K.faults shard.new.keeper)) (λ r. Err r)
             (Looks (says self.now)) shard.old.held shard.new.held result }
@@ -48,6 +58,8 @@ impl<K: Keeper> Question<K> for QuizOf {
     ghost use Rattle.qz_shard.specs.Keeping.{TellsQuiz};
 
     type Found = u32;
+
+    ghost in_range = { λ _. Unit {0} };
 
     ghost says = { λ q. TellsQuiz q.attempt };
 
@@ -68,10 +80,62 @@ impl<K: Keeper> Question<K> for LiveAfter {
 
     type Found = Option<AttemptId>;
 
+    ghost in_range = { λ _. Unit {0} };
+
     ghost says = { λ q h told. told ≡ Ok (live_after h q.attempt) };
 
     fn look_up(&self, alloc: Global, shard: &mut Shard<K>) -> Result<Option<AttemptId>, Refusal> {
         shard.live(alloc, self.attempt)
+    }
+}
+
+/// The grades at a quiz, by this policy, of all who have an attempt of it.
+#[derive(Drop)]
+struct RowsOf<'p> {
+    quiz: u32,
+    policy: &'p Policy,
+}
+
+// None of its gradings is counted.
+fn rows_of<K: Keeper, L: Ledger>(
+    blank: Blank,
+    shard: &mut Shard<K>,
+    alloc: Global,
+    quiz: u32,
+    policy: &Policy,
+) -> Result<Listed<(u32, Option<Grade>)>, Refusal>
+    requires name { blank.name ≡ L.name }
+    requires parts { blank.parts ≡ L.parts }
+    requires some_part { 0 < blank.parts }
+    requires grade { IsQuizGrade policy.now.grade }
+    requires sum { IsMaxSum policy.now.sum }
+    ensures told { OneCall (HasFailed (K.sound shard.old.keeper)
+        (K.faults shard.old.keeper) (K.faults shard.new.keeper)) (λ r. Err r)
+        (Looks (TellsRows quiz policy.now)) shard.old.held shard.new.held result }
+    ensures shard { IsSamePart shard.old shard.new }
+    ensures goes_on { GoesOn (K.sound shard.old.keeper) (K.sound shard.new.keeper)
+        (K.faults shard.old.keeper) (K.faults shard.new.keeper) }
+{
+    let mut steps = Steps::<L>::open(blank);
+    shard.rows(alloc, quiz, policy, &mut steps)
+}
+
+impl<'p, K: Keeper> Question<K> for RowsOf<'p> {
+    ghost use Rattle.qz_decimal.specs.Numbers.{IsMaxSum, IsQuizGrade};
+    ghost use Rattle.qz_shard.specs.Keeping.{TellsRows};
+
+    type Found = Listed<(u32, Option<Grade>)>;
+
+    ghost in_range = { λ q. (IsQuizGrade q.policy.now.grade) × (IsMaxSum q.policy.now.sum) };
+
+    ghost says = { λ q. TellsRows q.quiz q.policy.now };
+
+    fn look_up(
+        &self,
+        alloc: Global,
+        shard: &mut Shard<K>,
+    ) -> Result<Listed<(u32, Option<Grade>)>, Refusal> {
+        rows_of::<K, Brand>(Blank::new(1), shard, alloc, self.quiz, self.policy)
     }
 }
 
@@ -92,7 +156,8 @@ where
     ghost use Rattle.std.specs.Prelude.{◌≡◌};
     ghost use Rattle.qz_shard_turns.specs.Tying.{WasLooked};
 
-    ghost can = { λ place _ it. place.note.lock ≡ it.records.now.lock };
+    ghost can = { λ place _ it. (place.note.lock ≡ it.records.now.lock)
+        × (Q.in_range it.question.now) };
 
     ghost does = { λ it before after done.
         WasLooked K.faults (Q.says it.question.now) before after done.told done.note };
@@ -122,6 +187,7 @@ where
     requires pass { pass.old.lock ≡ parts.now.lock }
     requires number { pass.old.numbers ≢ [] }
     requires tie { IsTiedTo parts.now.lock records.now.lock }
+    requires in_range { Q.in_range question.now }
     ensures turn { UnderKey parts.now.lock (λ place. TurnCalls (IsLegal place.index place.count)
         (λ r. Err r) (Looks (Q.says question.now)) pass.old pass.new result) }
     ensures seen { SeesMore seen.old seen.new }
@@ -194,4 +260,30 @@ pub fn live<K: Keeper, R: Wait>(
         alloc,
         &LiveAfter { attempt },
     )
+}
+
+/// The grade (in 10^-5) at a quiz of each user who has an attempt of it in the shard, in order of user, each once. A user of whom no total
+/// is taken has none. The policy's grade is from 0 to 10,000, and its sum of max marks from 0 to 2,000,000.
+pub fn rows<K: Keeper, R: Wait>(
+    records: &Turns<Records<K>>,
+    parts: &Turns<Part<K>>,
+    rt: &R,
+    seen: &mut Pass<Records<K>>,
+    pass: &mut Pass<Part<K>>,
+    alloc: Global,
+    quiz: u32,
+    policy: &Policy,
+) -> Result<Listed<(u32, Option<Grade>)>, Refusal>
+    requires seen { seen.old.lock ≡ records.now.lock }
+    requires pass { pass.old.lock ≡ parts.now.lock }
+    requires number { pass.old.numbers ≢ [] }
+    requires tie { IsTiedTo parts.now.lock records.now.lock }
+    requires grade { IsQuizGrade policy.now.grade }
+    requires sum { IsMaxSum policy.now.sum }
+    ensures turn { UnderKey parts.now.lock (λ place. TurnCalls (IsLegal place.index place.count)
+        (λ r. Err r) (Looks (TellsRows quiz policy.now)) pass.old pass.new result) }
+    ensures seen { SeesMore seen.old seen.new }
+    ensures agree { AllAgree seen.new.seen.list pass.new.seen.list }
+{
+    look_up_in_turn(records, parts, rt, seen, pass, alloc, &RowsOf { quiz, policy })
 }
