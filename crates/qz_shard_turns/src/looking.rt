@@ -1,6 +1,6 @@
 //! Looks at a shard, each in a turn of its own.
 
-ghost use Rattle.std.specs.Prelude.{◌≡◌, ◌≢◌, ◌<◌, ℕ, List, [], Result, Ok, Err};
+ghost use Rattle.std.specs.Prelude.{◌≡◌, ◌≢◌, ◌<◌, ℕ, List, [], length, Result, Ok, Err};
 ghost use Rattle.qz_decimal.specs.Numbers.{IsMaxSum, IsQuizGrade};
 ghost use Rattle.qz_grading.specs.declared.refusal.Refusal.{Refusal};
 ghost use Rattle.qz_keeper.specs.Lists.{Looks, OneCall};
@@ -75,17 +75,24 @@ struct LiveAfter {
 }
 
 impl<K: Keeper> Question<K> for LiveAfter {
-    ghost use Rattle.std.specs.Prelude.{◌≡◌, Ok};
+    ghost use Rattle.std.specs.Prelude.{◌≡◌, Ok, length};
     ghost use Rattle.qz_terms.specs.History.{live_after};
 
-    type Found = Option<AttemptId>;
+    type Found = (u64, Option<AttemptId>);
 
     ghost in_range = { λ _. Unit {0} };
 
-    ghost says = { λ q h told. told ≡ Ok (live_after h q.attempt) };
+    ghost says = { λ q h told. told ≡ Ok (length h, live_after h q.attempt) };
 
-    fn look_up(&self, alloc: Global, shard: &mut Shard<K>) -> Result<Option<AttemptId>, Refusal> {
-        shard.live(alloc, self.attempt)
+    fn look_up(
+        &self,
+        alloc: Global,
+        shard: &mut Shard<K>,
+    ) -> Result<(u64, Option<AttemptId>), Refusal> {
+        match shard.live(alloc, self.attempt) {
+            Ok(attempt) => Ok((shard.len(), attempt)),
+            Err(refusal) => Err(refusal),
+        }
     }
 }
 
@@ -232,7 +239,8 @@ pub fn quiz_of<K: Keeper, R: Wait>(
     look_up_in_turn(records, parts, rt, seen, pass, alloc, &QuizOf { attempt })
 }
 
-/// The first attempt after this one that hasn't ended, in order of user and then of number, over all quizzes; `None` where there is none.
+/// How many records the shard has, and the first attempt after this one that hasn't ended, in order of user and then of number, over all
+/// quizzes; `None` where there is none.
 pub fn live<K: Keeper, R: Wait>(
     records: &Turns<Records<K>>,
     parts: &Turns<Part<K>>,
@@ -241,13 +249,14 @@ pub fn live<K: Keeper, R: Wait>(
     pass: &mut Pass<Part<K>>,
     alloc: Global,
     attempt: AttemptId,
-) -> Result<Option<AttemptId>, Refusal>
+) -> Result<(u64, Option<AttemptId>), Refusal>
     requires seen { seen.old.lock ≡ records.now.lock }
     requires pass { pass.old.lock ≡ parts.now.lock }
     requires number { pass.old.numbers ≢ [] }
     requires tie { IsTiedTo parts.now.lock records.now.lock }
     ensures turn { UnderKey parts.now.lock (λ place. TurnCalls (IsLegal place.index place.count)
-        (λ r. Err r) (Looks (λ h told. told ≡ Ok (live_after h attempt))) pass.old pass.new result) }
+        (λ r. Err r) (Looks (λ h told. told ≡ Ok (length h, live_after h attempt)))
+        pass.old pass.new result) }
     ensures seen { SeesMore seen.old seen.new }
     ensures agree { AllAgree seen.new.seen.list pass.new.seen.list }
 {
