@@ -1,7 +1,5 @@
 -- What a shard answers under a plan that was read before, and that it stays tied to its catalogue.
-use Rattle.std.proofs.Common.{◌≡◌, ◌⊎◌, ⊎_elim, ℕ, ◌≤◌, Bool, true, false, List, [], ◌∷◌, ◌++◌, length, Option, Some, None, IfSome, Result, Ok, Err, IfOk, IfErr, refl, ap, sym, ◌∙◌, subst}
-use Rattle.std.specs.Prelude.{if◌then◌else◌, nat_lt}
-use Rattle.std.proofs.lemmas.Bool.{ltb-false}
+use Rattle.std.proofs.Common.{◌≡◌, ℕ, Bool, true, false, List, [], ◌∷◌, ◌++◌, Option, Some, None, IfSome, Result, Ok, Err, IfOk, IfErr, refl, ap, sym, ◌∙◌, subst}
 use mathlib.Core.List.{IsPrefix}
 use Rattle.qz_catalog.specs.Holdings.{lean}
 use Rattle.qz_keeper.specs.Lists.{EachMayStand, OneCall}
@@ -28,13 +26,12 @@ use Rattle.qz_terms.specs.declared.reply.Reply.TheVariants as reply
 use Rattle.qz_terms.specs.Answer.{list_after}
 use Rattle.qz_terms.specs.Legal.{AllAgree, IsLegal}
 use Rattle.qz_terms.specs.Serial.{Held}
-use Rattle.qz_turn.specs.declared.view.Tale.{Tale}
 use Rattle.qz_turn.specs.Passes.{Standing}
 use Rattle.qz_turn.specs.Turns.{Joins}
-use Rattle.qz_turn.proofs.Prefixes.{prefix_self, prefix_trans}
+use Rattle.qz_turn.proofs.Prefixes.{prefix_trans}
 use Rattle.qz_shard_turns.specs.Posing.{CanPose, Comes, IsAnsweredNow, IsPlannedBy, shard_at}
 use Rattle.qz_shard_turns.specs.Tying.{Behind, IsTied, Placed}
-use Rattle.qz_shard_turns.proofs.Tying.{agree-on, joined-first, no-more}
+use Rattle.qz_shard_turns.proofs.Tying.{agree-on, joined-first, joined-legal, joined-second}
 
 -- ---- each list that goes on from what was seen
 
@@ -108,22 +105,14 @@ answer-tied failed place before after note seen moment user plan ask result tied
   index_is = same.index ∙ tied.index_is;
   count_is = same.count ∙ tied.count_is;
   own = j.lock ∙ tied.own;
+  catalog = joined-legal before.note note after.note j tied.catalog pose.legal;
   agree = left-standing failed note.seen.list after.note.seen.list seen place.index place.count moment user plan ask before.shard.held after.shard.held result pose (joined-second before.note note after.note j) p
       (stand_as (AllAgree after.note.seen.list) (AllAgree before.note.seen.list) before.shard.held (λ h all. agree-on before.note.seen.list after.note.seen.list h (joined-first before.note note after.note j) all) tied.agree) call late;
 }
-  where
-    second : (a b : Tale Record) (shorter : Bool) → nat_lt (length a.list) (length b.list) ≡ shorter → IsPrefix a.list b.list ⊎ IsPrefix b.list a.list → IsPrefix b.list (if shorter then b else a).list
-    second a b true is one = prefix_self b.list
-    second a b false is one =
-        let le : length b.list ≤ length a.list = ltb-false (length a.list) (length b.list) is in
-        ⊎_elim (λ q. subst (λ (l : List Record). IsPrefix l a.list) (sym (no-more a.list b.list q le)) (prefix_self a.list)) (λ q. q) one
-
-    joined-second : {L : Type 0} (x y z : Standing Record L) → Joins x y z → IsPrefix y.seen.list z.seen.list
-    joined-second x y z j = subst (λ (t : Tale Record). IsPrefix y.seen.list t.list) (sym j.seen) (second x.seen y.seen (nat_lt (length x.seen.list) (length y.seen.list)) refl j.one_list)
 
 -- ---- what came of it
 
-same-legal : {K : Type 0} (before after : part.Keeping K) → part.IsSamePart before after → EachMayStand (IsLegal after.index after.count) after.held → EachMayStand (IsLegal before.index before.count) after.held
+pub same-legal : {K : Type 0} (before after : part.Keeping K) → part.IsSamePart before after → EachMayStand (IsLegal after.index after.count) after.held → EachMayStand (IsLegal before.index before.count) after.held
 same-legal before after same legal =
     subst (λ (n : ℕ). EachMayStand (IsLegal n before.count) after.held) same.index (subst (λ (n : ℕ). EachMayStand (IsLegal after.index n) after.held) same.count legal)
 

@@ -10,10 +10,11 @@ use Rattle.qz_shard.specs.Keeping as part
 use Rattle.qz_solo.proofs.Calls.{look_stands}
 use Rattle.qz_school.proofs.Agreeing.{all-longer}
 use Rattle.qz_terms.specs.declared.record.Record.{Record}
-use Rattle.qz_terms.specs.Legal.{AllAgree}
+use Rattle.qz_terms.specs.Legal.{AllAgree, IsLegalCatalog}
 use Rattle.qz_turn.specs.declared.view.Tale.{Tale}
 use Rattle.qz_turn.specs.Passes.{Standing}
 use Rattle.qz_turn.specs.Tales.{Follows}
+use Rattle.qz_turn.proofs.Prefixes.{prefix_self}
 use Rattle.qz_turn.specs.Turns.{Joins, note_of}
 use Rattle.qz_shard_turns.specs.Tying.{Behind, IsTied, Placed, SeesMore, WasLooked}
 
@@ -26,6 +27,7 @@ look-tied failed Says place before after told tied call same kept = record {
   index_is = same.index ∙ tied.index_is;
   count_is = same.count ∙ tied.count_is;
   own = ap (λ (n : Standing Record (Unit {0})). n.lock) kept ∙ tied.own;
+  catalog = subst (λ (n : Standing Record (Unit {0})). IsLegalCatalog n.seen.list) (sym kept) tied.catalog;
   agree = subst (λ (n : Standing Record (Unit {0})). EachMayStand (AllAgree n.seen.list) after.shard.held) (sym kept) (look_stands failed (λ r. Err r) Says (AllAgree before.note.seen.list) before.shard.held after.shard.held told tied.agree call);
 }
 
@@ -54,6 +56,26 @@ joined-agrees before other after h j all =
 prefix-longer : (a b : Tale Record) (shorter : Bool) → nat_lt (length a.list) (length b.list) ≡ shorter → IsPrefix a.list b.list ⊎ IsPrefix b.list a.list → IsPrefix a.list (if shorter then b else a).list
 prefix-longer a b true is one = ⊎_elim (λ p. p) (λ p. absurd (let lt = Rattle.std.proofs.lemmas.Bool.ltb-true (length a.list) (length b.list) is in let long = ap length p.1 in omega (arith, lt, long, Rattle.std.proofs.Common.length-append b.list p.0))) one
 prefix-longer a b false is one = ([], append-nil a.list)
+
+either-legal : (a b : Tale Record) (shorter : Bool) → IsLegalCatalog a.list → IsLegalCatalog b.list → IsLegalCatalog (if shorter then b else a).list
+either-legal a b true one other = other
+either-legal a b false one other = one
+
+-- what is seen together is one of the two
+pub joined-legal : {K : Type 0} (before other after : Standing Record K) → Joins before other after → IsLegalCatalog before.seen.list → IsLegalCatalog other.seen.list → IsLegalCatalog after.seen.list
+joined-legal before other after j one two =
+    subst (λ (t : Tale Record). IsLegalCatalog t.list) (sym j.seen) (either-legal before.seen other.seen (nat_lt (length before.seen.list) (length other.seen.list)) one two)
+
+second : (a b : Tale Record) (shorter : Bool) → nat_lt (length a.list) (length b.list) ≡ shorter → IsPrefix a.list b.list ⊎ IsPrefix b.list a.list → IsPrefix b.list (if shorter then b else a).list
+second a b true is one = prefix_self b.list
+second a b false is one =
+    let le : length b.list ≤ length a.list = ltb-false (length a.list) (length b.list) is in
+    ⊎_elim (λ q. subst (λ (l : List Record). IsPrefix l a.list) (sym (no-more a.list b.list q le)) (prefix_self a.list)) (λ q. q) one
+
+-- and so does what the other had seen
+pub joined-second : {K : Type 0} (before other after : Standing Record K) → Joins before other after → IsPrefix other.seen.list after.seen.list
+joined-second before other after j =
+    subst (λ (t : Tale Record). IsPrefix other.seen.list t.list) (sym j.seen) (second before.seen other.seen (nat_lt (length before.seen.list) (length other.seen.list)) refl j.one_list)
 
 -- what was seen begins what is seen together
 pub joined-first : {K : Type 0} (before other after : Standing Record K) → Joins before other after → IsPrefix before.seen.list after.seen.list

@@ -1,2 +1,3 @@
 pub mod Tying
 pub mod Posing
+pub mod Jobs

@@ -5,7 +5,7 @@ use Rattle.qz_grading.specs.declared.refusal.Refusal.{Refusal}
 use Rattle.qz_keeper.specs.Lists.{EachMayStand, Looks}
 use Rattle.qz_shard.specs.Keeping as part
 use Rattle.qz_terms.specs.declared.record.Record.{Record}
-use Rattle.qz_terms.specs.Legal.{AllAgree, IsLegal}
+use Rattle.qz_terms.specs.Legal.{AllAgree, IsLegal, IsLegalCatalog}
 use Rattle.qz_turn.specs.Passes.{Lock, Standing}
 use Rattle.qz_turn.specs.Tales.{Follows}
 use Rattle.qz_turn.specs.Turns.{note_of}
@@ -21,11 +21,12 @@ pub record Placed : Type 0 where
   pub index : ℕ
   pub count : ℕ
 
--- It is this shard, the note is one of the catalogue's lock, and each list of the shard that may stand agrees with the list that the note has seen.
+-- It is this shard, the note is one of the catalogue's lock and has seen a legal list, and each list of the shard that may stand agrees with that list.
 pub record IsTied {K : Type 0} (place : Placed) (p : Behind K) : Type 0 where
   pub index_is : p.shard.index ≡ place.index
   pub count_is : p.shard.count ≡ place.count
   pub own : p.note.lock ≡ place.note.lock
+  pub catalog : IsLegalCatalog p.note.seen.list
   pub agree : EachMayStand (AllAgree p.note.seen.list) p.shard.held
 
 -- what an errand did to a shard, and what it was told

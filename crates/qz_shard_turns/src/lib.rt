@@ -5,7 +5,9 @@
 mod answering;
 mod looking;
 mod part;
+mod working;
 
 pub use answering::answer;
 pub use looking::{live, quiz_of, rows};
 pub use part::{Part, Place};
+pub use working::work;

@@ -294,5 +294,13 @@ pub fn rows<K: Keeper, R: Wait>(
     ensures seen { SeesMore seen.old seen.new }
     ensures agree { AllAgree seen.new.seen.list pass.new.seen.list }
 {
-    look_up_in_turn(records, parts, rt, seen, pass, alloc, &RowsOf { quiz, policy })
+    look_up_in_turn(
+        records,
+        parts,
+        rt,
+        seen,
+        pass,
+        alloc,
+        &RowsOf { quiz, policy },
+    )
 }
