@@ -170,7 +170,7 @@ fn a_stop_at_each_call_of_a_shard_keeps_what_was_acknowledged(rt: HostRuntime) -
             let (_, written) = scripted(alloc, ATTEMPT, &mut shelf)?;
             let kept = acknowledged(&written);
             let found = records_in(alloc, &shelf, b"part-00.jnl", fill)?;
-            assert!(rt; found == Some(kept) || found == Some(kept + 1));
+            assert!(rt; found == Some(kept) || found == Some(kept.saturating_add(1)));
             let mut shelf = restarted(alloc, &shelf, fill)?;
             let (status, written) = scripted(alloc, EXAM, &mut shelf)?;
             assert_eq!(rt; (status, written.as_str()), (0, EXAM_SAID));
@@ -188,9 +188,9 @@ fn a_stop_at_each_call_of_the_catalogue_keeps_what_was_acknowledged(
         for fill in FILLS {
             let mut shelf = stopping(alloc, founded(alloc)?, b"catalog.jnl", call)?;
             let (_, written) = scripted(alloc, SETUP, &mut shelf)?;
-            let kept = acknowledged(&written) + 1;
+            let kept = acknowledged(&written).saturating_add(1);
             let found = records_in(alloc, &shelf, b"catalog.jnl", fill)?;
-            assert!(rt; found == Some(kept) || found == Some(kept + 1));
+            assert!(rt; found == Some(kept) || found == Some(kept.saturating_add(1)));
             let mut shelf = restarted(alloc, &shelf, fill)?;
             let (status, written) = scripted(alloc, SETUP, &mut shelf)?;
             assert_eq!(rt; (status, written.as_str()), (0, SETUP_SAID));
