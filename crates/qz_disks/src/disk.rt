@@ -29,6 +29,9 @@ pub trait Disk {
     /// How often it has failed: a count that never falls.
     ghost faults: { Self → ℕ };
 
+    /// How often it was blamed: how many of its faults no call of its own told.
+    ghost blamed: { Self → ℕ };
+
     /// It fails no call.
     ghost sound: { Self → Type 0 };
 
@@ -40,6 +43,7 @@ pub trait Disk {
             (left_at self.old) (left_at self.new) }
         ensures room { Spends 0 0 (room self.old) (room self.new) }
         ensures cause { HasCause (faults self.old) (faults self.new) result }
+        ensures blamed { blamed self.new ≡ blamed self.old }
         ensures stays_sound { StaysSound (sound self.old) (sound self.new)
             (faults self.old) (faults self.new) (IsErr result) };
 
@@ -53,6 +57,7 @@ pub trait Disk {
             (left_at self.old) (left_at self.new) }
         ensures room { Spends 0 0 (room self.old) (room self.new) }
         ensures cause { HasCause (faults self.old) (faults self.new) result }
+        ensures blamed { blamed self.new ≡ blamed self.old }
         ensures stays_sound { StaysSound (sound self.old) (sound self.new)
             (faults self.old) (faults self.new) (IsErr result) };
 
@@ -70,6 +75,7 @@ pub trait Disk {
         ensures room { Spends 1 (growth at (length piece.now) (reads self.old))
             (room self.old) (room self.new) }
         ensures cause { HasCause (faults self.old) (faults self.new) result }
+        ensures blamed { blamed self.new ≡ blamed self.old }
         ensures stays_sound { StaysSound (sound self.old) (sound self.new)
             (faults self.old) (faults self.new) (IsErr result) };
 
@@ -83,6 +89,7 @@ pub trait Disk {
             (left_at self.old) (left_at self.new) }
         ensures room { Spends 1 0 (room self.old) (room self.new) }
         ensures cause { HasCause (faults self.old) (faults self.new) result }
+        ensures blamed { blamed self.new ≡ blamed self.old }
         ensures stays_sound { StaysSound (sound self.old) (sound self.new)
             (faults self.old) (faults self.new) (IsErr result) };
 
@@ -96,6 +103,7 @@ pub trait Disk {
             (left_at self.old) (left_at self.new) }
         ensures room { Spends 1 0 (room self.old) (room self.new) }
         ensures cause { HasCause (faults self.old) (faults self.new) result }
+        ensures blamed { blamed self.new ≡ blamed self.old }
         ensures stays_sound { StaysSound (sound self.old) (sound self.new)
             (faults self.old) (faults self.new) (IsErr result) };
 
@@ -106,16 +114,18 @@ pub trait Disk {
         ensures crash { Elapses Same (moment self.old) (moment self.new)
             (left_at self.old) (left_at self.new) }
         ensures faults { faults self.new ≡ faults self.old }
+        ensures blamed { blamed self.new ≡ blamed self.old }
         ensures sound { sound self.old → sound self.new };
 
-    /// Counts a failure that no call told: what was read can't stand on the disk. Of one that tells its bytes that is never so, and
-    /// nothing is counted.
+    /// Counts a failure that no call told, and that it was blamed: what was read can't stand on the disk. Of one that tells its
+    /// bytes that is never so, and nothing is counted.
     fn blame(&mut self)
         ensures reads { reads self.new ≡ reads self.old }
         ensures crash { Elapses Same (moment self.old) (moment self.new)
             (left_at self.old) (left_at self.new) }
         ensures later { faults self.old ≤ faults self.new }
         ensures rose { reads self.old ≡ None → HasRisen (faults self.old) (faults self.new) }
+        ensures blamed { reads self.old ≡ None → HasRisen (blamed self.old) (blamed self.new) }
         ensures steady { IfSome (reads self.old) (λ _. self.new ≡ self.old) };
 
     /// A disk as it reads is one of the outcomes of a crash.

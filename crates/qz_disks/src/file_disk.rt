@@ -18,6 +18,7 @@ pub struct FileDisk {
     /// Since the last sync the file was cut, or what became of it isn't known, so that its size has to be synced as well.
     was_cut: bool,
     faults: u64,
+    blamed: u64,
 }
 
 impl FileDisk {
@@ -30,6 +31,7 @@ impl FileDisk {
             file,
             was_cut: true,
             faults: 0,
+            blamed: 0,
         }
     }
 
@@ -44,6 +46,7 @@ impl FileDisk {
     fn counted<T>(&mut self, done: io::Result<T>) -> Result<T, Failed>
         ensures cause { HasCause self.old.faults self.new.faults result }
         ensures steady { OnOk result (self.new.faults ≡ self.old.faults) }
+        ensures blamed { self.new.blamed ≡ self.old.blamed }
     {
         match done {
             Ok(value) => Ok(value),
@@ -65,6 +68,8 @@ impl Disk for FileDisk {
     ghost room = { λ _. record { calls = 8; bytes = 2 ^ 64 } };
 
     ghost faults = { λ disk. disk.faults };
+
+    ghost blamed = { λ disk. disk.blamed };
 
     ghost sound = { λ _. ⊥ };
 
@@ -112,5 +117,6 @@ impl Disk for FileDisk {
 
     fn blame(&mut self) {
         self.faults = self.faults.saturating_add(1);
+        self.blamed = self.blamed.saturating_add(1);
     }
 }

@@ -232,6 +232,8 @@ impl Disk for MemoryDisk {
 
     ghost faults = { λ d. d.faults };
 
+    ghost blamed = { λ _. 0 };
+
     ghost sound = { λ d. d.failing ≡ [] };
 
     ghost reads_now = { λ d. left_now d.changes };

@@ -23,6 +23,7 @@ pub(crate) fn write_synced<D: Disk>(disk: &mut D, at: u64, piece: &[u8]) -> Resu
     ensures room { Spends 2 (growth at (length piece.now) (D.reads disk.old))
         (D.room disk.old) (D.room disk.new) }
     ensures cause { HasCause (D.faults disk.old) (D.faults disk.new) result }
+    ensures blamed { D.blamed disk.new ≡ D.blamed disk.old }
     ensures stays_sound { StaysSound (D.sound disk.old) (D.sound disk.new)
         (D.faults disk.old) (D.faults disk.new) (IsErr result) }
 {
@@ -41,6 +42,7 @@ pub(crate) fn cut_synced<D: Disk>(disk: &mut D, size: u64) -> Result<(), Failed>
     ensures crash { Elapses (Cut size) (D.moment disk.old) (D.moment disk.new)
         (D.left_at disk.old) (D.left_at disk.new) }
     ensures cause { HasCause (D.faults disk.old) (D.faults disk.new) result }
+    ensures blamed { D.blamed disk.new ≡ D.blamed disk.old }
     ensures stays_sound { StaysSound (D.sound disk.old) (D.sound disk.new)
         (D.faults disk.old) (D.faults disk.new) (IsErr result) }
 {

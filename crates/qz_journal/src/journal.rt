@@ -1,6 +1,6 @@
 //! The journal.
 
-ghost use Rattle.std.specs.Prelude.{◌≡◌, ◌+◌, ◌^◌, ◌<◌, ◌≤◌, length, Ok, Some, None, option_map, is_some, IfSome, IfOk, IfErr, IsErr, OnOk, IsErrOf};
+ghost use Rattle.std.specs.Prelude.{◌≡◌, ◌+◌, ◌^◌, ◌<◌, ◌≤◌, length, Ok, Some, None, option_map, is_some, IfSome, IfOk, IfErr, IsErr, OnOk, IsErrOf, MatchResult};
 ghost use Rattle.qz_outside.specs.Causes.{HasCause, HasRisen};
 ghost use Rattle.qz_disks.specs.Disks.{LeavesOnly, IsDurable, HasRoom};
 ghost use Rattle.qz_disks.specs.Sound.{StaysSound};
@@ -80,6 +80,8 @@ impl<D: Disk> Journal<D> {
             IfSome (D.reads disk) (λ bytes. TellsDamage (stands_for bytes) e.1)) }
         ensures failed { IfErr result (λ e. e.1 ≡ fault.Fault
             → HasRisen (D.faults disk) (D.faults e.0)) }
+        ensures blamed { MatchResult result
+            (λ made. D.blamed made.0.disk ≡ D.blamed disk) (λ e. D.blamed e.0 ≡ D.blamed disk) }
         ensures stays_sound { IfOk result (λ made. StaysSound (D.sound disk) (D.sound made.0.disk)
             (D.faults disk) (D.faults made.0.disk) ⊥) }
         ensures stays_sound_of_err { IfErr result (λ e. StaysSound (D.sound disk) (D.sound e.0)
@@ -142,6 +144,7 @@ fn put<D: Disk>(disk: &mut D, gate: u64, frame: &[u8]) -> Result<(), Failed>
         (StandsFor (payloads_before gate bytes) (Some (payload_of frame.now)))
         (D.moment disk.old) (D.moment disk.new) (D.left_at disk.old) (D.left_at disk.new)) }
     ensures cause { HasCause (D.faults disk.old) (D.faults disk.new) result }
+    ensures blamed { D.blamed disk.new ≡ D.blamed disk.old }
     ensures stays_sound { StaysSound (D.sound disk.old) (D.sound disk.new)
         (D.faults disk.old) (D.faults disk.new) (IsErr result) }
 {
@@ -162,6 +165,7 @@ fn mend<D: Disk>(disk: &mut D, size: u64, gate: u64) -> Result<(), Failed>
     ensures crash { IfSome (D.reads disk.old) (λ bytes. LeavesOnly (StandsLike bytes)
         (D.moment disk.old) (D.moment disk.new) (D.left_at disk.old) (D.left_at disk.new)) }
     ensures cause { HasCause (D.faults disk.old) (D.faults disk.new) result }
+    ensures blamed { D.blamed disk.new ≡ D.blamed disk.old }
     ensures stays_sound { StaysSound (D.sound disk.old) (D.sound disk.new)
         (D.faults disk.old) (D.faults disk.new) (IsErr result) }
 {
@@ -186,6 +190,7 @@ fn recover<D: Disk>(alloc: Global, disk: &mut D) -> Result<Found, JournalFault>
         (StandsAs (D.left_at disk.old (D.moment disk.old)))
         (D.moment disk.old) (D.moment disk.new) (D.left_at disk.old) (D.left_at disk.new)) }
     ensures cause { HasJournalCause (D.faults disk.old) (D.faults disk.new) result }
+    ensures blamed { D.blamed disk.new ≡ D.blamed disk.old }
     ensures stays_sound { StaysSound (D.sound disk.old) (D.sound disk.new)
         (D.faults disk.old) (D.faults disk.new) (IsErrOf result fault.Fault) }
 {
@@ -210,6 +215,9 @@ impl<D: Disk> Keeper for Journal<D> {
         ensures cause { HasKeepCause (D.faults self.old.disk) (D.faults self.new.disk) result }
         ensures stays_sound { StaysSound (IsSound D.sound self.old) (IsSound D.sound self.new)
             (D.faults self.old.disk) (D.faults self.new.disk) (IsErrOf result keep.Fault) }
+
+        // Each fault of it is a failed call of the disk.
+        ensures blamed { D.blamed self.new.disk ≡ D.blamed self.old.disk }
 
         // A crash at each moment of the call, and after it, leaves the list from before, with the payload or without.
         ensures any_moment { IfSome self.old.kept (λ payloads. LeavesOnly
@@ -242,6 +250,11 @@ impl<D: Disk> Keeper for Journal<D> {
         ensures cause { HasKeepCause (D.faults self.old.disk) (D.faults self.new.disk) result }
         ensures stays_sound { StaysSound (IsSound D.sound self.old) (IsSound D.sound self.new)
             (D.faults self.old.disk) (D.faults self.new.disk) (IsErrOf result keep.Fault) }
+
+        // It blames a disk only where that tells nothing of its bytes, and then it fails.
+        ensures blamed { OnOk result (D.blamed self.new.disk ≡ D.blamed self.old.disk) }
+        ensures unblamed { IfSome self.old.kept
+            (λ _. D.blamed self.new.disk ≡ D.blamed self.old.disk) }
 
         // A crash at each moment of the call, and after it, leaves one of the lists that one might have left before.
         ensures any_moment { IfSome self.old.kept (λ _. LeavesOnly

@@ -46,6 +46,7 @@ pub(crate) fn survey<D: Disk>(alloc: Global, disk: &mut D) -> Result<Found, Jour
         (D.left_at disk.old) (D.left_at disk.new) }
     ensures room { OnOk result (HasRoom 3 9 (D.room disk.new)) }
     ensures cause { HasJournalCause (D.faults disk.old) (D.faults disk.new) result }
+    ensures blamed { D.blamed disk.new ≡ D.blamed disk.old }
     ensures stays_sound { StaysSound (D.sound disk.old) (D.sound disk.new)
         (D.faults disk.old) (D.faults disk.new) (IsErrOf result Fault) }
 {
@@ -76,6 +77,7 @@ fn read_frames<D: Disk>(alloc: Global, disk: &mut D, size: u64) -> Result<Found,
         (D.left_at disk.old) (D.left_at disk.new) }
     ensures room { Spends 0 0 (D.room disk.old) (D.room disk.new) }
     ensures cause { HasJournalCause (D.faults disk.old) (D.faults disk.new) result }
+    ensures blamed { D.blamed disk.new ≡ D.blamed disk.old }
     ensures stays_sound { StaysSound (D.sound disk.old) (D.sound disk.new)
         (D.faults disk.old) (D.faults disk.new) (IsErrOf result Fault) }
 {
@@ -116,6 +118,7 @@ fn next_frame<D: Disk>(
         (D.left_at disk.old) (D.left_at disk.new) }
     ensures room { Spends 0 0 (D.room disk.old) (D.room disk.new) }
     ensures cause { HasJournalCause (D.faults disk.old) (D.faults disk.new) result }
+    ensures blamed { D.blamed disk.new ≡ D.blamed disk.old }
     ensures stays_sound { StaysSound (D.sound disk.old) (D.sound disk.new)
         (D.faults disk.old) (D.faults disk.new) (IsErrOf result Fault) }
 {
@@ -169,6 +172,7 @@ fn read_bytes<D: Disk>(
         (D.left_at disk.old) (D.left_at disk.new) }
     ensures room { Spends 0 0 (D.room disk.old) (D.room disk.new) }
     ensures cause { HasJournalCause (D.faults disk.old) (D.faults disk.new) result }
+    ensures blamed { D.blamed disk.new ≡ D.blamed disk.old }
     ensures stays_sound { StaysSound (D.sound disk.old) (D.sound disk.new)
         (D.faults disk.old) (D.faults disk.new) (IsErrOf result Fault) }
 {

@@ -12,6 +12,7 @@ loop-payloads-init g c =
       reads = read.reads;
       crash = read.crash;
       room = read.room;
+      blamed = read.blamed;
       later = read.cause.later;
       sound = up_to_here read.stays_sound;
       inside = omega arith;
@@ -30,6 +31,7 @@ loop-payloads-preserved g c =
         calls_left = omega (arith, before.room.calls_left, next.room.calls_left);
         bytes_left = omega (arith, before.room.bytes_left, next.room.bytes_left);
       };
+      blamed = next.blamed ∙ before.blamed;
       later = omega (arith, before.later, next.cause.later);
       sound = up_to_here (then_sound before.sound next.stays_sound);
       inside = search rules;

@@ -9,6 +9,7 @@ invariant-loop-payloads g l = record {
   reads : g.D.Disk.reads l.disk ≡ g.D.Disk.reads l.fn.disk;
   crash : Elapses Same (g.D.Disk.moment l.fn.disk) (g.D.Disk.moment l.disk) (g.D.Disk.left_at l.fn.disk) (g.D.Disk.left_at l.disk);
   room : Spends 0 0 (g.D.Disk.room l.fn.disk) (g.D.Disk.room l.disk);
+  blamed : g.D.Disk.blamed l.disk ≡ g.D.Disk.blamed l.fn.disk;
   later : g.D.Disk.faults l.fn.disk ≤ g.D.Disk.faults l.disk;
   sound : StaysSound (g.D.Disk.sound l.fn.disk) (g.D.Disk.sound l.disk) (g.D.Disk.faults l.fn.disk) (g.D.Disk.faults l.disk) ⊥;
   inside : l.gate < l.size;
