@@ -10,8 +10,8 @@ use qz_terms::{Role, User};
 use qz_text::{NoMemory, Text};
 use std::alloc::Global;
 
-/// A worker stands as a manager of number 0.
-pub(crate) fn worker(alloc: Global) -> Result<User, NoMemory>
+/// How a worker stands in the calls at single lists: as a manager of number 0, with no name and no token.
+pub fn worker(alloc: Global) -> Result<User, NoMemory>
     ensures { IfOk result (λ user. user ≡ worker) }
 {
     Ok(User {
@@ -22,8 +22,8 @@ pub(crate) fn worker(alloc: Global) -> Result<User, NoMemory>
     })
 }
 
-/// The index of the shard with this number, of so many. One that isn't there is `Unknown`.
-pub(crate) fn index_of(number: u8, count: usize) -> Result<usize, Refusal>
+/// The index of the shard with this number, from 0, of so many. One that isn't there is `Unknown`.
+pub fn index_of(number: u8, count: usize) -> Result<usize, Refusal>
     ensures there { IfOk result (λ index. (index ≡ number) × (number < count)) }
     ensures missing { IfErr result (λ r. (count ≤ number) × (r ≡ refusal.Unknown thing.Shard)) }
 {

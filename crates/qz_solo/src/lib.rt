@@ -15,7 +15,9 @@ mod unkept;
 mod workers;
 mod working;
 
+pub use asker::{index_of, worker};
 pub use folders::{close, load};
 pub use memory::MemorySchool;
+pub use report::{in_order, named};
 pub use solo::Solo;
 pub use unkept::Unkept;

@@ -82,8 +82,8 @@ fn rows_of_all<K: Keeper>(
     Ok(all)
 }
 
-/// Rows in order of user. They are put from behind.
-fn in_order(
+/// Rows in order of user, of which the first of each user counts. They are put from behind.
+pub fn in_order(
     alloc: Global,
     rows: &[(u32, Option<Grade>)],
 ) -> Result<BTreeMap<u32, Option<Grade>>, NoMemory>
@@ -111,8 +111,8 @@ fn name_at(alloc: Global, names: &[Text], user: u32) -> Result<Text, NoMemory>
     }
 }
 
-/// The rows with their users' names.
-fn named(
+/// The rows of a report, with their users' names: of names in order of number. A user whom they don't have has the empty name.
+pub fn named(
     alloc: Global,
     grades: &BTreeMap<u32, Option<Grade>>,
     names: &[Text],
