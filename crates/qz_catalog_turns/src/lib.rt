@@ -8,5 +8,6 @@ mod questions;
 mod records;
 
 pub use answering::answer;
-pub use looking::{job, names, plan, policy, user};
+pub use looking::{heading, job, plan, user};
+pub use questions::Heading;
 pub use records::Records;

@@ -1,17 +1,18 @@
 //! Looks at a catalogue, each in a turn of its own.
 
 ghost use Rattle.std.specs.Prelude.{◌≡◌, ◌≢◌, [], Err};
-ghost use Rattle.qz_catalog.specs.Keeping.{TellsJob, TellsNames, TellsPlan, TellsPolicy, TellsUser};
+ghost use Rattle.qz_catalog.specs.Keeping.{TellsJob, TellsPlan, TellsUser};
 ghost use Rattle.qz_keeper.specs.Lists.{Looks};
 ghost use Rattle.qz_terms.specs.Legal.{IsLegalCatalog};
+ghost use Rattle.qz_catalog_turns.specs.Headings.{TellsHeading};
 ghost use Rattle.qz_catalog_turns.specs.Turning.{TurnCalls};
 
-use crate::questions::{AllNames, JobOf, OfToken, PlanFor, PolicyOf, Question};
+use crate::questions::{Heading, JobOf, OfToken, PlanFor, Question, ReportOf};
 use crate::records::Records;
 use qz_disks::Keeper;
 use qz_grading::Refusal;
-use qz_terms::{Job, Plan, Policy, User};
-use qz_text::{Listed, Text};
+use qz_terms::{Job, Plan, User};
+use qz_text::Text;
 use qz_turn::{Errand, Pass, Turns};
 use std::alloc::Global;
 use std::sync::Wait;
@@ -108,24 +109,6 @@ pub fn plan<K: Keeper, R: Wait>(
     look_up_in_turn(turns, rt, pass, alloc, &PlanFor { quiz, user, whole })
 }
 
-/// How a quiz is graded, over all the records.
-///
-/// A quiz that isn't there is `Unknown`.
-pub fn policy<K: Keeper, R: Wait>(
-    turns: &Turns<Records<K>>,
-    rt: &R,
-    pass: &mut Pass<Records<K>>,
-    alloc: Global,
-    quiz: u32,
-) -> Result<Policy, Refusal>
-    requires pass { pass.old.lock ≡ turns.now.lock }
-    requires number { pass.old.numbers ≢ [] }
-    ensures { TurnCalls IsLegalCatalog (λ r. Err r) (Looks (TellsPolicy quiz))
-        pass.old pass.new result }
-{
-    look_up_in_turn(turns, rt, pass, alloc, &PolicyOf { quiz })
-}
-
 /// A job: its position, and the plan of its quiz over the records up to there.
 ///
 /// A job that isn't there is `Unknown`.
@@ -144,17 +127,20 @@ pub fn job<K: Keeper, R: Wait>(
     look_up_in_turn(turns, rt, pass, alloc, &JobOf { number })
 }
 
-/// The users' names, in order of number.
-pub fn names<K: Keeper, R: Wait>(
+/// What the report of a quiz says besides its rows: how many records there are, how the quiz is graded, and the users' names.
+///
+/// A quiz that isn't there is `Unknown`.
+pub fn heading<K: Keeper, R: Wait>(
     turns: &Turns<Records<K>>,
     rt: &R,
     pass: &mut Pass<Records<K>>,
     alloc: Global,
-) -> Result<Listed<Text>, Refusal>
+    quiz: u32,
+) -> Result<Heading, Refusal>
     requires pass { pass.old.lock ≡ turns.now.lock }
     requires number { pass.old.numbers ≢ [] }
-    ensures { TurnCalls IsLegalCatalog (λ r. Err r) (Looks TellsNames)
+    ensures { TurnCalls IsLegalCatalog (λ r. Err r) (Looks (TellsHeading quiz))
         pass.old pass.new result }
 {
-    look_up_in_turn(turns, rt, pass, alloc, &AllNames)
+    look_up_in_turn(turns, rt, pass, alloc, &ReportOf { quiz })
 }

@@ -13,6 +13,17 @@ use qz_terms::{Job, Plan, Policy, User};
 use qz_text::{Listed, Text};
 use std::alloc::Global;
 
+/// What a catalogue gives for the report of a quiz.
+#[derive(Drop)]
+pub struct Heading {
+    /// How many records there are.
+    pub place: u64,
+    /// How the quiz is graded.
+    pub policy: Policy,
+    /// The users' names, in order of number.
+    pub names: Listed<Text>,
+}
+
 /// What is looked up in a catalogue.
 pub(crate) trait Question<K: Keeper> {
     type Found;
@@ -67,24 +78,6 @@ impl<K: Keeper> Question<K> for PlanFor {
     }
 }
 
-/// How a quiz is graded.
-#[derive(Drop)]
-pub(crate) struct PolicyOf {
-    pub quiz: u32,
-}
-
-impl<K: Keeper> Question<K> for PolicyOf {
-    ghost use Rattle.qz_catalog.specs.Keeping.{TellsPolicy};
-
-    type Found = Policy;
-
-    ghost says = { λ q. TellsPolicy q.quiz };
-
-    fn look_up(&self, alloc: Global, catalog: &mut Catalog<K>) -> Result<Policy, Refusal> {
-        catalog.policy(alloc, self.quiz)
-    }
-}
-
 /// A job.
 #[derive(Drop)]
 pub(crate) struct JobOf {
@@ -103,18 +96,26 @@ impl<K: Keeper> Question<K> for JobOf {
     }
 }
 
-/// The users' names.
+/// What the catalogue gives for the report of a quiz.
 #[derive(Drop)]
-pub(crate) struct AllNames;
+pub(crate) struct ReportOf {
+    pub quiz: u32,
+}
 
-impl<K: Keeper> Question<K> for AllNames {
-    ghost use Rattle.qz_catalog.specs.Keeping.{TellsNames};
+impl<K: Keeper> Question<K> for ReportOf {
+    ghost use Rattle.qz_catalog_turns.specs.Headings.{TellsHeading};
 
-    type Found = Listed<Text>;
+    type Found = Heading;
 
-    ghost says = { λ _. TellsNames };
+    ghost says = { λ q. TellsHeading q.quiz };
 
-    fn look_up(&self, alloc: Global, catalog: &mut Catalog<K>) -> Result<Listed<Text>, Refusal> {
-        catalog.names(alloc)
+    fn look_up(&self, alloc: Global, catalog: &mut Catalog<K>) -> Result<Heading, Refusal> {
+        let policy = catalog.policy(alloc, self.quiz)?;
+        let names = catalog.core().names(alloc)?;
+        Ok(Heading {
+            place: catalog.len(),
+            policy,
+            names,
+        })
     }
 }

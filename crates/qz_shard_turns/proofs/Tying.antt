@@ -16,7 +16,7 @@ use Rattle.qz_turn.specs.Passes.{Standing}
 use Rattle.qz_turn.specs.Tales.{Follows}
 use Rattle.qz_turn.proofs.Prefixes.{prefix_self}
 use Rattle.qz_turn.specs.Turns.{Joins, note_of}
-use Rattle.qz_shard_turns.specs.Tying.{Behind, IsTied, Placed, SeesMore, WasLooked}
+use Rattle.qz_shard_turns.specs.Tying.{Behind, IsTied, Placed, SeesMore, WasFound}
 
 -- ---- the shard
 
@@ -100,8 +100,8 @@ one-some o a b one other = cc
 
 -- what an errand was given has seen what the shard's records agree with
 pub turned-agrees : {A K : Type 0} (faults : K → ℕ) (Says : List Record → Result A Refusal → Type 0) (place : Placed) (before after : Behind K) (told : Option (Result A Refusal)) (o : Option (Standing Record (Unit {0}))) (note : Standing Record (Unit {0}))
-    → WasLooked faults Says before after told o → o ≡ Some note → IsTied place after → AllAgree note.seen.list after.shard.held.list
+    → WasFound faults Says before after told o → o ≡ Some note → IsTied place after → AllAgree note.seen.list after.shard.held.list
 turned-agrees faults Says place before after told o note w is tied =
     let same : note ≡ note_of before.note = one-some o note (note_of before.note) is w.noted in
     subst (λ (n : Standing Record (Unit {0})). AllAgree n.seen.list after.shard.held.list) (sym same)
-    (subst (λ (n : Standing Record (Unit {0})). AllAgree n.seen.list after.shard.held.list) w.kept tied.agree.without)
+    (subst (λ (n : Standing Record (Unit {0})). AllAgree n.seen.list after.shard.held.list) w.looked.kept tied.agree.without)

@@ -47,8 +47,12 @@ pub record IsTiedTo (parts : Lock Placed) (records : Lock (Unit {0})) : Type 0 w
   pub keyed : parts.key ≡ Some place
   pub own : place.note.lock ≡ records
 
--- what an errand that looked did to what stands behind the lock: the note stays, and another that has seen the same was given
-pub record WasLooked {A K : Type 0} (faults : K → ℕ) (Says : List Record → Result A Refusal → Type 0) (before after : Behind K) (told : Option (Result A Refusal)) (note : Option (Standing Record (Unit {0}))) : Type 0 where
+-- what an errand that looked did to what stands behind the lock: the note stays
+pub record WasLooked {A K : Type 0} (faults : K → ℕ) (Says : List Record → Result A Refusal → Type 0) (before after : Behind K) (told : Option (Result A Refusal)) : Type 0 where
   pub did : Did faults (λ r. Err r) (Looks Says) before.shard after.shard told
-  pub noted : note ≡ Some (note_of before.note)
   pub kept : after.note ≡ before.note
+
+-- and it was given another that has seen the same
+pub record WasFound {A K : Type 0} (faults : K → ℕ) (Says : List Record → Result A Refusal → Type 0) (before after : Behind K) (told : Option (Result A Refusal)) (note : Option (Standing Record (Unit {0}))) : Type 0 where
+  pub looked : WasLooked faults Says before after told
+  pub noted : note ≡ Some (note_of before.note)

@@ -3,11 +3,13 @@
 #![tactic(auto)]
 
 mod answering;
+mod finding;
 mod looking;
 mod part;
 mod working;
 
 pub use answering::answer;
-pub use looking::{live, quiz_of, rows};
+pub use finding::quiz_of;
+pub use looking::{live, rows};
 pub use part::{Part, Place};
 pub use working::work;

@@ -5,16 +5,14 @@ ghost use Rattle.qz_decimal.specs.Numbers.{IsMaxSum, IsQuizGrade};
 ghost use Rattle.qz_grading.specs.declared.refusal.Refusal.{Refusal};
 ghost use Rattle.qz_keeper.specs.Lists.{Looks, OneCall};
 ghost use Rattle.qz_keeper.specs.Recording.{GoesOn, HasFailed};
-ghost use Rattle.qz_shard.specs.Keeping.{IsSamePart, TellsQuiz, TellsRows};
+ghost use Rattle.qz_shard.specs.Keeping.{IsSamePart, TellsRows};
 ghost use Rattle.qz_terms.specs.declared.record.Record.{Record};
 ghost use Rattle.qz_terms.specs.History.{live_after};
-ghost use Rattle.qz_terms.specs.Legal.{AllAgree, IsLegal};
+ghost use Rattle.qz_terms.specs.Legal.{IsLegal};
 ghost use Rattle.qz_turn.specs.Turns.{UnderKey};
 ghost use Rattle.qz_catalog_turns.specs.Turning.{TurnCalls};
-ghost use Rattle.qz_shard_turns.specs.Tying.{IsTiedTo, SeesMore};
 
 use crate::part::Part;
-use qz_catalog_turns::Records;
 use qz_decimal::Grade;
 use qz_disks::Keeper;
 use qz_grading::{AttemptId, Refusal, Steps};
@@ -46,26 +44,6 @@ trait Question<K: Keeper> {
         ensures shard { IsSamePart shard.old shard.new }
         ensures goes_on { GoesOn (K.sound shard.old.keeper) (K.sound shard.new.keeper)
             (K.faults shard.old.keeper) (K.faults shard.new.keeper) };
-}
-
-/// The quiz of an attempt.
-#[derive(Drop)]
-struct QuizOf {
-    attempt: AttemptId,
-}
-
-impl<K: Keeper> Question<K> for QuizOf {
-    ghost use Rattle.qz_shard.specs.Keeping.{TellsQuiz};
-
-    type Found = u32;
-
-    ghost in_range = { λ _. Unit {0} };
-
-    ghost says = { λ q. TellsQuiz q.attempt };
-
-    fn look_up(&self, alloc: Global, shard: &mut Shard<K>) -> Result<u32, Refusal> {
-        shard.quiz_of(alloc, self.attempt)
-    }
 }
 
 /// The first attempt after this one that goes on.
@@ -146,161 +124,95 @@ impl<'p, K: Keeper> Question<K> for RowsOf<'p> {
     }
 }
 
-/// A look, what it told, and a note of what the shard's note has seen.
+/// A look, and what it told.
 #[derive(Drop)]
-struct Looking<'r, 'q, K: Keeper, Q, T> {
+struct Looking<'q, Q, T> {
     alloc: Global,
-    records: &'r Turns<Records<K>>,
     question: &'q Q,
     told: Option<Result<T, Refusal>>,
-    note: Option<Pass<Records<K>>>,
 }
 
-impl<'r, 'q, K: Keeper, Q: Question<K>> Errand<Part<K>> for Looking<'r, 'q, K, Q, Q::Found>
+impl<'q, K: Keeper, Q: Question<K>> Errand<Part<K>> for Looking<'q, Q, Q::Found>
 where
     Q::Found: Drop,
 {
-    ghost use Rattle.std.specs.Prelude.{◌≡◌};
     ghost use Rattle.qz_shard_turns.specs.Tying.{WasLooked};
 
-    ghost can = { λ place _ it. (place.note.lock ≡ it.records.now.lock)
-        × (Q.in_range it.question.now) };
+    ghost can = { λ _ _ it. Q.in_range it.question.now };
 
     ghost does = { λ it before after done.
-        WasLooked K.faults (Q.says it.question.now) before after done.told done.note };
+        WasLooked K.faults (Q.says it.question.now) before after done.told };
 
     fn go(&mut self, part: &mut Part<K>) {
         let _found = part.shard.len();
         let told = self.question.look_up(self.alloc, &mut part.shard);
         let _left = part.shard.len();
         self.told = Some(told);
-        self.note = Some(self.records.note(&mut part.note));
     }
 }
 
-// Looks something up in one turn. The pass of the catalogue has then seen what the shard's records agree with.
+// Looks something up in one turn.
 fn look_up_in_turn<K: Keeper, Q: Question<K>, R: Wait>(
-    records: &Turns<Records<K>>,
     parts: &Turns<Part<K>>,
     rt: &R,
-    seen: &mut Pass<Records<K>>,
     pass: &mut Pass<Part<K>>,
     alloc: Global,
     question: &Q,
 ) -> Result<Q::Found, Refusal>
 where
     Q::Found: Drop,
-    requires seen { seen.old.lock ≡ records.now.lock }
     requires pass { pass.old.lock ≡ parts.now.lock }
     requires number { pass.old.numbers ≢ [] }
-    requires tie { IsTiedTo parts.now.lock records.now.lock }
     requires in_range { Q.in_range question.now }
-    ensures turn { UnderKey parts.now.lock (λ place. TurnCalls (IsLegal place.index place.count)
+    ensures { UnderKey parts.now.lock (λ place. TurnCalls (IsLegal place.index place.count)
         (λ r. Err r) (Looks (Q.says question.now)) pass.old pass.new result) }
-    ensures seen { SeesMore seen.old seen.new }
-    ensures agree { AllAgree seen.new.seen.list pass.new.seen.list }
 {
     let mut errand = Looking {
         alloc,
-        records,
         question,
         told: None,
-        note: None,
     };
     parts.turn(rt, pass, &mut errand);
-    let Looking { told, note, .. } = errand;
-    let (Some(told), Some(note)) = (told, note) else {
-        unreachable!()
-    };
-    records.join(seen, note);
-    told
-}
-
-/// The quiz of an attempt. Where there is no such attempt it is `Unknown`. The pass of the catalogue has then seen a list with which the
-/// shard's records agree: where the attempt is there, the quiz is in it.
-pub fn quiz_of<K: Keeper, R: Wait>(
-    records: &Turns<Records<K>>,
-    parts: &Turns<Part<K>>,
-    rt: &R,
-    seen: &mut Pass<Records<K>>,
-    pass: &mut Pass<Part<K>>,
-    alloc: Global,
-    attempt: AttemptId,
-) -> Result<u32, Refusal>
-    requires seen { seen.old.lock ≡ records.now.lock }
-    requires pass { pass.old.lock ≡ parts.now.lock }
-    requires number { pass.old.numbers ≢ [] }
-    requires tie { IsTiedTo parts.now.lock records.now.lock }
-    ensures turn { UnderKey parts.now.lock (λ place. TurnCalls (IsLegal place.index place.count)
-        (λ r. Err r) (Looks (TellsQuiz attempt)) pass.old pass.new result) }
-    ensures seen { SeesMore seen.old seen.new }
-    ensures agree { AllAgree seen.new.seen.list pass.new.seen.list }
-{
-    look_up_in_turn(records, parts, rt, seen, pass, alloc, &QuizOf { attempt })
+    match errand.told {
+        Some(told) => told,
+        None => unreachable!(),
+    }
 }
 
 /// How many records the shard has, and the first attempt after this one that hasn't ended, in order of user and then of number, over all
 /// quizzes; `None` where there is none.
 pub fn live<K: Keeper, R: Wait>(
-    records: &Turns<Records<K>>,
     parts: &Turns<Part<K>>,
     rt: &R,
-    seen: &mut Pass<Records<K>>,
     pass: &mut Pass<Part<K>>,
     alloc: Global,
     attempt: AttemptId,
 ) -> Result<(u64, Option<AttemptId>), Refusal>
-    requires seen { seen.old.lock ≡ records.now.lock }
     requires pass { pass.old.lock ≡ parts.now.lock }
     requires number { pass.old.numbers ≢ [] }
-    requires tie { IsTiedTo parts.now.lock records.now.lock }
-    ensures turn { UnderKey parts.now.lock (λ place. TurnCalls (IsLegal place.index place.count)
+    ensures { UnderKey parts.now.lock (λ place. TurnCalls (IsLegal place.index place.count)
         (λ r. Err r) (Looks (λ h told. told ≡ Ok (length h, live_after h attempt)))
         pass.old pass.new result) }
-    ensures seen { SeesMore seen.old seen.new }
-    ensures agree { AllAgree seen.new.seen.list pass.new.seen.list }
 {
-    look_up_in_turn(
-        records,
-        parts,
-        rt,
-        seen,
-        pass,
-        alloc,
-        &LiveAfter { attempt },
-    )
+    look_up_in_turn(parts, rt, pass, alloc, &LiveAfter { attempt })
 }
 
 /// The grade (in 10^-5) at a quiz of each user who has an attempt of it in the shard, in order of user, each once. A user of whom no total
 /// is taken has none. The policy's grade is from 0 to 10,000, and its sum of max marks from 0 to 2,000,000.
 pub fn rows<K: Keeper, R: Wait>(
-    records: &Turns<Records<K>>,
     parts: &Turns<Part<K>>,
     rt: &R,
-    seen: &mut Pass<Records<K>>,
     pass: &mut Pass<Part<K>>,
     alloc: Global,
     quiz: u32,
     policy: &Policy,
 ) -> Result<Listed<(u32, Option<Grade>)>, Refusal>
-    requires seen { seen.old.lock ≡ records.now.lock }
     requires pass { pass.old.lock ≡ parts.now.lock }
     requires number { pass.old.numbers ≢ [] }
-    requires tie { IsTiedTo parts.now.lock records.now.lock }
     requires grade { IsQuizGrade policy.now.grade }
     requires sum { IsMaxSum policy.now.sum }
-    ensures turn { UnderKey parts.now.lock (λ place. TurnCalls (IsLegal place.index place.count)
+    ensures { UnderKey parts.now.lock (λ place. TurnCalls (IsLegal place.index place.count)
         (λ r. Err r) (Looks (TellsRows quiz policy.now)) pass.old pass.new result) }
-    ensures seen { SeesMore seen.old seen.new }
-    ensures agree { AllAgree seen.new.seen.list pass.new.seen.list }
 {
-    look_up_in_turn(
-        records,
-        parts,
-        rt,
-        seen,
-        pass,
-        alloc,
-        &RowsOf { quiz, policy },
-    )
+    look_up_in_turn(parts, rt, pass, alloc, &RowsOf { quiz, policy })
 }

@@ -1,4 +1,4 @@
-use Rattle.std.proofs.Common.{subst, sym}
+use Rattle.std.proofs.Common.{refl, subst, sym}
 use Rattle.qz_catalog_turns.proofs.Turning.{call-grows, looks-grow}
 use Rattle.qz_shard_turns.specs.Tying.{IsTied}
 use Rattle.qz_shard_turns.proofs.Tying.{look-tied}
@@ -11,6 +11,6 @@ returns-clause-grows g c =
 pub returns-clause-fits : goal.returns-clause-fits
 returns-clause-fits g c = record {
   still = λ place seen fitted begins can.
-      look-tied _ _ place (record { shard = c.part.inside.shard; note = c.part.inside.note }) (record { shard = c.look_up-told.new.shard; note = c.note.new.pass }) c.look_up-told.result (subst (IsTied place) (sym c.part.view_is) fitted)
-      c.look_up-told.ensures.told c.look_up-told.ensures.shard c.note.ensures.kept;
+      look-tied _ _ place (record { shard = c.part.inside.shard; note = c.part.inside.note }) (record { shard = c.look_up-told.new.shard; note = c.part.inside.note }) c.look_up-told.result (subst (IsTied place) (sym c.part.view_is) fitted)
+      c.look_up-told.ensures.told c.look_up-told.ensures.shard refl;
 }

@@ -5,7 +5,7 @@ use Rattle.qz_turn.specs.declared.view.Tale.{Tale}
 use Rattle.qz_turn.specs.Passes.{Lock}
 use Rattle.qz_shard_turns.specs.Tying.{Placed}
 use Rattle.qz_shard_turns.proofs.Tying.{joined-agrees, turned-agrees}
-use Rattle.qz_shard_turns.proofs.looking.look_up_in_turn.Goals as goal
+use Rattle.qz_shard_turns.proofs.finding.quiz_of.Goals as goal
 
 pub returns-clause-agree : goal.returns-clause-agree
 returns-clause-agree g c =

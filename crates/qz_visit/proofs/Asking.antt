@@ -1,0 +1,243 @@
+-- How the requests of users with a token come out, by what the turns at single lists came to.
+use Rattle.std.proofs.Common.{◌≡◌, ◌⊎◌, inl, inr, ℕ, ◌<◌, true, false, List, Some, None, Result, Ok, Err, length, refl, sym, ap, ◌∙◌, subst}
+use Rattle.std.specs.Prelude.{is_some, slice_get, slice_set}
+use Rattle.std.proofs.lemmas.List.{length-set}
+use mathlib.Core.List.{IsPrefix}
+use Rattle.qz_catalog.specs.Keeping as records
+use Rattle.qz_catalog_turns.specs.Turning.{TurnCalls, held_of}
+use Rattle.qz_grading.specs.declared.refusal.Refusal.{Refusal}
+use Rattle.qz_grading.specs.declared.refusal.Refusal.TheVariants as refusal
+use Rattle.qz_keeper.specs.Lists.{CallEnds, IsSettled, Looks, OneCall, answered, no_memory, put_in_doubt, stayed_in_doubt}
+use Rattle.qz_outside.specs.Causes.{HasRisen}
+use Rattle.qz_serial.specs.Calls.{CatalogAnswers, LookEnds, ShardAnswers, looked, unlooked, unread}
+use Rattle.qz_serial.specs.Once.{AskedOnce}
+use Rattle.qz_serial.specs.Paths.{FindsUser, IsAskable, IsGoing, IsKnown, goes_to_part}
+use Rattle.qz_serial.proofs.Composing.{calls_mean, look_ends, looks_are_calls}
+use Rattle.qz_serial.proofs.Longer.{staying_law}
+use Rattle.qz_serial.proofs.Seats.{mended_grows, set_get, set_twice}
+use Rattle.qz_serial.proofs.Tokens.{tokens_law}
+use Rattle.qz_serial.proofs.Workers.{err-is}
+use Rattle.qz_solo.specs.Answering.{MayBeAsked}
+use Rattle.qz_solo.proofs.Serving.{forbidden_first}
+use Rattle.qz_terms.specs.declared.ask.Ask.{Ask}
+use Rattle.qz_terms.specs.declared.people.Caller.{Caller}
+use Rattle.qz_terms.specs.declared.people.Caller.TheVariants as caller
+use Rattle.qz_terms.specs.declared.people.User.{User}
+use Rattle.qz_terms.specs.declared.record.Record.{Record}
+use Rattle.qz_terms.specs.declared.reply.Reply.{Reply}
+use Rattle.qz_terms.specs.declared.reply.Reply.TheVariants as reply
+use Rattle.qz_terms.specs.declared.request.Request.{Request}
+use Rattle.qz_terms.specs.Catalog.{user_of}
+use Rattle.qz_terms.specs.CatalogAnswer.{asks_catalog}
+use Rattle.qz_terms.specs.Cause.{forbidden, missing_shard}
+use Rattle.qz_terms.specs.Legal.{IsLegalCatalog}
+use Rattle.qz_terms.specs.SchoolAnswer.{first_refusal, part_of, refusal_among}
+use Rattle.qz_terms.specs.Serial.{Held, Mended, stays}
+use Rattle.qz_turn.specs.declared.view.Tale.{Tale}
+use Rattle.qz_visit.specs.Tokens.{IsKnownTo}
+use Rattle.qz_visit.specs.Visits.{IsFoundBy, Visited}
+use Rattle.qz_visit.specs.Ways as way
+use Rattle.qz_visit.specs.Ways.{Answered, CameTo, IsKnownBy, IsMended, Part, Seen, Untold}
+use Rattle.qz_visit.proofs.Passing.{Either, count_helds, found_rested, found_sees, found_turned, held_there, helds, lists, seats, sees_self, visited_both, visited_records, visited_still}
+
+-- ---- what is asked
+
+pub askable : (h : Held) (hs : List Held) (n now : ℕ) (ask : Ask) → 0 < n → length hs ≡ n → MayBeAsked ask now → IsAskable (lists h hs) ask
+askable h hs n now ask some long may = record { shards = rw long some; keyed = may.keyed }
+
+pub count_set : (ps : List Part) (k : ℕ) (h : Held) → length (slice_set (helds ps) k h) ≡ length ps
+count_set ps k h = length-set (helds ps) k h ∙ count_helds ps
+
+pub user_on : (c d : List Record) (who : Caller) (user : User) → IsPrefix c d → user_of c who ≡ Some user → user_of d who ≡ Some user
+user_on c d who user p found = subst (λ (l : List Record). user_of l who ≡ Some user) p.1 (staying_law.caller c p.0 who user found)
+
+-- ---- calls that may have failed
+
+-- A call is answered over a list of which none is in doubt; or its keeper failed, or memory was wanting.
+pub data Split {A : Type 0} (failed : Type 0) (refused : Refusal → A) (Answers : List Record → A → List Record → Type 0) (old new : Held) (told : A) : Type 0 where
+  whole : (m : Held) → IsSettled old m → OneCall failed refused Answers m new told → Split failed refused Answers old new told
+  lost : (r : Refusal) → LookEnds failed refused (λ _ _. ⊥) old new (refused r) → told ≡ refused r → Split failed refused Answers old new told
+
+split-ends : {A : Type 0} (failed : Type 0) (refused : Refusal → A) (Answers : List Record → A → List Record → Type 0) (old m new : Held) (told : A) → Mended old m → CallEnds failed refused Answers m new told → Split failed refused Answers old new told
+split-ends failed refused Answers old m new told mends (answered before after says) = whole m (record { mends = mends; no_doubt = before }) (record { mended = m; mends = stays m; ends = answered before after says })
+split-ends failed refused Answers old m new told mends (put_in_doubt why answer r before says is said) = whole m (record { mends = mends; no_doubt = before }) (record { mended = m; mends = stays m; ends = put_in_doubt why answer r before says is said })
+split-ends failed refused Answers old m new told mends (stayed_in_doubt why some is said) =
+    lost refusal.KeepFault (unread why (subst (Mended old) (sym is) mends) (subst (λ (k : Held). is_some k.doubt ≡ true) (sym is) some) refl) said
+split-ends failed refused Answers old m new told mends (no_memory is said) = lost refusal.Memory (unlooked (subst (Mended old) (sym is) mends) refl) said
+
+pub split : {A : Type 0} (failed : Type 0) (refused : Refusal → A) (Answers : List Record → A → List Record → Type 0) (old new : Held) (told : A) → OneCall failed refused Answers old new told → Split failed refused Answers old new told
+split failed refused Answers old new told call = split-ends failed refused Answers old call.mended new told call.mends call.ends
+
+-- of another kind of answer
+pub lost_as : {A B : Type 0} (failed : Type 0) (refused : Refusal → A) (also : Refusal → B) (old new : Held) (r : Refusal) → ((x : Refusal) → refused r ≡ refused x → r ≡ x) → LookEnds failed refused (λ _ _. ⊥) old new (refused r) → LookEnds failed also (λ _ _. ⊥) old new (also r)
+lost_as failed refused also old new r same (looked settled says) = absurd says
+lost_as failed refused also old new r same (unread why mends doubt is) = unread why mends doubt (ap also (same refusal.KeepFault is))
+lost_as failed refused also old new r same (unlooked mends is) = unlooked mends (ap also (same refusal.Memory is))
+
+pub reply_is : (r x : Refusal) → reply.Refused r ≡ reply.Refused x → r ≡ x
+reply_is r x is = cc
+
+-- a look that told nothing
+pub untold_split : {A : Type 0} (failed : Type 0) (Says : List Record → Result A Refusal → Type 0) (old new : Held) (r : Refusal) → LookEnds failed (λ r. Err r) Says old new (Err r)
+    → (IsSettled old new × Says new.list (Err r)) ⊎ LookEnds failed (λ r. Err r) (λ (_ : List Record) (_ : Result (Unit {0}) Refusal). ⊥) old new (Err r)
+untold_split failed Says old new r (looked settled says) = inl (settled, says)
+untold_split failed Says old new r (unread why mends doubt is) = inr (unread why mends doubt (ap (λ (z : Refusal). let e : Result (Unit {0}) Refusal = Err z in e) (err-is r refusal.KeepFault is)))
+untold_split failed Says old new r (unlooked mends is) = inr (unlooked mends (ap (λ (z : Refusal). let e : Result (Unit {0}) Refusal = Err z in e) (err-is r refusal.Memory is)))
+
+-- ---- the catalogue
+
+lost-token : (failed : Type 0) (h m : Held) (hs : List Held) (now : ℕ) (ask : Ask) (token : List ℕ) (r : Refusal) → IsAskable (lists h hs) ask → ask.caller ≡ caller.Token token
+    → LookEnds failed (λ r. Err r) (λ (_ : List Record) (_ : Result (Unit {0}) Refusal). ⊥) h m (Err r) → AskedOnce failed (lists h hs) (lists m hs) now ask (reply.Refused r)
+lost-token failed h m hs now ask token r can by ends =
+    let other = lost_as {A = Result (Unit {0}) Refusal} {B = Result User Refusal} failed (λ r. Err r) (λ r. Err r) h m r (λ x is. err-is r x is) ends in
+    (tokens_law failed).user (lists h hs) m now ask token (Err r) can by ((looks_are_calls failed (λ r. Err r) (λ (_ : List Record) (_ : Result User Refusal). ⊥) (λ r. Err r) (Looks (FindsUser token))).alone h m (Err r) (Err r) other (λ no. absurd no) (λ x is. is))
+
+-- it didn't tell whose the token is
+pub user_untold : (so sn : Seen) (ps : List Part) (now : ℕ) (ask : Ask) (token : List ℕ) (r : Refusal) → 0 < length ps → MayBeAsked ask now → ask.caller ≡ caller.Token token
+    → TurnCalls IsLegalCatalog (λ r. Err r) (Looks (records.TellsUser token)) so sn (Err r) → Visited (seats so ps) (seats sn ps) now ask (reply.Refused r)
+user_untold so sn ps now ask token r some may by t =
+    visited_records so sn ps sn.found now ask (reply.Refused r) (found_turned IsLegalCatalog (λ r. Err r) (Looks (records.TellsUser token)) so sn (Err r) t)
+    ((tokens_law (HasRisen sn.found.faults sn.seen.faults)).user (lists (held_of sn.found) (helds ps)) (held_of sn.seen) now ask token (Err r) (askable (held_of sn.found) (helds ps) (length ps) now ask some (count_helds ps) may) by t.calls.call)
+
+-- it did
+pub user_known : (so sn : Seen) (ps : List Part) (now : ℕ) (ask : Ask) (token : List ℕ) (user : User) → 0 < length ps → MayBeAsked ask now → ask.caller ≡ caller.Token token
+    → TurnCalls IsLegalCatalog (λ r. Err r) (Looks (records.TellsUser token)) so sn (Ok user) → IsKnownTo sn ask user
+user_known so sn ps now ask token user some may by t =
+    let known = (tokens_law (HasRisen sn.found.faults sn.seen.faults)).user (lists (held_of sn.found) (helds ps)) (held_of sn.seen) now ask token (Ok user) (askable (held_of sn.found) (helds ps) (length ps) now ask some (count_helds ps) may) by t.calls.call in
+    record {
+      token = token;
+      caller_is = by;
+      known = record { found = known.found; legal = t.calls.seen_may.without; no_doubt = known.settled.no_doubt };
+    }
+
+pub still_known : (s : Seen) (hs : List Held) (ask : Ask) (user : User) → IsKnownTo s ask user → IsKnown (lists (held_of s.seen) hs) (held_of s.seen) ask user
+still_known s hs ask user k = record { token = k.token; caller_is = k.caller_is; settled = record { mends = stays (held_of s.seen); no_doubt = k.known.no_doubt }; found = k.known.found }
+
+records-split : (so sn : Seen) (ps : List Part) (now : ℕ) (ask : Ask) (user : User) (told : Reply) → 0 < length ps → MayBeAsked ask now → IsKnownTo so ask user → asks_catalog ask.request ≡ true → IsPrefix so.seen.list sn.found.list
+    → Split (HasRisen sn.found.faults sn.seen.faults) reply.Refused (CatalogAnswers now user ask) (held_of sn.found) (held_of sn.seen) told
+    → AskedOnce (HasRisen sn.found.faults sn.seen.faults) (lists (held_of sn.found) (helds ps)) (lists (held_of sn.seen) (helds ps)) now ask told
+records-split so sn ps now ask user told some may k of_catalog p (whole m settled call) =
+    let a = lists (held_of sn.found) (helds ps) in
+    let on = user_on so.seen.list sn.found.list ask.caller user p k.known.found in
+    let grown = mended_grows (held_of sn.found) m settled.mends in
+    let found = subst (λ (l : List Record). user_of l ask.caller ≡ Some user) (sym grown.grown) (staying_law.caller sn.found.list grown.rest ask.caller user on) in
+    (tokens_law (HasRisen sn.found.faults sn.seen.faults)).records a m (held_of sn.seen) now ask user told (askable (held_of sn.found) (helds ps) (length ps) now ask some (count_helds ps) may)
+    (record { token = k.token; caller_is = k.caller_is; settled = settled; found = found }) of_catalog call
+records-split so sn ps now ask user told some may k of_catalog p (lost r ends is) =
+    let failed = HasRisen sn.found.faults sn.seen.faults in
+    subst (λ (t : Reply). AskedOnce failed (lists (held_of sn.found) (helds ps)) (lists (held_of sn.seen) (helds ps)) now ask t) (sym is)
+    (lost-token failed (held_of sn.found) (held_of sn.seen) (helds ps) now ask k.token r (askable (held_of sn.found) (helds ps) (length ps) now ask some (count_helds ps) may) k.caller_is
+    (lost_as failed reply.Refused (λ r. Err r) (held_of sn.found) (held_of sn.seen) r (reply_is r) ends))
+
+-- what goes to the catalogue it answered
+pub records_visited : (so sn : Seen) (ps : List Part) (now : ℕ) (ask : Ask) (user : User) (told : Reply) → 0 < length ps → MayBeAsked ask now → IsKnownTo so ask user → asks_catalog ask.request ≡ true
+    → TurnCalls IsLegalCatalog reply.Refused (records.IsTold now user ask) so sn told → Visited (seats so ps) (seats sn ps) now ask told
+records_visited so sn ps now ask user told some may k of_catalog t =
+    let failed = HasRisen sn.found.faults sn.seen.faults in
+    let call = (calls_mean failed failed reply.Refused (records.IsTold now user ask) (CatalogAnswers now user ask)).each (held_of sn.found) (held_of sn.seen) told (λ why. why) (λ h x g is. (is.reply, is.list)) t.calls.call in
+    visited_records so sn ps sn.found now ask told (found_turned IsLegalCatalog reply.Refused (records.IsTold now user ask) so sn told t)
+    (records-split so sn ps now ask user told some may k of_catalog t.begins.begins (split failed reply.Refused (CatalogAnswers now user ask) (held_of sn.found) (held_of sn.seen) told call))
+
+-- ---- a refusal before another turn is taken
+
+among-first : (c : List Record) (n : ℕ) (user : User) (x : Request) (r : Refusal) → first_refusal c user x ≡ Some r → refusal_among c n user x ≡ Some r
+among-first c n user x r first = rw first refl
+
+pub among_none : (c : List Record) (n : ℕ) (user : User) (x : Request) → first_refusal c user x ≡ None → missing_shard n x ≡ None → refusal_among c n user x ≡ None
+among_none c n user x first there = rw (first, there) refl
+
+pub among_visited : (s : Seen) (ps : List Part) (now : ℕ) (ask : Ask) (user : User) (r : Refusal) → 0 < length ps → MayBeAsked ask now → IsKnownTo s ask user → asks_catalog ask.request ≡ false → refusal_among s.seen.list (length ps) user ask.request ≡ Some r
+    → Visited (seats s ps) (seats s ps) now ask (reply.Refused r)
+among_visited s ps now ask user r some may k other among =
+    visited_still s ps now ask (reply.Refused r)
+    ((tokens_law ⊥).refused (lists (held_of s.seen) (helds ps)) (held_of s.seen) now ask user r (askable (held_of s.seen) (helds ps) (length ps) now ask some (count_helds ps) may) (still_known s (helds ps) ask user k) other
+    (subst (λ (n : ℕ). refusal_among s.seen.list n user ask.request ≡ Some r) (sym (count_helds ps)) among))
+
+pub forbidden_visited : (s : Seen) (ps : List Part) (now : ℕ) (ask : Ask) (user : User) (r : Refusal) → 0 < length ps → MayBeAsked ask now → IsKnownTo s ask user → asks_catalog ask.request ≡ false → forbidden user ask.request ≡ Some r
+    → Visited (seats s ps) (seats s ps) now ask (reply.Refused r)
+forbidden_visited s ps now ask user r some may k other is = among_visited s ps now ask user r some may k other (among-first s.seen.list (length ps) user ask.request r (forbidden_first s.seen.list user ask r is))
+
+-- ---- one shard
+
+-- a request of this user goes to this shard of so many, which is there
+pub record GoesTo (n : ℕ) (user : User) (x : Request) (k : ℕ) : Type 0 where
+  pub goes : goes_to_part x ≡ true
+  pub part : part_of n user x ≡ k
+  pub there : missing_shard n x ≡ None
+
+goes-other : (x : Request) → goes_to_part x ≡ true → asks_catalog x ≡ false
+goes-other x is = other (asks_catalog x) refl is
+  where
+    other : (b : _) → asks_catalog x ≡ b → goes_to_part x ≡ true → asks_catalog x ≡ false
+    other true is goes = let no : false ≡ true = rw is at goes in absurd cc
+    other false is goes = is
+
+going : (c : List Record) (ps : List Part) (k : ℕ) (h : Held) (ask : Ask) (user : User) → user_of c ask.caller ≡ Some user → first_refusal c user ask.request ≡ None → GoesTo (length ps) user ask.request k
+    → IsGoing c (length (slice_set (helds ps) k h)) ask user k
+going c ps k h ask user found free g =
+    subst (λ (n : ℕ). IsGoing c n ask user k) (sym (count_set ps k h)) (record { goes = g.goes; found = found; among = among_none c (length ps) user ask.request free g.there; part = g.part })
+
+part-token : (failed : Type 0) (h m : Held) (hs : List Held) (k now : ℕ) (old held new : Held) (ask : Ask) (user : User) (told : Reply) → IsAskable (lists h (slice_set hs k held)) ask → IsKnown (lists h (slice_set hs k held)) m ask user
+    → IsGoing m.list (length (slice_set hs k held)) ask user k → slice_get hs k ≡ Some old → OneCall failed reply.Refused (ShardAnswers m.list now user ask) held new told
+    → AskedOnce failed (lists h (slice_set hs k held)) (lists m (slice_set hs k new)) now ask told
+part-token failed h m hs k now old held new ask user told can known goes at call =
+    subst (λ (gs : List Held). AskedOnce failed (lists h (slice_set hs k held)) (lists m gs) now ask told) (set_twice hs k held new)
+    ((tokens_law failed).shard (lists h (slice_set hs k held)) m held new k now ask user told can known goes (set_get hs k old held at) call)
+
+-- the shard answered, under what was found of the catalogue
+pub part_visited : (so sn : Seen) (ps : List Part) (k : ℕ) (po pn : Part) (found : Tale Record) (now : ℕ) (ask : Ask) (user : User) (told : Reply) → 0 < length ps → slice_get ps k ≡ Some po → MayBeAsked ask now → IsKnownTo so ask user → GoesTo (length ps) user ask.request k
+    → IsFoundBy so sn found → IsSettled (held_of found) (held_of sn.seen) → user_of sn.seen.list ask.caller ≡ Some user → first_refusal sn.seen.list user ask.request ≡ None → IsFoundBy po pn pn.found → Answered sn.seen.list now ask user pn told
+    → Visited (seats so ps) (seats sn (slice_set ps k pn)) now ask told
+part_visited so sn ps k po pn found now ask user told some at may known g first settled user_found free second is =
+    let failed = HasRisen pn.found.faults pn.seen.faults in
+    let worse = Either found sn pn.found pn in
+    let says = ShardAnswers sn.seen.list now user ask in
+    visited_both so sn ps k po pn found pn.found now ask told at first second
+    (part-token worse (held_of found) (held_of sn.seen) (helds ps) k now (held_of po.seen) (held_of pn.found) (held_of pn.seen) ask user told
+    (askable (held_of found) (slice_set (helds ps) k (held_of pn.found)) (length ps) now ask some (count_set ps k (held_of pn.found)) may)
+    (record { token = known.token; caller_is = known.caller_is; settled = settled; found = user_found }) (going sn.seen.list ps k (held_of pn.found) ask user user_found free g) (held_there ps k po at)
+    ((calls_mean failed worse reply.Refused says says).each (held_of pn.found) (held_of pn.seen) told (λ why. inr why) (λ h t l x. x) is.call))
+
+-- a request of a user that goes to one shard
+pub came_visited : (so sn : Seen) (ps : List Part) (k : ℕ) (po pn : Part) (now : ℕ) (ask : Ask) (user : User) (told : Reply) → 0 < length ps → slice_get ps k ≡ Some po → MayBeAsked ask now → IsKnownTo so ask user → GoesTo (length ps) user ask.request k
+    → CameTo so sn po pn now ask user told → Visited (seats so ps) (seats sn (slice_set ps k pn)) now ask told
+came_visited so sn ps k po pn now ask user told some at may known g (way.answered first settled user_found free second is) = part_visited so sn ps k po pn sn.found now ask user told some at may known g first settled user_found free second is
+came_visited so sn ps k po pn now ask user told some at may known g (way.answered_alone same free second is) =
+    let settled : IsSettled (held_of so.seen) (held_of so.seen) = record { mends = stays (held_of so.seen); no_doubt = known.known.no_doubt } in
+    let other : Answered so.seen.list now ask user pn told = subst (λ (s : Seen). Answered s.seen.list now ask user pn told) same is in
+    let clear : first_refusal so.seen.list user ask.request ≡ None = subst (λ (s : Seen). first_refusal s.seen.list user ask.request ≡ None) same free in
+    subst (λ (s : Seen). Visited (seats so ps) (seats s (slice_set ps k pn)) now ask told) (sym same)
+    (part_visited so so ps k po pn so.seen now ask user told some at may known g (found_rested so so (sees_self so)) settled known.known.found clear second other)
+came_visited so sn ps k po pn now ask user told some at may known g (way.refused r first settled user_found refuses second is) =
+    let failed = Either sn.found sn pn.seen pn in
+    let hs = slice_set (helds ps) k (held_of pn.seen) in
+    let long = count_set ps k (held_of pn.seen) in
+    subst (λ (t : Reply). Visited (seats so ps) (seats sn (slice_set ps k pn)) now ask t) (sym is)
+    (visited_both so sn ps k po pn sn.found pn.seen now ask (reply.Refused r) at first second
+    ((tokens_law failed).refused (lists (held_of sn.found) hs) (held_of sn.seen) now ask user r (askable (held_of sn.found) hs (length ps) now ask some long may)
+    (record { token = known.token; caller_is = known.caller_is; settled = settled; found = user_found }) (goes-other ask.request g.goes) (among-first sn.seen.list (length hs) user ask.request r refuses)))
+came_visited so sn ps k po pn now ask user told some at may known g (way.untold r first ends second is) =
+    let failed = HasRisen sn.found.faults sn.seen.faults in
+    let worse = Either sn.found sn pn.seen pn in
+    let hs = slice_set (helds ps) k (held_of pn.seen) in
+    let a = lists (held_of sn.found) hs in
+    let b = lists (held_of sn.seen) hs in
+    subst (λ (t : Reply). Visited (seats so ps) (seats sn (slice_set ps k pn)) now ask t) (sym is)
+    (visited_both so sn ps k po pn sn.found pn.seen now ask (reply.Refused r) at first second
+    (Rattle.qz_visit.proofs.Passing.asked_mean failed worse a b now ask (reply.Refused r) (λ why. inl why)
+    (lost-token failed (held_of sn.found) (held_of sn.seen) hs now ask known.token r (askable (held_of sn.found) hs (length ps) now ask some (count_set ps k (held_of pn.seen)) may) known.caller_is ends)))
+
+-- a look at the catalogue that didn't tell what was looked for, in a request that goes to shards
+pub unlooked_visited : (so sn : Seen) (ps : List Part) (now : ℕ) (ask : Ask) (user : User) (r : Refusal) → 0 < length ps → MayBeAsked ask now → IsKnownTo so ask user → asks_catalog ask.request ≡ false → IsFoundBy so sn sn.found
+    → (IsSettled (held_of sn.found) (held_of sn.seen) × (refusal_among sn.seen.list (length ps) user ask.request ≡ Some r)) ⊎ LookEnds (HasRisen sn.found.faults sn.seen.faults) (λ r. Err r) (λ (_ : List Record) (_ : Result (Unit {0}) Refusal). ⊥) (held_of sn.found) (held_of sn.seen) (Err r)
+    → Visited (seats so ps) (seats sn ps) now ask (reply.Refused r)
+unlooked_visited so sn ps now ask user r some may k other first (inl both) =
+    let failed = HasRisen sn.found.faults sn.seen.faults in
+    let found = user_on so.seen.list sn.seen.list ask.caller user (found_sees so sn sn.found first).begins.begins k.known.found in
+    visited_records so sn ps sn.found now ask (reply.Refused r) first
+    ((tokens_law failed).refused (lists (held_of sn.found) (helds ps)) (held_of sn.seen) now ask user r (askable (held_of sn.found) (helds ps) (length ps) now ask some (count_helds ps) may)
+    (record { token = k.token; caller_is = k.caller_is; settled = both.0; found = found }) other (subst (λ (n : ℕ). refusal_among sn.seen.list n user ask.request ≡ Some r) (sym (count_helds ps)) both.1))
+unlooked_visited so sn ps now ask user r some may k other first (inr ends) =
+    let failed = HasRisen sn.found.faults sn.seen.faults in
+    visited_records so sn ps sn.found now ask (reply.Refused r) first
+    (lost-token failed (held_of sn.found) (held_of sn.seen) (helds ps) now ask k.token r (askable (held_of sn.found) (helds ps) (length ps) now ask some (count_helds ps) may) k.caller_is ends)

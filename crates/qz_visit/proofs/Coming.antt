@@ -1,0 +1,174 @@
+-- What a request of a user at one shard came to, from what its turns came to.
+use Rattle.std.proofs.Common.{◌≡◌, ◌⊎◌, inl, inr, ℕ, ◌%◌, Bool, true, false, List, ◌∷◌, [], Some, None, Result, Ok, Err, MatchResult, refl, sym, ap, ◌∙◌, subst, eq-eqb}
+use Rattle.qz_catalog.specs.Keeping.{TellsJob, TellsPlan}
+use Rattle.qz_catalog_turns.specs.Turning.{TurnCalls, held_of}
+use Rattle.qz_grading.specs.declared.refusal.AttemptId.{AttemptId}
+use Rattle.qz_grading.specs.declared.refusal.Refusal.{Refusal}
+use Rattle.qz_grading.specs.Behaviours.{first_some}
+use Rattle.qz_keeper.specs.Lists.{IsSettled, Looks, OneCall}
+use Rattle.qz_outside.specs.Causes.{HasRisen}
+use Rattle.qz_serial.specs.Calls.{LookEnds, ShardAnswers}
+use Rattle.qz_serial.proofs.Composing.{calls_mean, look_ends, looks_are_calls}
+use Rattle.qz_serial.proofs.Workers.{err-is}
+use Rattle.qz_shard.specs.Holdings.{Holding}
+use Rattle.qz_shard.specs.Keeping.{TellsQuiz}
+use Rattle.qz_shard.specs.Works.{IsWorked}
+use Rattle.qz_shard_turns.specs.Tying.{SeesMore}
+use Rattle.qz_shard_turns.proofs.Tying.{agree-on}
+use Rattle.qz_solo.specs.Planning.{NamesQuiz, grades, starts}
+use Rattle.qz_solo.proofs.Planning.{absent_means, named_free, plan_there, quiz_free, refused_quiz}
+use Rattle.qz_solo.proofs.Steps.{job_absent, job_present}
+use Rattle.qz_terms.specs.declared.ask.Ask.{Ask}
+use Rattle.qz_terms.specs.declared.people.User.{User}
+use Rattle.qz_terms.specs.declared.record.Record.{Record}
+use Rattle.qz_terms.specs.declared.reply.Reply.{Reply}
+use Rattle.qz_terms.specs.declared.reply.Reply.TheVariants as reply
+use Rattle.qz_terms.specs.declared.request.Request.{Request}
+use Rattle.qz_terms.specs.declared.request.Request.TheVariants as request
+use Rattle.qz_terms.specs.Answer.{attempt_named, live_answer}
+use Rattle.qz_terms.specs.Catalog as catalog
+use Rattle.qz_terms.specs.Cause.{forbidden, missing_quiz, missing_user}
+use Rattle.qz_terms.specs.History as history
+use Rattle.qz_terms.specs.Legal.{AllAgree, is_here}
+use Rattle.qz_terms.specs.SchoolAnswer.{first_refusal, part_of}
+use Rattle.qz_visit.specs.Visits.{IsFoundBy}
+use Rattle.qz_visit.specs.Ways as way
+use Rattle.qz_visit.specs.Ways.{Answered, CameTo, Comes, IsKnownBy, Part, Planned, Seen, Stepped, Tried}
+use Rattle.qz_visit.proofs.Asking.{untold_split, user_on}
+use Rattle.qz_visit.proofs.Passing.{found_after, found_rested, found_sees, found_turned, sees_self}
+use Rattle.qz_visit.proofs.Planning.{quiz_on}
+
+-- a user who was seen is seen still
+seen-user : (so sn : Seen) (ask : Ask) (user : User) → SeesMore so sn → catalog.user_of so.seen.list ask.caller ≡ Some user → catalog.user_of sn.seen.list ask.caller ≡ Some user
+seen-user so sn ask user sees found = user_on so.seen.list sn.seen.list ask.caller user sees.begins.begins found
+
+-- ---- under the plan of a quiz that the request names
+
+planless-quiz : (so sn : Seen) (po pn : Part) (now : ℕ) (ask : Ask) (user : User) (quiz owner : ℕ) (whole : Bool) (r : Refusal) → catalog.user_of sn.seen.list ask.caller ≡ Some user → forbidden user ask.request ≡ None → NamesQuiz user ask.request quiz owner whole
+    → IsFoundBy so sn sn.found → IsFoundBy po pn pn.seen
+    → (IsSettled (held_of sn.found) (held_of sn.seen) × (first_some (missing_quiz sn.seen.list quiz ∷ missing_user sn.seen.list owner ∷ []) ≡ Some r)) ⊎ LookEnds (HasRisen sn.found.faults sn.seen.faults) (λ r. Err r) (λ (_ : List Record) (_ : Result (Unit {0}) Refusal). ⊥) (held_of sn.found) (held_of sn.seen) (Err r)
+    → CameTo so sn po pn now ask user (reply.Refused r)
+planless-quiz so sn po pn now ask user quiz owner whole r found may names first second (inl both) =
+    way.refused r first both.0 found (refused_quiz sn.seen.list ask.caller user ask.request quiz owner whole r found may names both.1) second refl
+planless-quiz so sn po pn now ask user quiz owner whole r found may names first second (inr ends) = way.untold r first ends second refl
+
+pub quiz_came : (so sn : Seen) (po pn : Part) (now : ℕ) (ask : Ask) (user : User) (quiz owner : ℕ) (whole : Bool) (told : Reply) → IsKnownBy so ask user → forbidden user ask.request ≡ None → NamesQuiz user ask.request quiz owner whole
+    → Planned so sn po pn now ask user quiz owner whole told → CameTo so sn po pn now ask user told
+quiz_came so sn po pn now ask user quiz owner whole told known may names (way.under p first mended plan second is) =
+    let found = seen-user so sn ask user (found_sees so sn sn.found first) known.found in
+    way.answered first mended found (quiz_free sn.seen.list ask.caller user ask.request quiz owner whole found may names plan.there) second is
+quiz_came so sn po pn now ask user quiz owner whole told known may names (way.planless r first untold second clear is) =
+    let found = seen-user so sn ask user (found_sees so sn sn.found first) known.found in
+    subst (CameTo so sn po pn now ask user) (sym is)
+    (planless-quiz so sn po pn now ask user quiz owner whole r found may names first second (untold_split (HasRisen sn.found.faults sn.seen.faults) (TellsPlan quiz owner whole) (held_of sn.found) (held_of sn.seen) r untold))
+
+-- ---- of an attempt
+
+abbrev over : List Record → Holding
+over h = record { index = 0; count = 0; records = h }
+
+unfound-answer : (c : List Record) (pn : Part) (now : ℕ) (ask : Ask) (user : User) (attempt : AttemptId) (r : Refusal) → forbidden user ask.request ≡ None → attempt_named ask.request ≡ Some attempt
+    → OneCall (HasRisen pn.found.faults pn.seen.faults) (λ r. Err r) (Looks (TellsQuiz attempt)) (held_of pn.found) (held_of pn.seen) (Err r) → Answered c now ask user pn (reply.Refused r)
+unfound-answer c pn now ask user attempt r may named call =
+    let failed = HasRisen pn.found.faults pn.seen.faults in
+    let ends = look_ends failed (λ r. Err r) (TellsQuiz attempt) (held_of pn.found) (held_of pn.seen) (Err r) call in
+    record {
+      call = (looks_are_calls failed (λ r. Err r) (TellsQuiz attempt) reply.Refused (ShardAnswers c now user ask)).alone (held_of pn.found) (held_of pn.seen) (Err r) (reply.Refused r) ends
+          (λ says. subst (λ (x : Refusal). ShardAnswers c now user ask pn.seen.list (reply.Refused x) pn.seen.list) (sym says.1) (absent_means c (over pn.seen.list) now user ask attempt may named says.0))
+          (λ x is. ap reply.Refused (err-is r x is));
+    }
+
+-- a catalogue with which the shard agrees has the quiz and the user of an attempt
+pub no_missing : {A : Type 0} (sm sn : Seen) (pm : Part) (attempt : AttemptId) (q : ℕ) (r : Refusal) → SeesMore sm sn → AllAgree sm.seen.list pm.seen.list → history.quiz pm.seen.list attempt ≡ Some q
+    → first_some (missing_quiz sn.seen.list q ∷ missing_user sn.seen.list attempt.user ∷ []) ≡ Some r → A
+no_missing sm sn pm attempt q r sees agree of_quiz first =
+    let none : None ≡ Some r = sym (plan_there sn.seen.list pm.seen.list attempt q (agree-on sm.seen.list sn.seen.list pm.seen.list sees.begins.begins agree) of_quiz) ∙ first in
+    absurd cc
+
+attempt-planned : (so sm sn : Seen) (po pm pn : Part) (now : ℕ) (ask : Ask) (user : User) (attempt : AttemptId) (q : ℕ) (told : Reply) → catalog.user_of so.seen.list ask.caller ≡ Some user → forbidden user ask.request ≡ None → attempt_named ask.request ≡ Some attempt
+    → SeesMore so sm → SeesMore po pm → history.quiz pm.seen.list attempt ≡ Some q → AllAgree sm.seen.list pm.seen.list → Planned sm sn pm pn now ask user q attempt.user false told → CameTo so sn po pn now ask user told
+attempt-planned so sm sn po pm pn now ask user attempt q told known may named sees looks of_quiz agree (way.under p first mended plan second is) =
+    let whole = found_after so sm sn sn.found sees first in
+    way.answered whole mended (seen-user so sn ask user (found_sees so sn sn.found whole) known) (named_free sn.seen.list (over pn.seen.list) user ask.request attempt may named) (found_after po pm pn pn.found looks second) is
+attempt-planned so sm sn po pm pn now ask user attempt q told known may named sees looks of_quiz agree (way.planless r first untold second clear is) =
+    subst (CameTo so sn po pn now ask user) (sym is)
+    (elim (untold_split (HasRisen sn.found.faults sn.seen.faults) (TellsPlan q attempt.user false) (held_of sn.found) (held_of sn.seen) r untold) [
+      | inl both ↦ no_missing sm sn pm attempt q r (found_sees sm sn sn.found first) agree of_quiz both.1
+      | inr ends ↦ way.untold r (found_after so sm sn sn.found sees first) ends (found_after po pm pn pn.seen looks second) refl
+    ])
+
+pub attempt_came : (so sn : Seen) (po pn : Part) (now : ℕ) (ask : Ask) (user : User) (attempt : AttemptId) (told : Reply) → catalog.user_of so.seen.list ask.caller ≡ Some user → forbidden user ask.request ≡ None → attempt_named ask.request ≡ Some attempt
+    → Tried so sn po pn now ask user attempt told → CameTo so sn po pn now ask user told
+attempt_came so sn po pn now ask user attempt told known may named (way.unfound r same second call is) =
+    way.answered_alone same (named_free sn.seen.list (over pn.seen.list) user ask.request attempt may named) second (subst (Answered sn.seen.list now ask user pn) (sym is) (unfound-answer sn.seen.list pn now ask user attempt r may named call))
+attempt_came so sn po pn now ask user attempt told known may named (way.of_quiz q sm pm sees looks of_quiz clear agree planned) =
+    attempt-planned so sm sn po pm pn now ask user attempt q told known may named sees looks of_quiz agree planned
+
+-- ---- the attempts that go on
+
+pub live_came : (P : List Record → Type 0) (so : Seen) (po pn : Part) (now : ℕ) (ask : Ask) (user : User) (shard : ℕ) (attempt : AttemptId) (told : Reply) → ask.request ≡ request.Live shard attempt → forbidden user ask.request ≡ None
+    → TurnCalls P reply.Refused (Looks (λ h t. t ≡ live_answer h attempt)) po pn told → CameTo so so po pn now ask user told
+live_came P so po pn now ask user shard attempt told is may t =
+    let failed = HasRisen pn.found.faults pn.seen.faults in
+    let free : forbidden user (request.Live shard attempt) ≡ None = rw is at may in
+    way.answered_alone refl (rw (is, free) refl) (found_turned P reply.Refused (Looks (λ h t. t ≡ live_answer h attempt)) po pn told t)
+    (record {
+      call = (calls_mean failed failed reply.Refused (Looks (λ h t. t ≡ live_answer h attempt)) (ShardAnswers so.seen.list now user ask)).each (held_of pn.found) (held_of pn.seen) told (λ why. why)
+          (λ h t l says. (says.0 ∙ rw (is, free) refl, says.1 ∙ rw (is, free) refl)) t.calls.call;
+    })
+
+-- ---- a step of a job
+
+pub step_answer : (c : List Record) (pn : Part) (now : ℕ) (ask : Ask) (user : User) (number shard : ℕ) (job : _) (told : Reply) → ask.request ≡ request.Work number shard → forbidden user ask.request ≡ None → catalog.job c number ≡ Some job
+    → OneCall (HasRisen pn.found.faults pn.seen.faults) reply.Refused (λ h t g. IsWorked h now user.number job t g) (held_of pn.found) (held_of pn.seen) told → Answered c now ask user pn told
+step_answer c pn now ask user number shard job told is may there call =
+    let failed = HasRisen pn.found.faults pn.seen.faults in
+    let free : forbidden user (request.Work number shard) ≡ None = rw is at may in
+    let present = job_present c number shard job there in
+    record {
+      call = (calls_mean failed failed reply.Refused (λ h t g. IsWorked h now user.number job t g) (ShardAnswers c now user ask)).each (held_of pn.found) (held_of pn.seen) told (λ why. why)
+          (λ h t l says. (says.reply ∙ sym (rw (is, free, present, there) refl), says.list ∙ sym (rw (is, free, present, there) refl))) call;
+    }
+
+pub step_came : (so sn : Seen) (po pn : Part) (now : ℕ) (ask : Ask) (user : User) (number shard : ℕ) (told : Reply) → IsKnownBy so ask user → forbidden user ask.request ≡ None → ask.request ≡ request.Work number shard
+    → Stepped so sn po pn now ask user number told → CameTo so sn po pn now ask user told
+step_came so sn po pn now ask user number shard told known may is (way.taken job first mended there second call) =
+    let free : forbidden user (request.Work number shard) ≡ None = rw is at may in
+    let present = job_present sn.seen.list number shard job there.job_is in
+    way.answered first mended (seen-user so sn ask user (found_sees so sn sn.found first) known.found) (rw (is, free, present) refl) second (step_answer sn.seen.list pn now ask user number shard job told is may there.job_is call)
+step_came so sn po pn now ask user number shard told known may is (way.jobless r first untold legal same said) =
+    let free : forbidden user (request.Work number shard) ≡ None = rw is at may in
+    let rested = subst (λ (p : Part). IsFoundBy po p p.seen) (sym same) (found_rested po po (sees_self po)) in
+    subst (CameTo so sn po pn now ask user) (sym said)
+    (elim (untold_split (HasRisen sn.found.faults sn.seen.faults) (TellsJob number) (held_of sn.found) (held_of sn.seen) r untold) [
+      | inl both ↦
+          let missing = job_absent sn.seen.list number shard legal both.1.1 in
+          way.refused r first both.0 (seen-user so sn ask user (found_sees so sn sn.found first) known.found) (rw both.1.0 (rw (is, free, missing) refl)) rested refl
+      | inr ends ↦ way.untold r first ends rested refl
+    ])
+
+-- ---- of results
+
+pub quiz_comes : (so sn : Seen) (po pn : Part) (now : ℕ) (ask : Ask) (user : User) (quiz owner : ℕ) (whole : Bool) (result : Result Reply Refusal) → IsKnownBy so ask user → forbidden user ask.request ≡ None → NamesQuiz user ask.request quiz owner whole
+    → MatchResult result (Planned so sn po pn now ask user quiz owner whole) (λ r. Planned so sn po pn now ask user quiz owner whole (reply.Refused r)) → Comes so sn po pn now ask user result
+quiz_comes so sn po pn now ask user quiz owner whole (Ok told) known may names planned = quiz_came so sn po pn now ask user quiz owner whole told known may names planned
+quiz_comes so sn po pn now ask user quiz owner whole (Err r) known may names planned = quiz_came so sn po pn now ask user quiz owner whole (reply.Refused r) known may names planned
+
+pub attempt_comes : (so sn : Seen) (po pn : Part) (now : ℕ) (ask : Ask) (user : User) (attempt : AttemptId) (result : Result Reply Refusal) → catalog.user_of so.seen.list ask.caller ≡ Some user → forbidden user ask.request ≡ None → attempt_named ask.request ≡ Some attempt
+    → MatchResult result (Tried so sn po pn now ask user attempt) (λ r. Tried so sn po pn now ask user attempt (reply.Refused r)) → Comes so sn po pn now ask user result
+attempt_comes so sn po pn now ask user attempt (Ok told) known may named tried = attempt_came so sn po pn now ask user attempt told known may named tried
+attempt_comes so sn po pn now ask user attempt (Err r) known may named tried = attempt_came so sn po pn now ask user attempt (reply.Refused r) known may named tried
+
+pub step_comes : (so sn : Seen) (po pn : Part) (now : ℕ) (ask : Ask) (user : User) (number shard : ℕ) (result : Result Reply Refusal) → IsKnownBy so ask user → forbidden user ask.request ≡ None → ask.request ≡ request.Work number shard
+    → MatchResult result (Stepped so sn po pn now ask user number) (λ r. Stepped so sn po pn now ask user number (reply.Refused r)) → Comes so sn po pn now ask user result
+step_comes so sn po pn now ask user number shard (Ok told) known may is stepped = step_came so sn po pn now ask user number shard told known may is stepped
+step_comes so sn po pn now ask user number shard (Err r) known may is stepped = step_came so sn po pn now ask user number shard (reply.Refused r) known may is stepped
+
+-- the user whose plan is asked for belongs to the shard
+pub quiz_here : (user : User) (x : Request) (quiz owner index count : ℕ) (whole : Bool) → NamesQuiz user x quiz owner whole → part_of count user x ≡ index → is_here index count owner ≡ true
+quiz_here user x quiz owner index count whole (starts is own all) part =
+    let here : user.number % count ≡ index = subst (λ (y : Request). part_of count user y ≡ index) is part in
+    eq-eqb (owner % count) index (ap (λ (u : ℕ). u % count) own ∙ here)
+quiz_here user x quiz owner index count whole (grades is lean_one) part =
+    let here : owner % count ≡ index = subst (λ (y : Request). part_of count user y ≡ index) is part in
+    eq-eqb (owner % count) index here

@@ -1,0 +1,147 @@
+-- What requests do to passes, and the lists that these tell.
+use Rattle.std.proofs.Common.{◌≡◌, ◌⊎◌, inl, inr, ℕ, ◌<◌, zero, suc, List, [], ◌∷◌, Some, length, map, refl, sym, ap, ◌∙◌, subst, arith}
+use Rattle.std.specs.Prelude.{slice_get, slice_set}
+use Rattle.std.proofs.lemmas.List.{length-map, length-set, map-set}
+use Rattle.std.proofs.lemmas.Option.{slice_get-map}
+use Rattle.qz_catalog_turns.specs.Turning.{TurnCalls, held_of}
+use Rattle.qz_grading.specs.declared.refusal.Refusal.{Refusal}
+use Rattle.qz_outside.specs.Causes.{HasRisen}
+use Rattle.qz_serial.specs.Once.{AskedOnce}
+use Rattle.qz_serial.proofs.Seats.{set_get}
+use Rattle.qz_shard_turns.specs.Tying.{Placed, SeesMore}
+use Rattle.qz_terms.specs.declared.ask.Ask.{Ask}
+use Rattle.qz_terms.specs.declared.record.Record.{Record}
+use Rattle.qz_terms.specs.declared.reply.Reply.{Reply}
+use Rattle.qz_terms.specs.Serial.{Held, Lists}
+use Rattle.qz_turn.specs.declared.view.Tale.{Tale}
+use Rattle.qz_turn.specs.Passes.{Standing}
+use Rattle.qz_turn.specs.Tales.{Follows}
+use Rattle.qz_turn.proofs.Prefixes.{follows_self, follows_trans}
+use Rattle.qz_visit.specs.Visits.{AreFoundBy, IsFoundBy, Rose, Seats, Tellings, Visited, lists_told, more, none, of_catalog, of_shard, seen_by, seen_in}
+use Rattle.qz_visit.specs.Ways.{Part, Seen}
+
+-- ---- one pass
+
+pub sees_self : {K : Type 0} (p : Standing Record K) → SeesMore p p
+sees_self p = record { begins = follows_self p.seen; numbers = refl; lock = refl }
+
+pub sees_on : {K : Type 0} (a b c : Standing Record K) → SeesMore a b → SeesMore b c → SeesMore a c
+sees_on a b c one other = record {
+  begins = follows_trans a.seen b.seen c.seen one.begins other.begins;
+  numbers = other.numbers ∙ one.numbers;
+  lock = other.lock ∙ one.lock;
+}
+
+pub found_rested : {K : Type 0} (old new : Standing Record K) → SeesMore old new → IsFoundBy old new new.seen
+found_rested old new sees = record { begins = sees.begins; grows = follows_self new.seen; last = inr refl; numbers = sees.numbers; lock = sees.lock }
+
+pub found_after : {K : Type 0} (a b c : Standing Record K) (t : Tale Record) → SeesMore a b → IsFoundBy b c t → IsFoundBy a c t
+found_after a b c t sees is = record {
+  begins = follows_trans a.seen b.seen t sees.begins is.begins;
+  grows = is.grows;
+  last = is.last;
+  numbers = is.numbers ∙ sees.numbers;
+  lock = is.lock ∙ sees.lock;
+}
+
+pub found_sees : {K : Type 0} (a b : Standing Record K) (t : Tale Record) → IsFoundBy a b t → SeesMore a b
+found_sees a b t is = record { begins = follows_trans a.seen t b.seen is.begins is.grows; numbers = is.numbers; lock = is.lock }
+
+pub found_turned : {A K : Type 0} (P : List Record → Type 0) (refused : Refusal → A) (Answers : List Record → A → List Record → Type 0) (old new : Standing Record K) (told : A) → TurnCalls P refused Answers old new told → IsFoundBy old new new.found
+found_turned P refused Answers old new told t = record { begins = t.begins; grows = t.grows; last = inl refl; numbers = t.numbers; lock = t.lock }
+
+pub turn_sees : {A K : Type 0} (P : List Record → Type 0) (refused : Refusal → A) (Answers : List Record → A → List Record → Type 0) (old new : Standing Record K) (told : A) → TurnCalls P refused Answers old new told → SeesMore old new
+turn_sees P refused Answers old new told t = found_sees old new new.found (found_turned P refused Answers old new told t)
+
+-- ---- the passes of the shards
+
+pub all_rested : (ps : List Part) → AreFoundBy ps ps (seen_by ps)
+all_rested [] = none
+all_rested (p ∷ ps) = more p p p.seen ps ps (seen_by ps) (found_rested p p (sees_self p)) (all_rested ps)
+
+pub one_found : (ps : List Part) (k : ℕ) (old new : Part) (found : Tale Record) → slice_get ps k ≡ Some old → IsFoundBy old new found → AreFoundBy ps (slice_set ps k new) (slice_set (seen_by ps) k found)
+one_found [] k old new found at is = absurd cc
+one_found (p ∷ ps) zero old new found at is = let same : old ≡ p = cc in more p new found ps ps (seen_by ps) (subst (λ (x : Part). IsFoundBy x new found) same is) (all_rested ps)
+one_found (p ∷ ps) (suc k) old new found at is = more p p p.seen ps (slice_set ps k new) (slice_set (seen_by ps) k found) (found_rested p p (sees_self p)) (one_found ps k old new found at is)
+
+-- ---- what they tell
+
+-- the lists that the passes of the shards see
+abbrev pub helds : List Part → List Held
+helds ps = map held_of (seen_by ps)
+
+pub count_helds : (ps : List Part) → length (helds ps) ≡ length ps
+count_helds ps = length-map (seen_by ps) held_of ∙ length-map ps (λ (p : Part). p.seen)
+
+pub seen_there : (ps : List Part) (k : ℕ) (p : Part) → slice_get ps k ≡ Some p → slice_get (seen_by ps) k ≡ Some p.seen
+seen_there ps k p is = slice_get-map (λ (q : Part). q.seen) ps k ∙ rw is refl
+
+pub held_there : (ps : List Part) (k : ℕ) (p : Part) → slice_get ps k ≡ Some p → slice_get (helds ps) k ≡ Some (held_of p.seen)
+held_there ps k p is = slice_get-map held_of (seen_by ps) k ∙ rw (seen_there ps k p is) refl
+
+pub seen_set : (ps : List Part) (k : ℕ) (p : Part) → seen_by (slice_set ps k p) ≡ slice_set (seen_by ps) k p.seen
+seen_set ps k p = map-set (λ (q : Part). q.seen) ps k p
+
+pub told_set : (ts : List (Tale Record)) (k : ℕ) (t : Tale Record) → map held_of (slice_set ts k t) ≡ slice_set (map held_of ts) k (held_of t)
+told_set ts k t = map-set held_of ts k t
+
+pub helds_set : (ps : List Part) (k : ℕ) (p : Part) → helds (slice_set ps k p) ≡ slice_set (helds ps) k (held_of p.seen)
+helds_set ps k p = ap (map held_of) (seen_set ps k p) ∙ told_set (seen_by ps) k p.seen
+
+abbrev pub seats : Seen → List Part → Seats
+seats s ps = record { records = s; parts = ps }
+
+abbrev pub lists : Held → List Held → Lists
+lists h hs = record { records = h; parts = hs }
+
+-- ---- what a request came to
+
+pub asked_mean : (failed worse : Type 0) (a b : Lists) (now : ℕ) (ask : Ask) (told : Reply) → (failed → worse) → AskedOnce failed a b now ask told → AskedOnce worse a b now ask told
+asked_mean failed worse a b now ask told to once = record { asks = once.asks; cause = λ is. to (once.cause is); stands = once.stands; stays = once.stays; again = once.again }
+
+-- at the catalogue alone
+pub visited_records : (so sn : Seen) (ps : List Part) (found : Tale Record) (now : ℕ) (ask : Ask) (told : Reply) → IsFoundBy so sn found
+    → AskedOnce (HasRisen found.faults sn.seen.faults) (lists (held_of found) (helds ps)) (lists (held_of sn.seen) (helds ps)) now ask told → Visited (seats so ps) (seats sn ps) now ask told
+visited_records so sn ps found now ask told is once =
+    let f : Tellings = record { records = found; parts = seen_by ps } in
+    let g : Tellings = record { records = sn.seen; parts = seen_by ps } in
+    record {
+      found = f;
+      records = is;
+      parts = all_rested ps;
+      once = asked_mean (HasRisen found.faults sn.seen.faults) (Rose f g) (lists (held_of found) (helds ps)) (lists (held_of sn.seen) (helds ps)) now ask told (λ why. of_catalog why) once;
+    }
+
+-- whatever it read, it left
+pub visited_still : (s : Seen) (ps : List Part) (now : ℕ) (ask : Ask) (told : Reply) → AskedOnce ⊥ (lists (held_of s.seen) (helds ps)) (lists (held_of s.seen) (helds ps)) now ask told → Visited (seats s ps) (seats s ps) now ask told
+visited_still s ps now ask told once =
+    let a = lists (held_of s.seen) (helds ps) in
+    visited_records s s ps s.seen now ask told (found_rested s s (sees_self s)) (asked_mean ⊥ (HasRisen s.seen.faults s.seen.faults) a a now ask told (λ why. absurd why) once)
+
+-- a keeper failed, that of the catalogue or that of the shard
+abbrev pub Either : Tale Record → Seen → Tale Record → Part → Type 0
+Either found sn there pn = HasRisen found.faults sn.seen.faults ⊎ HasRisen there.faults pn.seen.faults
+
+rose-either : (sn : Seen) (ps : List Part) (k : ℕ) (po pn : Part) (found there : Tale Record) → slice_get ps k ≡ Some po → Either found sn there pn
+    → let f : Tellings = record { records = found; parts = slice_set (seen_by ps) k there } in let g : Tellings = record { records = sn.seen; parts = seen_by (slice_set ps k pn) } in Rose f g
+rose-either sn ps k po pn found there at (inl why) = of_catalog why
+rose-either sn ps k po pn found there at (inr why) =
+    let own = seen_there ps k po at in
+    of_shard k there pn.seen (set_get (seen_by ps) k po.seen there own) (rw (seen_set ps k pn) (set_get (seen_by ps) k po.seen pn.seen own)) why
+
+-- at the catalogue and at one shard
+pub visited_both : (so sn : Seen) (ps : List Part) (k : ℕ) (po pn : Part) (found there : Tale Record) (now : ℕ) (ask : Ask) (told : Reply) → slice_get ps k ≡ Some po → IsFoundBy so sn found → IsFoundBy po pn there
+    → AskedOnce (Either found sn there pn) (lists (held_of found) (slice_set (helds ps) k (held_of there))) (lists (held_of sn.seen) (slice_set (helds ps) k (held_of pn.seen))) now ask told
+    → Visited (seats so ps) (seats sn (slice_set ps k pn)) now ask told
+visited_both so sn ps k po pn found there now ask told at first second once =
+    let f : Tellings = record { records = found; parts = slice_set (seen_by ps) k there } in
+    let g : Tellings = record { records = sn.seen; parts = seen_by (slice_set ps k pn) } in
+    let worse = Rose f g in
+    let left = subst (λ (hs : List Held). AskedOnce (Either found sn there pn) (lists (held_of found) hs) (lists (held_of sn.seen) (slice_set (helds ps) k (held_of pn.seen))) now ask told) (sym (told_set (seen_by ps) k there)) once in
+    let both = subst (λ (hs : List Held). AskedOnce (Either found sn there pn) (lists_told f) (lists (held_of sn.seen) hs) now ask told) (sym (helds_set ps k pn)) left in
+    record {
+      found = f;
+      records = first;
+      parts = one_found ps k po pn there at second;
+      once = asked_mean (Either found sn there pn) worse (lists_told f) (lists_told g) now ask told (rose-either sn ps k po pn found there at) both;
+    }

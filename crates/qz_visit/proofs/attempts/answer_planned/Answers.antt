@@ -1,0 +1,25 @@
+use Rattle.std.proofs.lemmas.Result.{err_from_is_err_and}
+use Rattle.qz_terms.specs.Legal.{IsLegal}
+use Rattle.qz_visit.proofs.Turning.{planned_none, planned_pose, planned_told}
+use Rattle.qz_visit.proofs.attempts.answer_planned.Goals as goal
+
+pub returns-in_err-plan : goal.returns-in_err-plan
+returns-in_err-plan g c =
+    let p = err_from_is_err_and c.from_residual.result c.from_residual.ensures.1 in
+    let i = c.loop.invariant in
+    rw (p.1, p.2) (planned_none c.args.seen.now c.loop.seen c.plan.new.pass c.args.pass.now c.loop.pass c.args.moment c.args.ask.now c.args.user.now c.args.quiz c.args.owner c.args.whole c.in_err-plan.field-0.0 i.0 i.1 i.2 c.in_err-plan.ensures)
+
+pub answer-requires-clause-posed : goal.answer-requires-clause-posed
+answer-requires-clause-posed g c =
+    let i = c.loop.invariant in
+    record {
+      at = λ place keyed.
+          planned_pose c.args.seen.now c.loop.seen c.plan.new.pass c.args.pass.now c.loop.pass place.index place.count c.args.moment c.args.ask.now c.args.user.now c.args.quiz c.args.owner c.args.whole c.in_ok-plan.plan i.0 i.1 (c.requires.may.at place keyed) c.in_ok-plan.ensures;
+    }
+
+pub returns-in-Ok : goal.returns-in-Ok
+returns-in-Ok g c =
+    let i = c.loop.invariant in
+    let place = c.requires.tied.tie.place in
+    planned_told (IsLegal place.index place.count) c.args.seen.now c.loop.seen c.plan.new.pass c.answer.new.seen c.args.pass.now c.loop.pass c.answer.new.pass c.args.moment c.args.ask.now c.args.user.now c.args.quiz c.args.owner c.args.whole c.in_ok-plan.plan c.in-Ok.reply
+    i.0 i.1 c.in_ok-plan.ensures c.answer.ensures.seen (c.in-Ok.ensures.answer.at place c.requires.tied.tie.keyed)

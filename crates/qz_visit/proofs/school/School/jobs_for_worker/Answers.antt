@@ -1,0 +1,17 @@
+use Rattle.std.proofs.Common.{subst}
+use Rattle.qz_catalog.specs.Keeping.{IsTold}
+use Rattle.qz_catalog_turns.specs.Turning.{TurnCalls}
+use Rattle.qz_terms.specs.declared.people.User.{User}
+use Rattle.qz_terms.specs.declared.reply.Reply.TheVariants as reply
+use Rattle.qz_terms.specs.Legal.{IsLegalCatalog}
+use Rattle.qz_visit.proofs.Standing.{some_part}
+use Rattle.qz_visit.proofs.Working.{jobs_visited}
+use Rattle.qz_visit.proofs.school.School.jobs_for_worker.Goals as goal
+
+pub returns : goal.returns
+returns g c =
+    let ps = c.passes.inside.parts.items in
+    let own = rw (← c.passes.view_is, ← c.self.view_is) at c.requires.own in
+    let t = subst (λ (u : User). TurnCalls IsLegalCatalog reply.Refused (IsTold c.args.moment u c.args.ask.now) c.passes.inside.records c.answer.new.pass c.answer.result) c.requires.user c.answer.ensures in
+    rw (← c.passes.view_is) (jobs_visited c.passes.inside.records c.answer.new.pass ps c.args.moment c.args.ask.now c.answer.result
+    (record { some = some_part _ _ c.passes.inside.records ps c.self.invariant own; may = c.requires.asked; caller_is = c.requires.caller; request_is = c.requires.jobs }) t)

@@ -1,0 +1,14 @@
+//! A school whose lists stand behind locks, asked by many at once: each request takes a turn at one list after the other.
+#![tactic(auto)]
+
+mod at_shard;
+mod attempts;
+mod passes;
+mod reports;
+mod school;
+mod steps;
+mod tokens;
+mod workers;
+
+pub use passes::Passes;
+pub use school::School;

@@ -1,0 +1,60 @@
+//! A school behind locks.
+
+ghost use Rattle.qz_solo.specs.Answering.{MayBeAsked};
+ghost use Rattle.qz_visit.specs.Visits.{AreOf, Visited};
+
+use crate::passes::Passes;
+use qz_catalog_turns::Records;
+use qz_disks::Keeper;
+use qz_shard_turns::Part;
+use qz_terms::{Ask, Caller, Reply};
+use qz_turn::Turns;
+use std::alloc::Global;
+use std::marker::Model;
+use std::sync::Wait;
+
+/// A school of 1 to 64 shards that many ask at once. The catalogue and each shard stand behind a lock of their own, so that requests to
+/// different shards don't wait for each other.
+#[derive(Drop)]
+pub struct School<K: Keeper> {
+    pub(crate) records: Turns<Records<K>>,
+    pub(crate) parts: Vec<Turns<Part<K>>>,
+}
+
+impl<K: Keeper> Model for School<K> {
+    ghost use Rattle.qz_visit.specs.Visits.{IsSchool, Locks};
+
+    ghost Value = { Locks };
+
+    ghost view = { λ s. record { records = s.records; parts = s.parts.items } };
+
+    ghost invariant = { λ s. IsSchool s.records s.parts.items };
+}
+
+impl<K: Keeper> School<K> {
+    /// The reply to a request, at this moment by the clock, in seconds since 1970. It waits for its turns.
+    ///
+    /// The reply is the answer over the lists that its passes see then, without the record that the request put. A list that the request
+    /// reads is mended first. `KeepFault` comes only where a keeper failed in a turn of this very request.
+    pub fn ask<R: Wait>(
+        &self,
+        rt: &R,
+        passes: &mut Passes<K>,
+        alloc: Global,
+        ask: &Ask,
+        moment: u64,
+    ) -> Reply
+        requires own { AreOf self.now passes.old }
+        requires asked { MayBeAsked ask.now moment }
+        ensures { Visited passes.old passes.new moment ask.now result }
+    {
+        let told = match &ask.caller {
+            Caller::Token(token) => self.answer_token(rt, passes, alloc, token, ask, moment),
+            Caller::Worker => self.answer_worker(rt, passes, alloc, ask, moment),
+        };
+        match told {
+            Ok(reply) => reply,
+            Err(refusal) => Reply::Refused(refusal),
+        }
+    }
+}
