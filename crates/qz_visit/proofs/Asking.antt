@@ -12,7 +12,7 @@ use Rattle.qz_outside.specs.Causes.{HasRisen}
 use Rattle.qz_serial.specs.Calls.{CatalogAnswers, LookEnds, ShardAnswers, looked, unlooked, unread}
 use Rattle.qz_serial.specs.Once.{AskedOnce}
 use Rattle.qz_serial.specs.Paths.{FindsUser, IsAskable, IsGoing, IsKnown, goes_to_part}
-use Rattle.qz_serial.proofs.Composing.{calls_mean, look_ends, looks_are_calls}
+use Rattle.qz_serial.proofs.Composing.{calls_mean, looks_are_calls}
 use Rattle.qz_serial.proofs.Longer.{staying_law}
 use Rattle.qz_serial.proofs.Seats.{mended_grows, set_get, set_twice}
 use Rattle.qz_serial.proofs.Tokens.{tokens_law}

@@ -30,13 +30,12 @@ use Rattle.qz_terms.specs.Catalog as catalog
 use Rattle.qz_terms.specs.Cause.{forbidden, missing_quiz, missing_user}
 use Rattle.qz_terms.specs.History as history
 use Rattle.qz_terms.specs.Legal.{AllAgree, is_here}
-use Rattle.qz_terms.specs.SchoolAnswer.{first_refusal, part_of}
+use Rattle.qz_terms.specs.SchoolAnswer.{part_of}
 use Rattle.qz_visit.specs.Visits.{IsFoundBy}
 use Rattle.qz_visit.specs.Ways as way
 use Rattle.qz_visit.specs.Ways.{Answered, CameTo, Comes, IsKnownBy, Part, Planned, Seen, Stepped, Tried}
 use Rattle.qz_visit.proofs.Asking.{untold_split, user_on}
 use Rattle.qz_visit.proofs.Passing.{found_after, found_rested, found_sees, found_turned, sees_self}
-use Rattle.qz_visit.proofs.Planning.{quiz_on}
 
 -- a user who was seen is seen still
 seen-user : (so sn : Seen) (ask : Ask) (user : User) → SeesMore so sn → catalog.user_of so.seen.list ask.caller ≡ Some user → catalog.user_of sn.seen.list ask.caller ≡ Some user

@@ -1,23 +1,22 @@
 -- What requests do to passes, and the lists that these tell.
-use Rattle.std.proofs.Common.{◌≡◌, ◌⊎◌, inl, inr, ℕ, ◌<◌, zero, suc, List, [], ◌∷◌, Some, length, map, refl, sym, ap, ◌∙◌, subst, arith}
+use Rattle.std.proofs.Common.{◌≡◌, ◌⊎◌, inl, inr, ℕ, zero, suc, List, [], ◌∷◌, Some, length, map, refl, sym, ap, ◌∙◌, subst}
 use Rattle.std.specs.Prelude.{slice_get, slice_set}
-use Rattle.std.proofs.lemmas.List.{length-map, length-set, map-set}
+use Rattle.std.proofs.lemmas.List.{length-map, map-set}
 use Rattle.std.proofs.lemmas.Option.{slice_get-map}
 use Rattle.qz_catalog_turns.specs.Turning.{TurnCalls, held_of}
 use Rattle.qz_grading.specs.declared.refusal.Refusal.{Refusal}
 use Rattle.qz_outside.specs.Causes.{HasRisen}
 use Rattle.qz_serial.specs.Once.{AskedOnce}
 use Rattle.qz_serial.proofs.Seats.{set_get}
-use Rattle.qz_shard_turns.specs.Tying.{Placed, SeesMore}
+use Rattle.qz_shard_turns.specs.Tying.{SeesMore}
 use Rattle.qz_terms.specs.declared.ask.Ask.{Ask}
 use Rattle.qz_terms.specs.declared.record.Record.{Record}
 use Rattle.qz_terms.specs.declared.reply.Reply.{Reply}
 use Rattle.qz_terms.specs.Serial.{Held, Lists}
 use Rattle.qz_turn.specs.declared.view.Tale.{Tale}
 use Rattle.qz_turn.specs.Passes.{Standing}
-use Rattle.qz_turn.specs.Tales.{Follows}
 use Rattle.qz_turn.proofs.Prefixes.{follows_self, follows_trans}
-use Rattle.qz_visit.specs.Visits.{AreFoundBy, IsFoundBy, Rose, Seats, Tellings, Visited, lists_told, more, none, of_catalog, of_shard, seen_by, seen_in}
+use Rattle.qz_visit.specs.Visits.{AreFoundBy, IsFoundBy, Rose, Seats, Tellings, Visited, lists_told, more, none, of_catalog, of_shard, seen_by}
 use Rattle.qz_visit.specs.Ways.{Part, Seen}
 
 -- ---- one pass

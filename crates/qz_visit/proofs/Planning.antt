@@ -1,5 +1,5 @@
 -- What may be asked of a shard under the plans that a catalogue gives, whatever the two lists have grown to.
-use Rattle.std.proofs.Common.{◌≡◌, ℕ, Bool, true, false, List, [], ◌++◌, Option, Some, None, is_some, refl, sym, subst}
+use Rattle.std.proofs.Common.{◌≡◌, ℕ, Bool, true, false, List, [], Option, Some, None, is_some, refl, sym, subst}
 use mathlib.Core.List.{IsPrefix}
 use Rattle.qz_catalog.specs.Keeping.{IsPlan}
 use Rattle.qz_grading.specs.declared.refusal.AttemptId.{AttemptId}

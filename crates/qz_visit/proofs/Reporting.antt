@@ -1,25 +1,22 @@
 -- How a report comes out, by what the turns at the catalogue and at each shard came to.
-use Rattle.std.proofs.Common.{◌≡◌, ◌⊎◌, inl, inr, ℕ, zero, suc, ◌+◌, ◌<◌, ◌≤◌, List, [], ◌∷◌, ◌++◌, Option, Some, None, Result, Ok, Err, map, length, take, refl, sym, ap, ◌∙◌, subst, append-nil, append_assoc, arith}
+use Rattle.std.proofs.Common.{◌≡◌, ◌⊎◌, inl, inr, ℕ, zero, suc, ◌+◌, ◌<◌, List, [], ◌∷◌, ◌++◌, Option, Some, None, Result, Ok, Err, map, length, take, refl, sym, ap, ◌∙◌, subst, append-nil, append_assoc, arith}
 use Rattle.std.specs.List.{AllZip}
 use Rattle.std.specs.Prelude.{ℤ, flat_map, slice_get, slice_set}
 use Rattle.std.proofs.lemmas.List.{length-map, length-set, map-set, take_all}
-use Rattle.std.proofs.lemmas.List.Elements.{length_all_zip}
 use Rattle.std.proofs.lemmas.Option.{slice_get-map, slice_get_within}
 use Rattle.qz_catalog_turns.specs.Headings.{IsHeading, TellsHeading}
 use Rattle.qz_catalog_turns.specs.Turning.{TurnCalls, held_of}
 use Rattle.qz_catalog_turns.specs.declared.questions.Heading.{Heading}
 use Rattle.qz_grading.specs.declared.refusal.Refusal.{Refusal}
 use Rattle.qz_grading.specs.declared.refusal.Refusal.TheVariants as refusal
-use Rattle.qz_keeper.specs.Lists.{IsSettled, Looks, OneCall}
+use Rattle.qz_keeper.specs.Lists.{IsSettled, Looks}
 use Rattle.qz_outside.specs.Causes.{HasRisen}
 use Rattle.qz_serial.specs.Once.{AskedOnce}
-use Rattle.qz_serial.specs.Paths.{IsKnown}
 use Rattle.qz_serial.specs.Reports.{IsReporting, MendedUpTo}
-use Rattle.qz_serial.proofs.Composing.{calls_mean, look_ends}
+use Rattle.qz_serial.proofs.Composing.{look_ends}
 use Rattle.qz_serial.proofs.Reports.{one_more, reports_law}
 use Rattle.qz_serial.proofs.Seats.{set_apart, set_get, set_twice}
 use Rattle.qz_shard.specs.Keeping.{TellsRows}
-use Rattle.qz_shard_turns.specs.Tying.{Placed}
 use Rattle.qz_solo.specs.Answering.{MayBeAsked}
 use Rattle.qz_solo.specs.Reports.{all_rows, named_row, rows_in, rows_in_order}
 use Rattle.qz_solo.proofs.Calls.{look_told}
@@ -33,17 +30,15 @@ use Rattle.qz_terms.specs.declared.reply.Done.TheVariants as done
 use Rattle.qz_terms.specs.declared.reply.Reply.{Reply}
 use Rattle.qz_terms.specs.declared.reply.Reply.TheVariants as reply
 use Rattle.qz_terms.specs.declared.reply.Row.{Row}
-use Rattle.qz_terms.specs.declared.request.Request.{Request}
 use Rattle.qz_terms.specs.declared.request.Request.TheVariants as request
-use Rattle.qz_terms.specs.Catalog as catalog
 use Rattle.qz_terms.specs.Cause.{forbidden, missing_quiz}
 use Rattle.qz_terms.specs.Legal.{IsLegal, IsLegalCatalog}
-use Rattle.qz_terms.specs.SchoolAnswer.{refusal_among, report_answer}
+use Rattle.qz_terms.specs.SchoolAnswer.{refusal_among}
 use Rattle.qz_terms.specs.Serial.{Held, Mended, lists_of, stays}
 use Rattle.qz_turn.specs.declared.view.Tale.{Tale}
 use Rattle.qz_visit.specs.Reports.{PartsRead, RowsAre, RowsStop, short, untold}
 use Rattle.qz_visit.specs.Tokens.{IsKnownTo}
-use Rattle.qz_visit.specs.Visits.{AreFoundBy, IsFoundBy, Rose, Tellings, Visited, lists_told, more, none, of_shard, seen_by, seen_in}
+use Rattle.qz_visit.specs.Visits.{AreFoundBy, IsFoundBy, Rose, Tellings, Visited, lists_told, more, none, of_shard, seen_by}
 use Rattle.qz_visit.specs.Ways.{Part, Seen}
 use Rattle.qz_visit.proofs.Asking.{askable, user_on, untold_split}
 use Rattle.qz_visit.proofs.Asking as asking

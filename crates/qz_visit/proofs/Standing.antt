@@ -1,5 +1,5 @@
 -- A school's locks and passes, one shard's at a time, and what came of a request there.
-use Rattle.std.proofs.Common.{◌≡◌, inl, inr, ℕ, ◌<◌, ◌≤◌, List, Option, Some, None, Result, Ok, Err, MatchResult, length, get_or, refl, sym, ap, ◌∙◌, subst}
+use Rattle.std.proofs.Common.{◌≡◌, inl, inr, ℕ, ◌<◌, ◌≤◌, List, Some, None, Result, Ok, Err, MatchResult, length, get_or, refl, sym, ◌∙◌, subst}
 use Rattle.std.specs.Prelude.{slice_get, slice_set}
 use Rattle.std.proofs.lemmas.List.{length-set}
 use Rattle.std.proofs.lemmas.Option.{slice_get_read}
@@ -142,8 +142,8 @@ at_set ls ps k po pn at there sees = record {
   count = length-set ps k pn ∙ at.count;
   own = λ j l q lock pass. elim (get_set ps k j pn q pass) [
     | inl both ↦
-      let own = at.own k l po (subst (λ (i : ℕ). slice_get ls i ≡ Some l) both.0 lock) there in
-      subst (IsOf l.lock) both.1 (record { own = sees.lock ∙ own.own; numbered = λ none. own.numbered (sym sees.numbers ∙ none) })
+        let own = at.own k l po (subst (λ (i : ℕ). slice_get ls i ≡ Some l) both.0 lock) there in
+        subst (IsOf l.lock) both.1 (record { own = sees.lock ∙ own.own; numbered = λ none. own.numbered (sym sees.numbers ∙ none) })
     | inr other ↦ at.own j l q lock other
   ];
   placed = at.placed;

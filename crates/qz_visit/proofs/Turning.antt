@@ -1,11 +1,10 @@
 -- What the turns of one request at the catalogue and at one shard came to, put together.
 use Rattle.std.proofs.Common.{◌≡◌, ℕ, Bool, List, Option, None, Some, Result, Ok, Err, MatchResult, false, length, refl, sym, ap, ◌∙◌, subst}
-use mathlib.Core.List.{IsPrefix}
-use Rattle.qz_catalog.specs.Keeping.{IsJob, IsPlan, TellsJob, TellsPlan}
+use Rattle.qz_catalog.specs.Keeping.{TellsJob, TellsPlan}
 use Rattle.qz_catalog_turns.specs.Turning.{TurnCalls, held_of}
 use Rattle.qz_grading.specs.declared.refusal.AttemptId.{AttemptId}
 use Rattle.qz_grading.specs.declared.refusal.Refusal.{Refusal}
-use Rattle.qz_keeper.specs.Lists.{IsSettled, Looks}
+use Rattle.qz_keeper.specs.Lists.{Looks}
 use Rattle.qz_outside.specs.Causes.{HasRisen}
 use Rattle.qz_serial.specs.Calls.{ShardAnswers}
 use Rattle.qz_serial.proofs.Composing.{look_ends, looks_are_calls}

@@ -1,5 +1,5 @@
 -- How a worker's requests come out, by what the turns at single lists came to.
-use Rattle.std.proofs.Common.{◌≡◌, ◌⊎◌, inl, inr, ℕ, ◌<◌, ◌≤◌, ◌%◌, true, false, List, Option, Some, None, Result, Ok, Err, length, option_map, is_some, refl, sym, ap, ◌∙◌, subst}
+use Rattle.std.proofs.Common.{◌≡◌, inl, inr, ℕ, ◌<◌, ◌≤◌, ◌%◌, true, false, List, Option, Some, None, Result, Ok, Err, length, option_map, is_some, refl, sym, ap, ◌∙◌, subst}
 use Rattle.std.specs.Prelude.{slice_get, slice_set}
 use Rattle.qz_catalog.specs.Keeping as records
 use Rattle.qz_catalog_turns.specs.Turning.{TurnCalls, held_of}
@@ -11,7 +11,7 @@ use Rattle.qz_keeper.specs.Lists.{IsSettled, Looks, OneCall}
 use Rattle.qz_outside.specs.Causes.{HasRisen}
 use Rattle.qz_serial.specs.Calls.{CatalogAnswers, LookEnds, ShardAnswers}
 use Rattle.qz_serial.specs.Once.{AskedOnce}
-use Rattle.qz_serial.specs.Workers.{FindsJob, FindsPlan, FindsQuiz, IsWorkers}
+use Rattle.qz_serial.specs.Workers.{FindsJob, FindsPlan, IsWorkers}
 use Rattle.qz_serial.proofs.Acting.{asked_once}
 use Rattle.qz_serial.proofs.Composing.{calls_mean, look_ends, looks_are_calls}
 use Rattle.qz_serial.proofs.Seats.{all_stay, mended_grows, set_get, set_twice}
@@ -38,13 +38,12 @@ use Rattle.qz_terms.specs.Cause.{forbidden, may_ask, missing_in, rule_of}
 use Rattle.qz_terms.specs.History as history
 use Rattle.qz_terms.specs.Legal.{AllAgree, IsLegalCatalog}
 use Rattle.qz_terms.specs.Serial.{Asks, Held, no_memory, stays}
-use Rattle.qz_turn.specs.declared.view.Tale.{Tale}
 use Rattle.qz_visit.specs.Visits.{IsFoundBy, Visited}
 use Rattle.qz_visit.specs.Ways as way
 use Rattle.qz_visit.specs.Ways.{Answered, Part, Planned, Seen, Stepped, Tried}
 use Rattle.qz_visit.proofs.Asking.{Split, askable, count_set, lost, lost_as, reply_is, split, untold_split, whole}
 use Rattle.qz_visit.proofs.Coming.{no_missing, step_answer}
-use Rattle.qz_visit.proofs.Passing.{Either, asked_mean, count_helds, found_after, found_rested, found_sees, found_turned, held_there, helds, lists, seats, sees_on, sees_self, visited_both, visited_records, visited_still}
+use Rattle.qz_visit.proofs.Passing.{Either, asked_mean, count_helds, found_after, found_rested, found_sees, found_turned, held_there, helds, lists, seats, sees_self, visited_both, visited_records, visited_still}
 use Rattle.qz_visit.proofs.Planning.{quiz_on}
 
 -- a worker asks this

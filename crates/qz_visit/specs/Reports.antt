@@ -1,5 +1,5 @@
 -- A report: what reading the shards in turn, each once, comes to.
-use Rattle.std.specs.Prelude.{◌≡◌, ◌≢◌, ℕ, ◌<◌, ℤ, List, length, map, take, slice_get, slice_set, Option, Some, Err}
+use Rattle.std.specs.Prelude.{◌≡◌, ℕ, ◌<◌, ℤ, List, length, map, slice_get, slice_set, Option, Some, Err}
 use Rattle.qz_catalog_turns.specs.Turning.{held_of}
 use Rattle.qz_grading.specs.declared.refusal.Refusal.{Refusal}
 use Rattle.qz_grading.specs.declared.refusal.Refusal.TheVariants as refusal
@@ -15,7 +15,7 @@ use Rattle.qz_terms.specs.Legal.{IsLegal}
 use Rattle.qz_terms.specs.Serial.{lists_of}
 use Rattle.qz_turn.specs.declared.view.Tale.{Tale}
 use Rattle.qz_turn.specs.Turns.{Locked}
-use Rattle.qz_visit.specs.Visits.{AreFoundBy, IsFoundBy, IsOf, IsPlaced, seen_by}
+use Rattle.qz_visit.specs.Visits.{AreFoundBy, IsFoundBy, IsOf, seen_by}
 use Rattle.qz_visit.specs.Ways.{Part}
 
 -- The locks of a school's shards in order, and a pass of each, with a number.

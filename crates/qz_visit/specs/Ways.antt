@@ -1,5 +1,5 @@
 -- What requests come to at the catalogue and at one shard, as the two passes that took the turns tell: `so` and `po` before, `sn` and `pn` after.
-use Rattle.std.specs.Prelude.{◌≡◌, ◌≢◌, ℕ, Bool, true, false, List, [], None, Some, Result, Err, MatchResult}
+use Rattle.std.specs.Prelude.{◌≡◌, ℕ, Bool, true, false, List, None, Some, Result, Err, MatchResult}
 use mathlib.Core.List.{IsPrefix}
 use Rattle.qz_catalog.specs.Keeping.{IsJob, IsPlan, TellsJob, TellsPlan}
 use Rattle.qz_catalog_turns.specs.Turning.{held_of}

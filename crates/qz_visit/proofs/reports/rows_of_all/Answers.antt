@@ -5,7 +5,7 @@ use Rattle.qz_terms.specs.Legal.{IsLegal}
 use Rattle.qz_visit.specs.Reports.{short, untold}
 use Rattle.qz_visit.specs.Visits.{seen_by}
 use Rattle.qz_visit.proofs.Passing.{found_turned, turn_sees}
-use Rattle.qz_visit.proofs.Reporting.{read_more, read_none, rows_more, rows_whole}
+use Rattle.qz_visit.proofs.Reporting.{read_more, read_none, rows_more}
 use Rattle.qz_visit.proofs.Standing.{at_set, there_at, turn_at}
 use Rattle.qz_visit.proofs.reports.rows_of_all.Goals as goal
 

@@ -1,4 +1,4 @@
-use Rattle.std.proofs.Common.{◌≤◌, ℕ, length, sym, subst}
+use Rattle.std.proofs.Common.{◌≤◌, ℕ, sym, subst}
 use Rattle.std.proofs.lemmas.Result.{err_from_is_err_and}
 use Rattle.qz_visit.proofs.Standing.{some_part, step_untold, step_visited}
 use Rattle.qz_visit.proofs.school.School.step_nowhere.Goals as goal

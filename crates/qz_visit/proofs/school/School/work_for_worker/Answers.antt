@@ -1,4 +1,4 @@
-use Rattle.std.proofs.Common.{◌≡◌, ◌<◌, ℕ, length, sym, ap, ◌∙◌, subst, arith}
+use Rattle.std.proofs.Common.{◌<◌, ℕ, length, sym, ap, ◌∙◌, subst, arith}
 use Rattle.qz_terms.specs.declared.request.Request.TheVariants as request
 use Rattle.qz_visit.proofs.Standing.{some_part, there_at, tied_at, work_visits}
 use Rattle.qz_visit.proofs.school.School.work_for_worker.Goals as goal
