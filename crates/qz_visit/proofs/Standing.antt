@@ -1,5 +1,5 @@
 -- A school's locks and passes, one shard's at a time, and what came of a request there.
-use Rattle.std.proofs.Common.{◌≡◌, inl, inr, ℕ, ◌<◌, ◌≤◌, List, Some, None, Result, Ok, Err, MatchResult, length, get_or, refl, sym, ◌∙◌, subst}
+use Rattle.std.proofs.Common.{◌≡◌, inl, inr, ℕ, zero, suc, ◌<◌, ◌≤◌, List, Some, None, Result, Ok, Err, MatchResult, length, get_or, refl, sym, ap, ◌∙◌, subst}
 use Rattle.std.specs.Prelude.{slice_get, slice_set}
 use Rattle.std.proofs.lemmas.List.{length-set}
 use Rattle.std.proofs.lemmas.Option.{slice_get_read}
@@ -29,14 +29,16 @@ use Rattle.qz_terms.specs.Catalog.{worker}
 use Rattle.qz_terms.specs.Cause.{forbidden}
 use Rattle.qz_terms.specs.Legal.{IsLegal, IsLegalCatalog}
 use Rattle.qz_terms.specs.SchoolAnswer.{part_of}
-use Rattle.qz_turn.specs.Passes.{Lock}
+use Rattle.qz_turn.specs.declared.view.Tale.{Tale}
+use Rattle.qz_turn.specs.Passes.{Lock, Standing}
 use Rattle.qz_turn.specs.Turns.{Locked, UnderKey}
 use Rattle.qz_visit.specs.Reports.{AreAt}
 use Rattle.qz_visit.specs.Tokens.{IsBeyond, IsKnownTo, going, step}
-use Rattle.qz_visit.specs.Visits.{AreOf, IsOf, IsPlaced, IsSchool, Locks, Seats, Visited, Visits}
+use Rattle.qz_visit.specs.Visits.{AreFoundBy, AreOf, IsOf, IsPlaced, IsSchool, Locks, Seats, Visited, Visits, more, none}
 use Rattle.qz_visit.specs.Ways.{AreTied, Comes, Part, Seen, Stepped, Tried}
 use Rattle.qz_visit.proofs.Asking.{GoesTo, among_visited, came_visited, unlooked_visited, untold_split}
 use Rattle.qz_visit.proofs.Passing.{found_after, found_turned, seats}
+use Rattle.qz_visit.proofs.Reporting.{count_found}
 use Rattle.qz_visit.proofs.Working.{Settles, Works, settle_visited, work_visited}
 
 abbrev pub locks : Locked (Unit {0}) → List (Locked Placed) → Locks
@@ -154,3 +156,24 @@ pub turn_at : {A : Type 0} (refused : Refusal → A) (Answers : List Record → 
     → TurnCalls (IsLegal i n) refused Answers old new told
 turn_at refused Answers place i n old new told index_is count_is t =
     subst (λ (j : ℕ). TurnCalls (IsLegal j n) refused Answers old new told) index_is (subst (λ (m : ℕ). TurnCalls (IsLegal place.index m) refused Answers old new told) count_is t)
+
+-- ---- the passes stay the school's
+
+found-there : (os ns : List Part) (fs : List (Tale Record)) (k : ℕ) (n : Part) → AreFoundBy os ns fs → slice_get ns k ≡ Some n → (o : Part) × ((slice_get os k ≡ Some o) × ((n.numbers ≡ o.numbers) × (n.lock ≡ o.lock)))
+found-there _ _ _ k n none at = absurd cc
+found-there _ _ _ zero n (more o x f os ns fs one rest) at =
+    let same : x ≡ n = cc in
+    (o, (refl, (ap (λ (p : Part). p.numbers) (sym same) ∙ one.numbers, ap (λ (p : Part). p.lock) (sym same) ∙ one.lock)))
+found-there _ _ _ (suc k) n (more o x f os ns fs one rest) at = found-there os ns fs k n rest at
+
+of-still : {K : Type 0} (lock : Lock K) (old new : Standing Record K) → IsOf lock old → new.numbers ≡ old.numbers → new.lock ≡ old.lock → IsOf lock new
+of-still lock old new own numbers lock_is = record { own = lock_is ∙ own.own; numbered = λ none. own.numbered (sym numbers ∙ none) }
+
+pub still_of : (s : Locks) (old new : Seats) (now : ℕ) (ask : Ask) (told : Reply) → AreOf s old → Visited old new now ask told → AreOf s new
+still_of s old new now ask told own v = record {
+  records = of-still s.records.lock old.records new.records own.records v.records.numbers v.records.lock;
+  count = count_found old.parts new.parts v.found.parts v.parts ∙ own.count;
+  parts = λ k l q lock pass.
+      let o = found-there old.parts new.parts v.found.parts k q v.parts pass in
+      of-still l.lock o.0 q (own.parts k l o.0 lock o.1.0) o.1.1.0 o.1.1.1;
+}

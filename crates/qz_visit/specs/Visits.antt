@@ -1,5 +1,5 @@
 -- A school behind locks as one who asks it sees it: a pass of each lock, what a request found of each list, and what it came to.
-use Rattle.std.specs.Prelude.{◌≡◌, ◌≢◌, ◌⊎◌, ℕ, ◌<◌, List, [], ◌∷◌, length, map, slice_get, Some, Result, MatchResult}
+use Rattle.std.specs.Prelude.{◌≡◌, ◌≢◌, ◌⊎◌, ℕ, ◌+◌, ◌<◌, List, [], ◌∷◌, length, map, slice_get, sum_by, Some, Result, MatchResult}
 use Rattle.qz_catalog_turns.specs.Turning.{held_of}
 use Rattle.qz_grading.specs.declared.refusal.Refusal.{Refusal}
 use Rattle.qz_outside.specs.Causes.{HasRisen}
@@ -101,3 +101,14 @@ pub record Visited (old new : Seats) (now : ℕ) (ask : Ask) (told : Reply) : Ty
 -- of an answer whose error is a refusal
 abbrev pub Visits : Seats → Seats → ℕ → Ask → Result Reply Refusal → Type 0
 Visits old new now ask result = MatchResult result (Visited old new now ask) (λ r. Visited old new now ask (reply.Refused r))
+
+-- ---- one who asks
+
+-- a school, and the passes of one who asks it
+pub record Visitor : Type 0 where
+  pub school : Locks
+  pub passes : Seats
+
+-- how often the keepers of the lists had failed, in all, when the passes last saw them
+abbrev pub faults_seen : Seats → ℕ
+faults_seen p = p.records.seen.faults + sum_by (λ q. q.seen.faults) p.parts

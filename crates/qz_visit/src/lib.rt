@@ -8,7 +8,9 @@ mod reports;
 mod school;
 mod steps;
 mod tokens;
+mod visit;
 mod workers;
 
 pub use passes::Passes;
 pub use school::School;
+pub use visit::Visit;
