@@ -6,3 +6,4 @@ pub mod Turning
 pub mod Working
 pub mod Reporting
 pub mod Standing
+pub mod Closed

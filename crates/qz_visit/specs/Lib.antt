@@ -2,3 +2,4 @@ pub mod Visits
 pub mod Ways
 pub mod Tokens
 pub mod Reports
+pub mod Closing

@@ -3,6 +3,7 @@
 
 mod at_shard;
 mod attempts;
+mod closing;
 mod passes;
 mod reports;
 mod school;

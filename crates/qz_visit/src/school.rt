@@ -6,6 +6,7 @@ ghost use Rattle.qz_visit.specs.Visits.{AreOf, Visited};
 use crate::passes::Passes;
 use qz_catalog_turns::Records;
 use qz_disks::Keeper;
+use qz_shard::Shard;
 use qz_shard_turns::Part;
 use qz_terms::{Ask, Caller, Reply};
 use qz_turn::Turns;
@@ -19,16 +20,20 @@ use std::sync::Wait;
 pub struct School<K: Keeper> {
     pub(crate) records: Turns<Records<K>>,
     pub(crate) parts: Vec<Turns<Part<K>>>,
+    /// Where the shards stand once the school is closed.
+    pub(crate) room: Vec<Shard<K>>,
 }
 
 impl<K: Keeper> Model for School<K> {
+    ghost use Rattle.std.specs.Prelude.{◌≡◌, ◌≤◌, [], vec_len, vec_capacity};
     ghost use Rattle.qz_visit.specs.Visits.{IsSchool, Locks};
 
     ghost Value = { Locks };
 
     ghost view = { λ s. record { records = s.records; parts = s.parts.items } };
 
-    ghost invariant = { λ s. IsSchool s.records s.parts.items };
+    ghost invariant = { λ s. (IsSchool s.records s.parts.items) × (s.room.items ≡ [])
+        × (vec_len s.parts ≤ vec_capacity s.room) };
 }
 
 impl<K: Keeper> School<K> {

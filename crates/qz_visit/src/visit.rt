@@ -68,6 +68,7 @@ impl<'s, 'r, K: Keeper, R: Wait> Desk for Visit<'s, 'r, K, R> {
     ghost answers = { λ a b now ask told. (b.school ≡ a.school) × (Visited a.passes b.passes now ask told) };
 
     fn ask(&mut self, alloc: Global, ask: &Ask, moment: u64) -> Reply {
-        self.school.ask(self.rt, &mut self.passes, alloc, ask, moment)
+        self.school
+            .ask(self.rt, &mut self.passes, alloc, ask, moment)
     }
 }

@@ -11,5 +11,5 @@ returns g c =
     let p = c.args.passes.now in
     let own = rw (← c.self.view_is) at c.requires.own in
     let beyond : IsBeyond (length c.self.inside.parts.items) c.args.ask.now.request = rw (← c.self.view_is) at c.requires.beyond in
-    going_visited p.records p.parts c.args.moment c.args.ask.now c.args.user.now (some_part _ _ p.records p.parts c.self.invariant own) c.requires.asked c.requires.known c.requires.may
+    going_visited p.records p.parts c.args.moment c.args.ask.now c.args.user.now (some_part _ _ p.records p.parts c.self.invariant.0 own) c.requires.asked c.requires.known c.requires.may
     (subst (λ (n : ℕ). IsBeyond n c.args.ask.now.request) (sym own.count) beyond) c.in_default.not-Work

@@ -9,7 +9,7 @@ returns-in_err-user g c =
     let p = err_from_is_err_and c.from_residual.result c.from_residual.ensures.1 in
     let ps = c.passes.inside.parts.items in
     let own = rw (← c.passes.view_is, ← c.self.view_is) at c.requires.own in
-    rw (p.1, p.2, ← c.passes.view_is) (user_untold c.passes.inside.records c.user.new.pass ps c.args.moment c.args.ask.now c.args.token.now c.in_err-user.field-0.0 (some_part _ _ c.passes.inside.records ps c.self.invariant own) c.requires.asked c.requires.caller c.in_err-user.ensures)
+    rw (p.1, p.2, ← c.passes.view_is) (user_untold c.passes.inside.records c.user.new.pass ps c.args.moment c.args.ask.now c.args.token.now c.in_err-user.field-0.0 (some_part _ _ c.passes.inside.records ps c.self.invariant.0 own) c.requires.asked c.requires.caller c.in_err-user.ensures)
 
 pub returns : goal.returns
 returns g c =

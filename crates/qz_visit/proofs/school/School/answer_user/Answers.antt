@@ -8,7 +8,7 @@ pub returns-in-Some : goal.returns-in-Some
 returns-in-Some g c =
     let p = c.args.passes.now in
     let own = rw (← c.self.view_is) at c.requires.own in
-    forbidden_visited p.records p.parts c.args.moment c.args.ask.now c.args.user.now c.in-Some.refusal (some_part _ _ p.records p.parts c.self.invariant own) c.requires.asked c.requires.known (sym c.if-asks_catalog.ensures) (sym c.in-Some.ensures)
+    forbidden_visited p.records p.parts c.args.moment c.args.ask.now c.args.user.now c.in-Some.refusal (some_part _ _ p.records p.parts c.self.invariant.0 own) c.requires.asked c.requires.known (sym c.if-asks_catalog.ensures) (sym c.in-Some.ensures)
 
 pub answer_nowhere-requires : goal.answer_nowhere-requires
 answer_nowhere-requires g c =

@@ -14,4 +14,4 @@ returns g c =
     let own = rw (← c.passes.view_is, ← c.self.view_is) at c.requires.own in
     let t = subst (λ (u : User). TurnCalls IsLegalCatalog reply.Refused (IsTold c.args.moment u c.args.ask.now) c.passes.inside.records c.answer.new.pass c.answer.result) c.requires.user c.answer.ensures in
     rw (← c.passes.view_is) (jobs_visited c.passes.inside.records c.answer.new.pass ps c.args.moment c.args.ask.now c.answer.result
-    (record { some = some_part _ _ c.passes.inside.records ps c.self.invariant own; may = c.requires.asked; caller_is = c.requires.caller; request_is = c.requires.jobs }) t)
+    (record { some = some_part _ _ c.passes.inside.records ps c.self.invariant.0 own; may = c.requires.asked; caller_is = c.requires.caller; request_is = c.requires.jobs }) t)

@@ -15,7 +15,7 @@ returns-in_err-index g c =
     let long = c.len.ensures in
     let beyond = missing.0 in
     let past : length c.self.inside.parts.items ≤ c.args.shard = omega (arith, long, beyond) in
-    rw (q.1, q.2) (nowhere_visited p.records p.parts c.args.moment c.args.ask.now c.args.shard c.args.attempt c.in_err-index.field-0.0 (record { some = some_part _ _ p.records p.parts c.self.invariant own; may = c.requires.asked; caller_is = c.requires.caller; request_is = c.requires.live })
+    rw (q.1, q.2) (nowhere_visited p.records p.parts c.args.moment c.args.ask.now c.args.shard c.args.attempt c.in_err-index.field-0.0 (record { some = some_part _ _ p.records p.parts c.self.invariant.0 own; may = c.requires.asked; caller_is = c.requires.caller; request_is = c.requires.live })
     (subst (λ (n : ℕ). n ≤ c.args.shard) (sym own.count) past, missing.1))
 
 pub answer_live-requires : goal.answer_live-requires
@@ -42,7 +42,7 @@ returns g c =
     let within = there.1 in
     let long = c.len.ensures in
     let inside : k < length ls = omega (arith, at, within, long) in
-    let placed = c.self.invariant.placed k c.index.result.now (there_at ls k c.index.result.now inside c.index.ensures) in
+    let placed = c.self.invariant.0.placed k c.index.result.now (there_at ls k c.index.result.now inside c.index.ensures) in
     rw (← c.passes.view_is) (live_visited (IsLegal placed.place.index placed.place.count) c.passes.inside.records ps k c.index_mut-pass.result.now c.answer_live.new.pass c.args.moment c.args.ask.now c.args.attempt c.answer_live.result
     (there_at ps k c.index_mut-pass.result.now (subst (λ (n : ℕ). k < n) (sym own.count) inside) c.index_mut-pass.ensures.value)
-    (record { some = some_part _ _ c.passes.inside.records ps c.self.invariant own; may = c.requires.asked; caller_is = c.requires.caller; request_is = c.requires.live ∙ ap (λ (n : ℕ). request.Live n c.args.attempt) (sym at) }) (c.answer_live.ensures.at placed.place placed.keyed))
+    (record { some = some_part _ _ c.passes.inside.records ps c.self.invariant.0 own; may = c.requires.asked; caller_is = c.requires.caller; request_is = c.requires.live ∙ ap (λ (n : ℕ). request.Live n c.args.attempt) (sym at) }) (c.answer_live.ensures.at placed.place placed.keyed))

@@ -14,13 +14,13 @@ returns-in_err-heading g c =
     let p = err_from_is_err_and c.from_residual.result c.from_residual.ensures.1 in
     let ps = c.passes.inside.parts.items in
     let own = rw (← c.passes.view_is, ← c.self.view_is) at c.requires.own in
-    rw (p.1, p.2, ← c.passes.view_is) (headless_report c.passes.inside.records c.heading.new.pass ps c.args.moment c.args.ask.now c.args._user.now c.args.quiz c.in_err-heading.field-0.0 (some_part _ _ c.passes.inside.records ps c.self.invariant own) c.requires.asked
+    rw (p.1, p.2, ← c.passes.view_is) (headless_report c.passes.inside.records c.heading.new.pass ps c.args.moment c.args.ask.now c.args._user.now c.args.quiz c.in_err-heading.field-0.0 (some_part _ _ c.passes.inside.records ps c.self.invariant.0 own) c.requires.asked
     (rw (← c.passes.view_is) at c.requires.known) c.requires.report c.requires.may c.in_err-heading.ensures)
 
 pub rows_of_all-requires-clause-own : goal.rows_of_all-requires-clause-own
 rows_of_all-requires-clause-own g c =
     let own = rw (← c.passes.view_is, ← c.self.view_is) at c.requires.own in
-    all_at c.self.inside.records c.self.inside.parts.items c.passes.inside.records c.passes.inside.parts.items c.self.invariant own
+    all_at c.self.inside.records c.self.inside.parts.items c.passes.inside.records c.passes.inside.parts.items c.self.invariant.0 own
 
 pub returns-in_err-all : goal.returns-in_err-all
 returns-in_err-all g c =
@@ -33,7 +33,7 @@ returns-in_err-all g c =
     let t = c.in_ok-heading.ensures in
     let told = look_told (HasRisen sn.found.faults sn.seen.faults) (TellsHeading c.args.quiz) (held_of sn.found) (held_of sn.seen) c.in_ok-heading.heading t.calls.call in
     let w : Reports so sn ps c.args.ask.now c.args.moment c.args._user.now c.args.quiz = record {
-      some = some_part _ _ so ps c.self.invariant own;
+      some = some_part _ _ so ps c.self.invariant.0 own;
       may = c.requires.asked;
       known = known;
       request_is = c.requires.report;
@@ -55,7 +55,7 @@ returns-in_err-rows g c =
     let t = c.in_ok-heading.ensures in
     let told = look_told (HasRisen sn.found.faults sn.seen.faults) (TellsHeading c.args.quiz) (held_of sn.found) (held_of sn.seen) c.in_ok-heading.heading t.calls.call in
     let w : Reports so sn ps c.args.ask.now c.args.moment c.args._user.now c.args.quiz = record {
-      some = some_part _ _ so ps c.self.invariant own;
+      some = some_part _ _ so ps c.self.invariant.0 own;
       may = c.requires.asked;
       known = known;
       request_is = c.requires.report;
@@ -77,7 +77,7 @@ returns g c =
     let t = c.in_ok-heading.ensures in
     let told = look_told (HasRisen sn.found.faults sn.seen.faults) (TellsHeading c.args.quiz) (held_of sn.found) (held_of sn.seen) c.in_ok-heading.heading t.calls.call in
     let w : Reports so sn ps c.args.ask.now c.args.moment c.args._user.now c.args.quiz = record {
-      some = some_part _ _ so ps c.self.invariant own;
+      some = some_part _ _ so ps c.self.invariant.0 own;
       may = c.requires.asked;
       known = known;
       request_is = c.requires.report;

@@ -8,11 +8,11 @@ answer_attempt-requires-clause-tied g c =
     let ps = c.passes.inside.parts.items in
     let k = c.args.attempt.user % c.len.result in
     let own = rw (← c.passes.view_is, ← c.self.view_is) at c.requires.own in
-    let some = c.self.invariant.some in
+    let some = c.self.invariant.0.some in
     let told = c.len.ensures in
     let long : c.len.result ≡ length ls = omega (arith, told) in
     let inside : k < length ls = omega (arith, some, long) in
-    tied_at c.self.inside.records ls c.passes.inside.records ps k c.index.result.now c.index_mut.result.now c.self.invariant own (there_at ls k c.index.result.now inside c.index.ensures) (there_at ps k c.index_mut.result.now (subst (λ (n : ℕ). k < n) (sym own.count) inside) c.index_mut.ensures.value)
+    tied_at c.self.inside.records ls c.passes.inside.records ps k c.index.result.now c.index_mut.result.now c.self.invariant.0 own (there_at ls k c.index.result.now inside c.index.ensures) (there_at ps k c.index_mut.result.now (subst (λ (n : ℕ). k < n) (sym own.count) inside) c.index_mut.ensures.value)
 
 pub returns : goal.returns
 returns g c =
@@ -20,13 +20,13 @@ returns g c =
     let ps = c.passes.inside.parts.items in
     let k = c.args.attempt.user % c.len.result in
     let own = rw (← c.passes.view_is, ← c.self.view_is) at c.requires.own in
-    let some = c.self.invariant.some in
+    let some = c.self.invariant.0.some in
     let told = c.len.ensures in
     let long : c.len.result ≡ length ls = omega (arith, told) in
     let inside : k < length ls = omega (arith, some, long) in
     rw (← c.passes.view_is) (settle_visits c.passes.inside.records c.answer_attempt.new.seen ps k c.index_mut.result.now c.answer_attempt.new.pass c.args.moment c.args.ask.now c.args.user.now c.args.attempt c.answer_attempt.result c.requires.user
     (record {
-      works = record { some = some_part _ _ c.passes.inside.records ps c.self.invariant own; may = c.requires.asked; caller_is = c.requires.caller; request_is = c.requires.settle };
+      works = record { some = some_part _ _ c.passes.inside.records ps c.self.invariant.0 own; may = c.requires.asked; caller_is = c.requires.caller; request_is = c.requires.settle };
       place = ap (λ (n : ℕ). c.args.attempt.user % n) (own.count ∙ sym long);
       there = there_at ps k c.index_mut.result.now (subst (λ (n : ℕ). k < n) (sym own.count) inside) c.index_mut.ensures.value;
     }) c.answer_attempt.ensures)

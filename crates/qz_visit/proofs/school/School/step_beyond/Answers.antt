@@ -10,7 +10,7 @@ returns-in_err-job g c =
     let ps = c.passes.inside.parts.items in
     let own = rw (← c.passes.view_is, ← c.self.view_is) at c.requires.own in
     rw (p.1, p.2, ← c.passes.view_is) (jobless_visited c.passes.inside.records c.job.new.pass ps c.args.moment c.args.ask.now c.args.number c.args.shard c.in_err-job.field-0.0
-    (record { some = some_part _ _ c.passes.inside.records ps c.self.invariant own; may = c.requires.asked; caller_is = c.requires.caller; request_is = c.requires.work }) c.in_err-job.ensures)
+    (record { some = some_part _ _ c.passes.inside.records ps c.self.invariant.0 own; may = c.requires.asked; caller_is = c.requires.caller; request_is = c.requires.work }) c.in_err-job.ensures)
 
 pub returns : goal.returns
 returns g c =
@@ -18,4 +18,4 @@ returns g c =
     let own = rw (← c.passes.view_is, ← c.self.view_is) at c.requires.own in
     let past = rw (← c.self.view_is) at c.requires.beyond in
     rw (← c.passes.view_is) (beyond_visited c.passes.inside.records c.job.new.pass ps c.args.moment c.args.ask.now c.args.number c.args.shard c.in_ok-job.field-0
-    (record { some = some_part _ _ c.passes.inside.records ps c.self.invariant own; may = c.requires.asked; caller_is = c.requires.caller; request_is = c.requires.work }) (subst (λ (n : ℕ). n ≤ c.args.shard) (sym own.count) past) c.in_ok-job.ensures)
+    (record { some = some_part _ _ c.passes.inside.records ps c.self.invariant.0 own; may = c.requires.asked; caller_is = c.requires.caller; request_is = c.requires.work }) (subst (λ (n : ℕ). n ≤ c.args.shard) (sym own.count) past) c.in_ok-job.ensures)

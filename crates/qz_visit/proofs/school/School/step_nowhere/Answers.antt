@@ -8,7 +8,7 @@ returns-in_err-job g c =
     let p = err_from_is_err_and c.from_residual.result c.from_residual.ensures.1 in
     let ps = c.passes.inside.parts.items in
     let own = rw (← c.passes.view_is, ← c.self.view_is) at c.requires.own in
-    rw (p.1, p.2, ← c.passes.view_is) (step_untold c.passes.inside.records c.job.new.pass ps c.args.moment c.args.ask.now c.args._user.now c.args.number c.args.shard c.in_err-job.field-0.0 (some_part _ _ c.passes.inside.records ps c.self.invariant own) c.requires.asked
+    rw (p.1, p.2, ← c.passes.view_is) (step_untold c.passes.inside.records c.job.new.pass ps c.args.moment c.args.ask.now c.args._user.now c.args.number c.args.shard c.in_err-job.field-0.0 (some_part _ _ c.passes.inside.records ps c.self.invariant.0 own) c.requires.asked
     (rw (← c.passes.view_is) at c.requires.known) c.requires.may c.requires.work c.in_err-job.ensures)
 
 pub returns : goal.returns
@@ -16,5 +16,5 @@ returns g c =
     let ps = c.passes.inside.parts.items in
     let own = rw (← c.passes.view_is, ← c.self.view_is) at c.requires.own in
     let past = rw (← c.self.view_is) at c.requires.beyond in
-    rw (← c.passes.view_is) (step_visited c.passes.inside.records c.job.new.pass ps c.args.moment c.args.ask.now c.args._user.now c.args.number c.args.shard c.in_ok-job.field-0 (some_part _ _ c.passes.inside.records ps c.self.invariant own) c.requires.asked
+    rw (← c.passes.view_is) (step_visited c.passes.inside.records c.job.new.pass ps c.args.moment c.args.ask.now c.args._user.now c.args.number c.args.shard c.in_ok-job.field-0 (some_part _ _ c.passes.inside.records ps c.self.invariant.0 own) c.requires.asked
     (rw (← c.passes.view_is) at c.requires.known) c.requires.may c.requires.work (subst (λ (n : ℕ). n ≤ c.args.shard) (sym own.count) past) c.in_ok-job.ensures)

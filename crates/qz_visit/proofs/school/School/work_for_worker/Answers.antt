@@ -12,7 +12,7 @@ answer_work-requires-clause-tied g c =
     let long = c.len.ensures in
     let below = c.if-index-len.false in
     let inside : k < length ls = omega (arith, long, below) in
-    tied_at c.self.inside.records ls c.passes.inside.records ps k c.index.result.now c.index_mut.result.now c.self.invariant own (there_at ls k c.index.result.now inside c.index.ensures) (there_at ps k c.index_mut.result.now (subst (λ (n : ℕ). k < n) (sym own.count) inside) c.index_mut.ensures.value)
+    tied_at c.self.inside.records ls c.passes.inside.records ps k c.index.result.now c.index_mut.result.now c.self.invariant.0 own (there_at ls k c.index.result.now inside c.index.ensures) (there_at ps k c.index_mut.result.now (subst (λ (n : ℕ). k < n) (sym own.count) inside) c.index_mut.ensures.value)
 
 pub returns : goal.returns
 returns g c =
@@ -26,7 +26,7 @@ returns g c =
     rw (← c.passes.view_is) (work_visits c.passes.inside.records c.answer_work.new.seen ps k c.index_mut.result.now c.answer_work.new.pass c.args.moment c.args.ask.now c.args.user.now c.args.number c.answer_work.result c.requires.user
     (there_at ps k c.index_mut.result.now (subst (λ (n : ℕ). k < n) (sym own.count) inside) c.index_mut.ensures.value)
     (record {
-      some = some_part _ _ c.passes.inside.records ps c.self.invariant own;
+      some = some_part _ _ c.passes.inside.records ps c.self.invariant.0 own;
       may = c.requires.asked;
       caller_is = c.requires.caller;
       request_is = c.requires.work ∙ ap (λ (n : ℕ). request.Work c.args.number n) (sym c.from-index.ensures);

@@ -1,0 +1,79 @@
+-- Passes that are joined, and a school that is closed.
+use Rattle.std.specs.Prelude.{◌≡◌, ℕ, ◌+◌, List, [], ◌∷◌, length, slice_get, Some}
+use Rattle.qz_catalog.specs.Keeping as records
+use Rattle.qz_catalog_turns.specs.Turning.{tale_of}
+use Rattle.qz_keeper.specs.Lists.{EachMayStand}
+use Rattle.qz_shard.specs.Keeping as part
+use Rattle.qz_shard_turns.specs.Tying.{Placed}
+use Rattle.qz_solo.specs.Solos.{School}
+use Rattle.qz_terms.specs.declared.record.Record.{Record}
+use Rattle.qz_terms.specs.Catalog.{shards}
+use Rattle.qz_terms.specs.Legal.{AllAgree}
+use Rattle.qz_turn.specs.Passes.{Lock}
+use Rattle.qz_turn.specs.Rule.{HasEvery}
+use Rattle.qz_turn.specs.Tales.{Follows}
+use Rattle.qz_turn.specs.Turns.{Joins, Locked}
+use Rattle.qz_visit.specs.Visits.{IsPlaced, Locks, Seats}
+use Rattle.qz_visit.specs.Ways.{Part, Seen}
+
+-- ---- passes of a school
+
+-- a pass of each of these locks
+pub record AreLocked (locks : List (Locked Placed)) (passes : List Part) : Type 0 where
+  pub count : length passes ≡ length locks
+  pub own : (k : ℕ) (l : Locked Placed) (p : Part) → slice_get locks k ≡ Some l → slice_get passes k ≡ Some p → p.lock ≡ l.lock
+
+-- passes of this school, with numbers or without
+pub record ArePasses (s : Locks) (p : Seats) : Type 0 where
+  pub records : p.records.lock ≡ s.records.lock
+  pub parts : AreLocked s.parts p.parts
+
+-- each of these was joined into the one at its place
+pub record AllJoin (before others after : List Part) : Type 0 where
+  pub count : length after ≡ length before
+  pub each : (k : ℕ) (p o q : Part) → slice_get before k ≡ Some p → slice_get others k ≡ Some o → slice_get after k ≡ Some q → Joins p o q
+
+pub record JoinsAll (before other after : Seats) : Type 0 where
+  pub records : Joins before.records other.records after.records
+  pub parts : AllJoin before.parts other.parts after.parts
+
+-- every number that each of these locks dealt
+pub record HaveEach (locks : List (Locked Placed)) (passes : List Part) : Type 0 where
+  pub each : (k : ℕ) (l : Locked Placed) (p : Part) → slice_get locks k ≡ Some l → slice_get passes k ≡ Some p → HasEvery l.seats p.numbers
+
+pub record HaveEvery (s : Locks) (p : Seats) : Type 0 where
+  pub records : HasEvery s.records.seats p.records.numbers
+  pub parts : HaveEach s.parts p.parts
+
+-- the catalogue's pass has seen how many shards it was founded with: as many as there are
+pub record HasFounding (s : Locks) (p : Seats) : Type 0 where
+  pub founded : shards p.records.seen.list ≡ Some (length s.parts)
+
+-- a pass has seen at least what it had seen, and has all numbers that it had
+pub record KeepsAll (old new : Seen) : Type 0 where
+  pub begins : Follows old.seen new.seen
+  pub every : (n : ℕ) → HasEvery n old.numbers → HasEvery n new.numbers
+  pub lock : new.lock ≡ old.lock
+
+-- ---- what stood behind the locks
+
+-- The shard at this index, of so many: it goes on from what its pass has seen, and each of its lists that may stand agrees with this catalogue.
+pub record IsClosed {K : Type 0} (faults : K → ℕ) (c : List Record) (count k : ℕ) (p : Part) (s : part.Keeping K) : Type 0 where
+  pub index_is : s.index ≡ k
+  pub count_is : s.count ≡ count
+  pub follows : Follows p.seen (tale_of s.held (faults s.keeper))
+  pub agree : EachMayStand (AllAgree c) s.held
+
+-- those from this index on
+pub data AreClosed {K : Type 0} (faults : K → ℕ) (c : List Record) (count : ℕ) : ℕ → List Part → List (part.Keeping K) → Type 0 where
+  none : (k : ℕ) → AreClosed faults c count k [] []
+  more : (k : ℕ) (p : Part) (s : part.Keeping K) (ps : List Part) (ss : List (part.Keeping K)) → IsClosed faults c count k p s → AreClosed faults c count (k + 1) ps ss → AreClosed faults c count k (p ∷ ps) (s ∷ ss)
+
+-- the locks of a school's shards, in order, tied to the catalogue's
+pub record ArePlaced (records : Lock (Unit {0})) (locks : List (Locked Placed)) : Type 0 where
+  pub each : (k : ℕ) (l : Locked Placed) → slice_get locks k ≡ Some l → IsPlaced records (length locks) k l.lock
+
+-- The school that is given back: each of its lists goes on from what the passes have seen.
+pub record Closes {K : Type 0} (faults : K → ℕ) (p : Seats) (a : School K) : Type 0 where
+  pub records : Follows p.records.seen (tale_of a.catalog.held (faults a.catalog.keeper))
+  pub parts : AreClosed faults a.catalog.held.list (length a.parts) 0 p.parts a.parts
