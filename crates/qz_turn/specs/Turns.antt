@@ -1,11 +1,12 @@
 -- A lock as contracts see it, and what its calls leave.
-use Rattle.std.specs.Prelude.{◌≡◌, ℕ, ◌⊎◌, [], ◌∷◌, ◌++◌, Some}
+use Rattle.std.specs.Prelude.{◌≡◌, ℕ, ◌⊎◌, [], ◌∷◌, ◌++◌, take, drop, Some}
 use mathlib.Core.List.{IsPrefix}
 use Rattle.atomic_table.specs.Seated.{TableId}
 use Rattle.qz_turn.specs.declared.view.Tale.{Tale}
 use Rattle.qz_turn.specs.declared.view.View.{View}
 use Rattle.qz_turn.specs.Tales.{Follows, merged}
 use Rattle.qz_turn.specs.Passes.{Lock, Standing}
+use Rattle.qz_turn.specs.Rule.{below}
 
 -- which lock it is, and how many numbers its passes have
 pub record Locked (K : Type 0) : Type 0 where
@@ -27,6 +28,18 @@ module _ {I K : Type 0} where
   -- the pass that is dealt a number by a seat with this view
   abbrev pub dealt_pass : TableId → View I K → ℕ → Standing I K
   dealt_pass id v number = new_pass record { table = id; key = v.key } v.seen number
+
+  -- the first pass: it has every number, and has seen what the value told
+  abbrev pub first_pass : Lock K → Tale I → ℕ → Standing I K
+  first_pass lock tale seats = record { lock = lock; numbers = below seats; found = tale; seen = tale }
+
+  -- a pass that has given its first number away
+  abbrev pub left_of : Standing I K → Standing I K
+  left_of pass = record { lock = pass.lock; numbers = drop 1 pass.numbers; found = pass.found; seen = pass.seen }
+
+  -- the pass that has it, which has seen the same
+  abbrev pub split_off : Standing I K → Standing I K
+  split_off pass = record { lock = pass.lock; numbers = take 1 pass.numbers; found = pass.found; seen = pass.seen }
 
   -- a pass without a number, which has seen the same
   abbrev pub note_of : Standing I K → Standing I K

@@ -3,7 +3,7 @@ ghost use Rattle.std.specs.Prelude.{◌≡◌, ◌≢◌, ◌<◌, ◌≤◌, []
 ghost use Rattle.qz_turn.specs.Tales.{Follows};
 ghost use Rattle.qz_turn.specs.Rule.{below, HasEvery};
 ghost use Rattle.qz_turn.specs.Steps.{MayDeal};
-ghost use Rattle.qz_turn.specs.Turns.{UnderKey, new_pass, dealt_pass, note_of, Joins, HasTurn};
+ghost use Rattle.qz_turn.specs.Turns.{UnderKey, new_pass, dealt_pass, first_pass, left_of, split_off, note_of, Joins, HasTurn};
 
 use crate::board::{Board, Place};
 use crate::pass::Pass;
@@ -73,6 +73,38 @@ impl<T: Told> Turns<T> {
             }
             Err(value) => Err((value, NoMemory)),
         }
+    }
+
+    /// A lock over the value, and its first pass, which has every number below `seats` and has seen what the value tells. Where memory
+    /// is short the value comes back.
+    pub fn open(
+        alloc: Global,
+        value: T,
+        key: &T::Key,
+        seats: u32,
+    ) -> Result<(Turns<T>, Pass<T>), (T, NoMemory)>
+        requires fits { T.fits key.now value }
+        ensures lock { IfOk result (λ made. (made.0.lock.key ≡ Some key.now) × (made.0.seats ≡ seats)) }
+        ensures pass { IfOk result (λ made. made.1 ≡ first_pass made.0.lock (T.tells value) seats) }
+        ensures refused { IfErr result (λ back. back.0 ≡ value) }
+    {
+        match Board::new(alloc, value, key, seats) {
+            Ok((board, seat)) => Ok((Turns { board }, Pass::of(seat))),
+            Err(value) => Err((value, NoMemory)),
+        }
+    }
+
+    /// Gives the pass's first number to a new pass, which has seen what this one has seen. From a pass without a number the new one
+    /// has none.
+    pub fn split(&self, pass: &mut Pass<T>) -> Pass<T>
+        requires { pass.old.lock ≡ self.now.lock }
+        ensures left { pass.new ≡ left_of pass.old }
+        ensures given { result ≡ split_off pass.old }
+    {
+        let mut seat = mem::replace(&mut pass.badge, Badge::blank()).into_seat();
+        let given = self.board.deal(&mut seat);
+        pass.badge = seat.into_badge();
+        Pass::of(given)
     }
 
     /// Waits until the turn of the pass has come, lets the errand go once, and gives the turn on. The errand may rely on what the
