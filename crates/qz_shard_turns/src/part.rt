@@ -45,8 +45,8 @@ impl<K: Keeper> Part<K> {
 #[derive(Drop)]
 pub struct Place<K: Keeper> {
     note: Pass<Records<K>>,
-    index: u8,
-    count: u8,
+    index: usize,
+    count: usize,
 }
 
 impl<K: Keeper> Model for Place<K> {
@@ -59,7 +59,7 @@ impl<K: Keeper> Model for Place<K> {
 
 impl<K: Keeper> Place<K> {
     /// The place of the shard with this index, of so many, under the catalogue of this note's lock.
-    pub fn new(note: Pass<Records<K>>, index: u8, count: u8) -> Place<K>
+    pub fn new(note: Pass<Records<K>>, index: usize, count: usize) -> Place<K>
         ensures { result ≡ record { note = note; index = index; count = count } }
     {
         Place { note, index, count }

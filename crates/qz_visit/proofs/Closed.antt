@@ -2,16 +2,16 @@
 use Rattle.std.proofs.Common.{◌≡◌, ◌⊎◌, inl, inr, ℕ, zero, suc, ◌+◌, ◌<◌, ◌≤◌, List, [], ◌∷◌, ◌++◌, Option, Some, length, reverse, refl, sym, ap, ◌∙◌, subst, append-nil, append_assoc, arith}
 use Rattle.std.specs.Prelude.{Contains, filter_map, slice_get, slice_set}
 use Rattle.std.proofs.lemmas.List.Elements.{Contains-append_left, filter_map-append}
-use Rattle.std.proofs.lemmas.List.{length-set, nil_from_length}
+use Rattle.std.proofs.lemmas.List.{length-map, length-set, nil_from_length}
 use Rattle.std.proofs.lemmas.Option.{slice_get_within}
 use mathlib.Core.List.{IsPrefix, reverse-append, reverse-reverse}
 use Rattle.qz_catalog.specs.Keeping as records
 use Rattle.qz_catalog_turns.specs.Turning.{tale_of}
 use Rattle.qz_grading.proofs.StepLemmas.{slice_get-push}
 use Rattle.qz_keeper.specs.Lists.{EachMayStand}
-use Rattle.qz_serial.proofs.Seats.{set_get, within_there}
+use Rattle.qz_serial.proofs.Seats.{within_there}
 use Rattle.qz_shard.specs.Keeping as part
-use Rattle.qz_shard_turns.specs.Tying.{Behind, IsTied, Placed, SeesMore}
+use Rattle.qz_shard_turns.specs.Tying.{Behind, IsTied, Placed}
 use Rattle.qz_shard_turns.proofs.Tying.{agree-on, joined-more, joined-second}
 use Rattle.qz_solo.specs.Solos as solos
 use Rattle.qz_solo.proofs.Calls.{stand_as}
@@ -20,12 +20,13 @@ use Rattle.qz_terms.specs.Catalog as catalog
 use Rattle.qz_terms.specs.Legal.{AllAgree}
 use Rattle.qz_terms.specs.Lists.{first_of}
 use Rattle.qz_terms.proofs.Readings.{first_of-append}
-use Rattle.qz_turn.specs.Passes.{Lock, Standing}
+use Rattle.qz_turn.specs.declared.view.Tale.{Tale}
+use Rattle.qz_turn.specs.Passes.{Lock}
 use Rattle.qz_turn.specs.Tales.{Follows}
 use Rattle.qz_turn.specs.Turns.{Joins, Locked}
 use Rattle.qz_turn.proofs.Prefixes.{follows_self, follows_trans}
-use Rattle.qz_visit.specs.Closing.{AllJoin, AreClosed, AreLocked, IsClosed, KeepsAll, more, none}
-use Rattle.qz_visit.specs.Visits.{IsPlaced}
+use Rattle.qz_visit.specs.Closing.{AllJoin, AreClosed, AreLocked, ClosesBefore, IsClosed, KeepsAll, more, none}
+use Rattle.qz_visit.specs.Visits.{IsPlaced, seen_by}
 use Rattle.qz_visit.specs.Ways.{Part, Seen}
 
 -- ---- joining
@@ -102,55 +103,56 @@ joined_all before others now so = record { count = so.count; each = λ k p o q o
 
 -- ---- closing
 
-closed-on : {K : Type 0} (faults : K → ℕ) (c d : List Record) (n k : ℕ) (p : Part) (s : part.Keeping K) → IsPrefix c d → IsClosed faults c n k p s → IsClosed faults d n k p s
-closed-on faults c d n k p s longer is = record { index_is = is.index_is; count_is = is.count_is; follows = is.follows; agree = stand_as (AllAgree d) (AllAgree c) s.held (λ h all. agree-on c d h longer all) is.agree }
+closed-on : {K : Type 0} (faults : K → ℕ) (c d : List Record) (n k : ℕ) (t : Tale Record) (s : part.Keeping K) → IsPrefix c d → IsClosed faults c n k t s → IsClosed faults d n k t s
+closed-on faults c d n k t s longer is = record { index_is = is.index_is; count_is = is.count_is; follows = is.follows; agree = stand_as (AllAgree d) (AllAgree c) s.held (λ h all. agree-on c d h longer all) is.agree }
 
 -- they agree with each longer catalogue
-pub all_on : {K : Type 0} (faults : K → ℕ) (c d : List Record) (n k : ℕ) (ps : List Part) (ss : List (part.Keeping K)) → IsPrefix c d → AreClosed faults c n k ps ss → AreClosed faults d n k ps ss
+pub all_on : {K : Type 0} (faults : K → ℕ) (c d : List Record) (n k : ℕ) (ts : List (Tale Record)) (ss : List (part.Keeping K)) → IsPrefix c d → AreClosed faults c n k ts ss → AreClosed faults d n k ts ss
 all_on faults c d n _ _ _ longer (none k) = none k
-all_on faults c d n _ _ _ longer (more k p s ps ss one rest) = more k p s ps ss (closed-on faults c d n k p s longer one) (all_on faults c d n (k + 1) ps ss longer rest)
+all_on faults c d n _ _ _ longer (more k t s ts ss one rest) = more k t s ts ss (closed-on faults c d n k t s longer one) (all_on faults c d n (k + 1) ts ss longer rest)
 
--- Those behind the locks that are left are closed, and stand the other way round.
-pub record ClosedFrom {K : Type 0} (faults : K → ℕ) (c : List Record) (locks left : List (Locked Placed)) (passes rest : List Part) (shards : List (part.Keeping K)) : Type 0 where
+-- Those behind the locks that are left are closed, and stand the other way round, after the others.
+pub record ClosedFrom {K : Type 0} (faults : K → ℕ) (c : List Record) (n : ℕ) (others : List (part.Keeping K)) (locks left : List (Locked Placed)) (passes rest : List Part) (shards : List (part.Keeping K)) : Type 0 where
   pub locks_done : List (Locked Placed)
   pub passes_done : List Part
   pub shards_done : List (part.Keeping K)
   pub locks_are : locks ≡ left ++ locks_done
   pub passes_are : passes ≡ rest ++ passes_done
   pub long : length rest ≡ length left
-  pub shards_are : shards ≡ reverse shards_done
-  pub closed : AreClosed faults c (length locks) (length left) passes_done shards_done
+  pub shards_are : shards ≡ others ++ reverse shards_done
+  pub closed : AreClosed faults c n (length left) (seen_by passes_done) shards_done
 
-pub closed_none : {K : Type 0} (faults : K → ℕ) (c : List Record) (locks : List (Locked Placed)) (passes : List Part) (shards : List (part.Keeping K)) → length passes ≡ length locks → shards ≡ [] → ClosedFrom faults c locks locks passes passes shards
-closed_none faults c locks passes shards long empty = record {
+pub closed_none : {K : Type 0} (faults : K → ℕ) (c : List Record) (n : ℕ) (others : List (part.Keeping K)) (locks : List (Locked Placed)) (passes : List Part) → length passes ≡ length locks → ClosedFrom faults c n others locks locks passes passes others
+closed_none faults c n others locks passes long = record {
   locks_done = [];
   passes_done = [];
   shards_done = [];
   locks_are = sym (append-nil locks);
   passes_are = sym (append-nil passes);
   long = long;
-  shards_are = empty;
+  shards_are = sym (append-nil others);
   closed = none (length locks);
 }
 
-seam : {A : Type 0} (xs : List A) (x : A) (ys : List A) → slice_get (xs ++ x ∷ ys) (length xs) ≡ Some x
+pub seam : {A : Type 0} (xs : List A) (x : A) (ys : List A) → slice_get (xs ++ x ∷ ys) (length xs) ≡ Some x
 seam [] x ys = refl
 seam (z ∷ xs) x ys = seam xs x ys
 
-pub lock_there : {K : Type 0} (faults : K → ℕ) (c : List Record) (locks left : List (Locked Placed)) (l : Locked Placed) (passes rest : List Part) (shards : List (part.Keeping K)) → ClosedFrom faults c locks (left ++ l ∷ []) passes rest shards → slice_get locks (length left) ≡ Some l
-lock_there faults c locks left l passes rest shards so = subst (λ (ls : List (Locked Placed)). slice_get ls (length left) ≡ Some l) (sym (so.locks_are ∙ append_assoc left (l ∷ []) so.locks_done)) (seam left l so.locks_done)
+pub lock_there : {K : Type 0} (faults : K → ℕ) (c : List Record) (n : ℕ) (others : List (part.Keeping K)) (locks left : List (Locked Placed)) (l : Locked Placed) (passes rest : List Part) (shards : List (part.Keeping K)) → ClosedFrom faults c n others locks (left ++ l ∷ []) passes rest shards → slice_get locks (length left) ≡ Some l
+lock_there faults c n others locks left l passes rest shards so = subst (λ (ls : List (Locked Placed)). slice_get ls (length left) ≡ Some l) (sym (so.locks_are ∙ append_assoc left (l ∷ []) so.locks_done)) (seam left l so.locks_done)
 
-pub pass_there : {K : Type 0} (faults : K → ℕ) (c : List Record) (locks left : List (Locked Placed)) (l : Locked Placed) (passes rest : List Part) (p : Part) (shards : List (part.Keeping K)) → ClosedFrom faults c locks (left ++ l ∷ []) passes (rest ++ p ∷ []) shards → slice_get passes (length left) ≡ Some p
-pass_there faults c locks left l passes rest p shards so =
+pub pass_there : {K : Type 0} (faults : K → ℕ) (c : List Record) (n : ℕ) (others : List (part.Keeping K)) (locks left : List (Locked Placed)) (l : Locked Placed) (passes rest : List Part) (p : Part) (shards : List (part.Keeping K)) → ClosedFrom faults c n others locks (left ++ l ∷ []) passes (rest ++ p ∷ []) shards → slice_get passes (length left) ≡ Some p
+pass_there faults c n others locks left l passes rest p shards so =
     let same : length rest ≡ length left = let long = so.long in omega (arith, long, length-one rest p, length-one left l) in
     subst (λ (k : ℕ). slice_get passes k ≡ Some p) same (subst (λ (ps : List Part). slice_get ps (length rest) ≡ Some p) (sym (so.passes_are ∙ append_assoc rest (p ∷ []) so.passes_done)) (seam rest p so.passes_done))
 
 -- the shard behind one more lock
-pub closed_one : {K : Type 0} (faults : K → ℕ) (c d : List Record) (locks left : List (Locked Placed)) (l : Locked Placed) (passes rest : List Part) (p : Part) (shards : List (part.Keeping K)) (s : part.Keeping K) → ClosedFrom faults c locks (left ++ l ∷ []) passes (rest ++ p ∷ []) shards
-    → IsPrefix c d → IsClosed faults d (length locks) (length left) p s → ClosedFrom faults d locks left passes rest (shards ++ s ∷ [])
-closed_one faults c d locks left l passes rest p shards s so longer is =
+pub closed_one : {K : Type 0} (faults : K → ℕ) (c d : List Record) (n : ℕ) (others : List (part.Keeping K)) (locks left : List (Locked Placed)) (l : Locked Placed) (passes rest : List Part) (p : Part) (shards : List (part.Keeping K)) (s : part.Keeping K)
+    → ClosedFrom faults c n others locks (left ++ l ∷ []) passes (rest ++ p ∷ []) shards → IsPrefix c d → IsClosed faults d n (length left) p.seen s → ClosedFrom faults d n others locks left passes rest (shards ++ s ∷ [])
+closed_one faults c d n others locks left l passes rest p shards s so longer is =
     let one = length-one left l in
     let next : length (left ++ l ∷ []) ≡ length left + 1 = omega (arith, one) in
+    let done = seen_by so.passes_done in
     record {
       locks_done = l ∷ so.locks_done;
       passes_done = p ∷ so.passes_done;
@@ -158,13 +160,13 @@ closed_one faults c d locks left l passes rest p shards s so longer is =
       locks_are = so.locks_are ∙ append_assoc left (l ∷ []) so.locks_done;
       passes_are = so.passes_are ∙ append_assoc rest (p ∷ []) so.passes_done;
       long = let long = so.long in omega (arith, long, length-one rest p, one);
-      shards_are = ap (λ (l : List (part.Keeping _)). l ++ s ∷ []) so.shards_are ∙ sym (reverse-append (s ∷ []) so.shards_done);
-      closed = more (length left) p s so.passes_done so.shards_done is (all_on faults c d (length locks) (length left + 1) so.passes_done so.shards_done longer (subst (λ (k : ℕ). AreClosed faults c (length locks) k so.passes_done so.shards_done) next so.closed));
+      shards_are = ap (λ (l : List (part.Keeping _)). l ++ s ∷ []) so.shards_are ∙ append_assoc others (reverse so.shards_done) (s ∷ []) ∙ ap (λ (l : List (part.Keeping _)). others ++ l) (sym (reverse-append (s ∷ []) so.shards_done));
+      closed = more (length left) p.seen s done so.shards_done is (all_on faults c d n (length left + 1) done so.shards_done longer (subst (λ (k : ℕ). AreClosed faults c n k done so.shards_done) next so.closed));
     }
 
 -- what was behind a lock of its place
 pub behind_closed : {K : Type 0} (faults : K → ℕ) (lock : Lock (Unit {0})) (n k : ℕ) (l : Locked Placed) (p : Part) (b : Behind K) (seen after : Seen) → (placed : IsPlaced lock n k l.lock) → Follows p.seen (tale_of b.shard.held (faults b.shard.keeper)) → IsTied placed.place b → Joins seen b.note after
-    → IsClosed faults after.seen.list n k p b.shard
+    → IsClosed faults after.seen.list n k p.seen b.shard
 behind_closed faults lock n k l p b seen after placed follows tied joins = record {
   index_is = tied.index_is ∙ placed.index_is;
   count_is = tied.count_is ∙ placed.count_is;
@@ -172,34 +174,41 @@ behind_closed faults lock n k l p b seen after placed follows tied joins = recor
   agree = stand_as (AllAgree after.seen.list) (AllAgree b.note.seen.list) b.shard.held (λ h all. agree-on b.note.seen.list after.seen.list h (joined-second seen b.note after joins) all) tied.agree;
 }
 
-pub closed_all : {K : Type 0} (faults : K → ℕ) (c : List Record) (locks : List (Locked Placed)) (passes rest : List Part) (shards : List (part.Keeping K)) → ClosedFrom faults c locks [] passes rest shards → AreClosed faults c (length locks) 0 passes (reverse shards)
-closed_all faults c locks passes rest shards so =
+pub closed_all : {K : Type 0} (faults : K → ℕ) (c : List Record) (n : ℕ) (others : List (part.Keeping K)) (locks : List (Locked Placed)) (passes rest : List Part) (shards : List (part.Keeping K)) → ClosedFrom faults c n others locks [] passes rest shards → n ≡ length passes + length others
+    → ClosesBefore faults c (seen_by passes) others (reverse shards)
+closed_all faults c n others locks passes rest shards so count =
     let none_left : rest ≡ [] = nil_from_length rest so.long in
     let all : passes ≡ so.passes_done = so.passes_are ∙ ap (λ (l : List Part). l ++ so.passes_done) none_left in
-    subst (λ (ps : List Part). AreClosed faults c (length locks) 0 ps (reverse shards)) (sym all) (subst (AreClosed faults c (length locks) 0 so.passes_done) (sym (ap reverse so.shards_are ∙ reverse-reverse so.shards_done)) so.closed)
+    let told : AreClosed faults c n 0 (seen_by passes) so.shards_done = subst (λ (ps : List Part). AreClosed faults c n 0 (seen_by ps) so.shards_done) (sym all) so.closed in
+    let many : length passes + length others ≡ length (seen_by passes) + length others = ap (λ (k : ℕ). k + length others) (sym (length-map passes (λ (p : Part). p.seen))) in
+    record {
+      front = so.shards_done;
+      all_is = ap reverse so.shards_are ∙ reverse-append others (reverse so.shards_done) ∙ ap (λ (l : List (part.Keeping _)). l ++ reverse others) (reverse-reverse so.shards_done);
+      closed = subst (λ (m : ℕ). AreClosed faults c m 0 (seen_by passes) so.shards_done) (count ∙ many) told;
+    }
 
 -- ---- the school that is given back
 
-closed-there : {K : Type 0} (faults : K → ℕ) (c : List Record) (n i k : ℕ) (ps : List Part) (ss : List (part.Keeping K)) (s : part.Keeping K) → AreClosed faults c n i ps ss → slice_get ss k ≡ Some s → (s.index ≡ i + k) × ((s.count ≡ n) × EachMayStand (AllAgree c) s.held)
+closed-there : {K : Type 0} (faults : K → ℕ) (c : List Record) (n i k : ℕ) (ts : List (Tale Record)) (ss : List (part.Keeping K)) (s : part.Keeping K) → AreClosed faults c n i ts ss → slice_get ss k ≡ Some s → (s.index ≡ i + k) × ((s.count ≡ n) × EachMayStand (AllAgree c) s.held)
 closed-there faults c n _ k _ _ s (none i) at = absurd cc
-closed-there faults c n _ zero _ _ s (more i p t ps ss one rest) at =
+closed-there faults c n _ zero _ _ s (more i t0 t ts ss one rest) at =
     let same : t ≡ s = cc in
     subst (λ (x : part.Keeping _). (x.index ≡ i + 0) × ((x.count ≡ n) × EachMayStand (AllAgree c) x.held)) same (one.index_is ∙ omega arith, (one.count_is, one.agree))
-closed-there faults c n _ (suc k) _ _ s (more i p t ps ss one rest) at =
-    let there = closed-there faults c n (i + 1) k ps ss s rest at in
+closed-there faults c n _ (suc k) _ _ s (more i t0 t ts ss one rest) at =
+    let there = closed-there faults c n (i + 1) k ts ss s rest at in
     let sum : i + 1 + k ≡ i + suc k = omega arith in
     (there.0 ∙ sum, there.1)
 
-pub count_closed : {K : Type 0} (faults : K → ℕ) (c : List Record) (n k : ℕ) (ps : List Part) (ss : List (part.Keeping K)) → AreClosed faults c n k ps ss → length ss ≡ length ps
+pub count_closed : {K : Type 0} (faults : K → ℕ) (c : List Record) (n k : ℕ) (ts : List (Tale Record)) (ss : List (part.Keeping K)) → AreClosed faults c n k ts ss → length ss ≡ length ts
 count_closed faults c n _ _ _ (none k) = refl
-count_closed faults c n _ _ _ (more k p s ps ss one rest) = ap suc (count_closed faults c n (k + 1) ps ss rest)
+count_closed faults c n _ _ _ (more k t s ts ss one rest) = ap suc (count_closed faults c n (k + 1) ts ss rest)
 
-pub closed_solo : {K : Type 0} (faults : K → ℕ) (c : records.Keeping K) (n : ℕ) (ps : List Part) (ss : List (part.Keeping K)) → 0 < n → length ss ≡ n → catalog.shards c.held.list ≡ Some n → AreClosed faults c.held.list n 0 ps ss → solos.IsSolo c ss
-closed_solo faults c n ps ss some long founded closed = record {
+pub closed_solo : {K : Type 0} (faults : K → ℕ) (c : records.Keeping K) (n : ℕ) (ts : List (Tale Record)) (ss : List (part.Keeping K)) → 0 < n → length ss ≡ n → catalog.shards c.held.list ≡ Some n → AreClosed faults c.held.list n 0 ts ss → solos.IsSolo c ss
+closed_solo faults c n ts ss some long founded closed = record {
   some = rw long some;
-  placed = record { each = λ k s at. let there = closed-there faults c.held.list n 0 k ps ss s closed at in (there.0 ∙ omega arith, there.1.0 ∙ sym long) };
+  placed = record { each = λ k s at. let there = closed-there faults c.held.list n 0 k ts ss s closed at in (there.0 ∙ omega arith, there.1.0 ∙ sym long) };
   founded = founded ∙ ap (λ (m : ℕ). Some m) (sym long);
-  agree = record { each = λ k s at. (closed-there faults c.held.list n 0 k ps ss s closed at).1.1 };
+  agree = record { each = λ k s at. (closed-there faults c.held.list n 0 k ts ss s closed at).1.1 };
 }
 
 -- ---- what the passes are

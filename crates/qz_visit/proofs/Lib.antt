@@ -7,3 +7,5 @@ pub mod Working
 pub mod Reporting
 pub mod Standing
 pub mod Closed
+pub mod Opened
+pub mod Dealt

@@ -1,6 +1,5 @@
 -- Passes that are joined, and a school that is closed.
-use Rattle.std.specs.Prelude.{◌≡◌, ℕ, ◌+◌, List, [], ◌∷◌, length, slice_get, Some}
-use Rattle.qz_catalog.specs.Keeping as records
+use Rattle.std.specs.Prelude.{◌≡◌, ℕ, ◌+◌, List, [], ◌∷◌, ◌++◌, length, reverse, slice_get, Some}
 use Rattle.qz_catalog_turns.specs.Turning.{tale_of}
 use Rattle.qz_keeper.specs.Lists.{EachMayStand}
 use Rattle.qz_shard.specs.Keeping as part
@@ -9,11 +8,12 @@ use Rattle.qz_solo.specs.Solos.{School}
 use Rattle.qz_terms.specs.declared.record.Record.{Record}
 use Rattle.qz_terms.specs.Catalog.{shards}
 use Rattle.qz_terms.specs.Legal.{AllAgree}
+use Rattle.qz_turn.specs.declared.view.Tale.{Tale}
 use Rattle.qz_turn.specs.Passes.{Lock}
 use Rattle.qz_turn.specs.Rule.{HasEvery}
 use Rattle.qz_turn.specs.Tales.{Follows}
 use Rattle.qz_turn.specs.Turns.{Joins, Locked}
-use Rattle.qz_visit.specs.Visits.{IsPlaced, Locks, Seats}
+use Rattle.qz_visit.specs.Visits.{IsPlaced, Locks, Seats, Tellings}
 use Rattle.qz_visit.specs.Ways.{Part, Seen}
 
 -- ---- passes of a school
@@ -57,23 +57,29 @@ pub record KeepsAll (old new : Seen) : Type 0 where
 
 -- ---- what stood behind the locks
 
--- The shard at this index, of so many: it goes on from what its pass has seen, and each of its lists that may stand agrees with this catalogue.
-pub record IsClosed {K : Type 0} (faults : K → ℕ) (c : List Record) (count k : ℕ) (p : Part) (s : part.Keeping K) : Type 0 where
+-- The shard at this index, of so many: its list goes on from what was told of it, and each of its lists that may stand agrees with this catalogue.
+pub record IsClosed {K : Type 0} (faults : K → ℕ) (c : List Record) (count k : ℕ) (told : Tale Record) (s : part.Keeping K) : Type 0 where
   pub index_is : s.index ≡ k
   pub count_is : s.count ≡ count
-  pub follows : Follows p.seen (tale_of s.held (faults s.keeper))
+  pub follows : Follows told (tale_of s.held (faults s.keeper))
   pub agree : EachMayStand (AllAgree c) s.held
 
 -- those from this index on
-pub data AreClosed {K : Type 0} (faults : K → ℕ) (c : List Record) (count : ℕ) : ℕ → List Part → List (part.Keeping K) → Type 0 where
+pub data AreClosed {K : Type 0} (faults : K → ℕ) (c : List Record) (count : ℕ) : ℕ → List (Tale Record) → List (part.Keeping K) → Type 0 where
   none : (k : ℕ) → AreClosed faults c count k [] []
-  more : (k : ℕ) (p : Part) (s : part.Keeping K) (ps : List Part) (ss : List (part.Keeping K)) → IsClosed faults c count k p s → AreClosed faults c count (k + 1) ps ss → AreClosed faults c count k (p ∷ ps) (s ∷ ss)
+  more : (k : ℕ) (t : Tale Record) (s : part.Keeping K) (ts : List (Tale Record)) (ss : List (part.Keeping K)) → IsClosed faults c count k t s → AreClosed faults c count (k + 1) ts ss → AreClosed faults c count k (t ∷ ts) (s ∷ ss)
 
--- the locks of a school's shards, in order, tied to the catalogue's
-pub record ArePlaced (records : Lock (Unit {0})) (locks : List (Locked Placed)) : Type 0 where
-  pub each : (k : ℕ) (l : Locked Placed) → slice_get locks k ≡ Some l → IsPlaced records (length locks) k l.lock
+-- the first locks of a school's shards, of so many, in order, tied to the catalogue's
+pub record ArePlaced (records : Lock (Unit {0})) (count : ℕ) (locks : List (Locked Placed)) : Type 0 where
+  pub each : (k : ℕ) (l : Locked Placed) → slice_get locks k ≡ Some l → IsPlaced records count k l.lock
 
--- The school that is given back: each of its lists goes on from what the passes have seen.
-pub record Closes {K : Type 0} (faults : K → ℕ) (p : Seats) (a : School K) : Type 0 where
-  pub records : Follows p.records.seen (tale_of a.catalog.held (faults a.catalog.keeper))
-  pub parts : AreClosed faults a.catalog.held.list (length a.parts) 0 p.parts a.parts
+-- All shards in order: those that stood behind locks, and then the others, which were there with the last one first.
+pub record ClosesBefore {K : Type 0} (faults : K → ℕ) (c : List Record) (told : List (Tale Record)) (others all : List (part.Keeping K)) : Type 0 where
+  pub front : List (part.Keeping K)
+  pub all_is : all ≡ front ++ reverse others
+  pub closed : AreClosed faults c (length told + length others) 0 told front
+
+-- The school that is given back: each of its lists goes on from what was told of it.
+pub record Closes {K : Type 0} (faults : K → ℕ) (told : Tellings) (a : School K) : Type 0 where
+  pub records : Follows told.records (tale_of a.catalog.held (faults a.catalog.keeper))
+  pub parts : AreClosed faults a.catalog.held.list (length a.parts) 0 told.parts a.parts

@@ -3,3 +3,4 @@ pub mod Ways
 pub mod Tokens
 pub mod Reports
 pub mod Closing
+pub mod Opening

@@ -1,7 +1,11 @@
 //! Passes are joined, and a school is closed.
 
-ghost use Rattle.std.specs.Prelude.{◌≡◌, ◌≤◌, [], length, vec_len, vec_capacity};
-ghost use Rattle.qz_visit.specs.Closing.{AllJoin, AreClosed, AreLocked, ArePasses, ArePlaced, Closes, HasFounding, HaveEach, HaveEvery, JoinsAll, KeepsAll};
+ghost use Rattle.std.specs.Prelude.{◌≡◌, ◌+◌, ◌<◌, ◌≤◌, Some, length, reverse, vec_len, vec_capacity};
+ghost use Rattle.qz_terms.specs.Catalog as catalog;
+ghost use Rattle.qz_turn.specs.Rule.{HasEvery};
+ghost use Rattle.qz_visit.specs.Closing.{AllJoin, AreClosed, AreLocked, ArePasses, ArePlaced, Closes, ClosesBefore, HasFounding, HaveEach, HaveEvery, JoinsAll, KeepsAll};
+ghost use Rattle.qz_visit.specs.Opening.{half_told, tales};
+ghost use Rattle.qz_visit.specs.Visits.{seen_by, seen_in};
 
 use crate::passes::Passes;
 use crate::school::School;
@@ -28,7 +32,8 @@ fn join_parts<K: Keeper>(
     }
 }
 
-/// Closes the locks of the shards, and joins what they saw of the catalogue into its pass.
+/// Closes the locks of the first shards, and joins what they saw of the catalogue into its pass. The other shards stand with the last one
+/// first. All shards come back in order.
 fn close_parts<K: Keeper>(
     records: &Turns<Records<K>>,
     seen: &mut Pass<Records<K>>,
@@ -37,13 +42,13 @@ fn close_parts<K: Keeper>(
     mut shards: Vec<Shard<K>>,
 ) -> Vec<Shard<K>>
     requires seen { seen.old.lock ≡ records.now.lock }
-    requires placed { ArePlaced records.now.lock parts.items }
+    requires placed { ArePlaced records.now.lock (length passes.items + length shards.items)
+        parts.items }
     requires own { AreLocked parts.items passes.items }
     requires every { HaveEach parts.items passes.items }
-    requires empty { shards.items ≡ [] }
-    requires room { vec_len parts ≤ vec_capacity shards }
-    ensures closed { AreClosed K.faults seen.new.seen.list (length parts.items) 0
-        passes.items result.items }
+    requires room { vec_len parts + vec_len shards ≤ vec_capacity shards }
+    ensures closed { ClosesBefore K.faults seen.new.seen.list (seen_by passes.items)
+        shards.items result.items }
     ensures seen { KeepsAll seen.old seen.new }
 {
     while let Some(turns) = parts.pop() {
@@ -57,6 +62,32 @@ fn close_parts<K: Keeper>(
     parts.destroy_empty();
     shards.reverse();
     shards
+}
+
+/// The school again, whose first shards are behind locks. The others stand with the last one first.
+pub(crate) fn close_all<K: Keeper>(
+    records: Turns<Records<K>>,
+    mut seen: Pass<Records<K>>,
+    shards: Vec<Shard<K>>,
+    parts: Vec<Turns<Part<K>>>,
+    passes: Vec<Pass<Part<K>>>,
+) -> Solo<K>
+    requires seen { seen.lock ≡ records.lock }
+    requires numbers { HasEvery records.seats seen.numbers }
+    requires placed { ArePlaced records.lock (length passes.items + length shards.items)
+        parts.items }
+    requires own { AreLocked parts.items passes.items }
+    requires every { HaveEach parts.items passes.items }
+    requires room { vec_len parts + vec_len shards ≤ vec_capacity shards }
+    requires some { 0 < length passes.items + length shards.items }
+    requires founded { catalog.shards seen.seen.list ≡ Some (length passes.items + length shards.items) }
+    requires left { AreClosed K.faults seen.seen.list (length passes.items + length shards.items)
+        (length passes.items) (tales K.faults (reverse shards.items)) (reverse shards.items) }
+    ensures { Closes K.faults (half_told K.faults seen passes.items shards.items) result }
+{
+    let shards = close_parts(&records, &mut seen, parts, passes, shards);
+    let catalog = records.close(seen).into_catalog();
+    Solo::of(catalog, shards)
 }
 
 impl<K: Keeper> School<K> {
@@ -77,7 +108,7 @@ impl<K: Keeper> School<K> {
         requires own { ArePasses self passes }
         requires every { HaveEvery self passes }
         requires founded { HasFounding self passes }
-        ensures { Closes K.faults passes result }
+        ensures { Closes K.faults (seen_in passes) result }
     {
         let School {
             records,
@@ -85,11 +116,9 @@ impl<K: Keeper> School<K> {
             room,
         } = self;
         let Passes {
-            records: mut seen,
+            records: seen,
             parts: passes,
         } = passes;
-        let shards = close_parts(&records, &mut seen, parts, passes, room);
-        let catalog = records.close(seen).into_catalog();
-        Solo::of(catalog, shards)
+        close_all(records, seen, room, parts, passes)
     }
 }

@@ -4,9 +4,11 @@
 mod at_shard;
 mod attempts;
 mod closing;
+mod opening;
 mod passes;
 mod reports;
 mod school;
+mod splitting;
 mod steps;
 mod tokens;
 mod visit;

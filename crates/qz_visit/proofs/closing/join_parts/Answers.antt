@@ -1,8 +1,7 @@
-use Rattle.std.proofs.Common.{◌≡◌, ◌<◌, ◌∷◌, [], Some, List, ℕ, length, length-append, sym, subst, arith}
+use Rattle.std.proofs.Common.{◌≡◌, ◌<◌, ◌∷◌, [], Some, ℕ, length, length-append, sym, subst, arith}
 use Rattle.std.specs.Prelude.{slice_get, slice_set}
 use Rattle.std.proofs.lemmas.List.{nil_from_length}
-use Rattle.qz_visit.specs.Ways.{Part}
-use Rattle.qz_visit.proofs.Closed.{JoinedFrom, join_lock, joined_all, joined_none, joined_one, other_lock}
+use Rattle.qz_visit.proofs.Closed.{JoinedFrom, join_lock, joined_all, joined_one, other_lock}
 use Rattle.qz_visit.proofs.Standing.{there_at}
 use Rattle.qz_visit.proofs.closing.join_parts.Goals as goal
 

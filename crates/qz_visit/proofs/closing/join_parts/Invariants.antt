@@ -1,4 +1,4 @@
-use Rattle.std.proofs.Common.{◌≡◌, length}
+use Rattle.std.proofs.Common.{length}
 use Rattle.qz_visit.proofs.Closed.{JoinedFrom}
 use Rattle.qz_visit.proofs.closing.join_parts.Given as goal
 

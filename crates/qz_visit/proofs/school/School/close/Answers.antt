@@ -1,48 +1,54 @@
-use Rattle.std.proofs.Common.{◌≡◌, ℕ, length, ap, ◌∙◌, sym, subst}
-use Rattle.qz_catalog.specs.Keeping.{Keeping}
-use Rattle.qz_catalog_turns.specs.Turning.{tale_of}
-use Rattle.qz_solo.specs.Solos.{IsSolo}
-use Rattle.qz_turn.proofs.Prefixes.{follows_trans, prefix_trans}
-use Rattle.qz_visit.specs.Closing.{AreClosed}
-use Rattle.qz_visit.proofs.Closed.{all_on, closed_solo, count_closed, founded_on}
+use Rattle.std.proofs.Common.{◌≡◌, ℕ, ◌+◌, ◌<◌, List, [], ◌++◌, Some, length, reverse, append-nil, ap, ◌∙◌, sym, subst, arith}
+use Rattle.qz_shard.specs.Keeping.{Keeping}
+use Rattle.qz_shard_turns.specs.Tying.{Placed}
+use Rattle.qz_terms.specs.declared.record.Record.{Record}
+use Rattle.qz_terms.specs.Catalog as catalog
+use Rattle.qz_turn.specs.declared.view.Tale.{Tale}
+use Rattle.qz_turn.specs.Turns.{Locked}
+use Rattle.qz_visit.specs.Closing.{AreClosed, ArePlaced, none}
+use Rattle.qz_visit.specs.Opening.{tales}
+use Rattle.qz_visit.specs.Visits.{seen_by}
+use Rattle.qz_visit.specs.Ways.{Part}
 use Rattle.qz_visit.proofs.school.School.close.Goals as goal
 
-pub close-requires-clause-numbers : goal.close-requires-clause-numbers
-close-requires-clause-numbers g c =
-    let every = rw (← c.passes.view_is, ← c.self.view_is) at c.requires.every in
-    c.close_parts-shards.ensures.seen.every _ every.records
+-- there are as many locks as passes, and no shard is left
+count : {K : Type 0} (ls : List (Locked Placed)) (ps : List Part) (others : List (Keeping K)) → length ps ≡ length ls → others ≡ [] → length ls ≡ length ps + length others
+count ls ps others long empty = let no_others = ap length empty in omega (arith, long, no_others)
 
-pub of-requires : goal.of-requires
-of-requires g c =
-    let faults = g.K.Keeper.faults in
-    let so = c.passes.inside.records in
-    let ls = c.self.inside.parts.items in
-    let ps = c.passes.inside.parts.items in
-    let ss = c.close_parts-shards.result.items in
-    let seen = c.close_parts-shards.new.seen in
-    let cat = c.close.result in
+none-left : {K : Type 0} (faults : K → ℕ) (c : List Record) (n k : ℕ) (others : List (Keeping K)) → others ≡ [] → AreClosed faults c n k (tales faults (reverse others)) (reverse others)
+none-left faults c n k others empty = subst (λ (l : List (Keeping _)). AreClosed faults c n k (tales faults (reverse l)) (reverse l)) (sym empty) (none k)
+
+pub close_all-requires-clause-numbers : goal.close_all-requires-clause-numbers
+close_all-requires-clause-numbers g c =
+    let every = rw (← c.passes.view_is, ← c.self.view_is) at c.requires.every in
+    every.records
+
+pub close_all-requires-clause-placed : goal.close_all-requires-clause-placed
+close_all-requires-clause-placed g c =
     let own = rw (← c.passes.view_is, ← c.self.view_is) at c.requires.own in
-    let end = c.close_parts-shards.ensures.seen in
-    let follows = c.close.ensures.follows in
-    let closed = all_on faults seen.seen.list cat.held.list (length ls) 0 ps ss follows.begins c.close_parts-shards.ensures.closed in
-    let long : length ss ≡ length ls = count_closed faults cat.held.list (length ls) 0 ps ss closed ∙ own.parts.count in
+    let ls = c.self.inside.parts.items in
+    subst (λ (n : ℕ). ArePlaced c.self.inside.records.lock n ls) (count ls c.passes.inside.parts.items c.self.inside.room.items own.parts.count c.self.invariant.1) (record { each = c.self.invariant.0.placed })
+
+pub close_all-requires-clause-some : goal.close_all-requires-clause-some
+close_all-requires-clause-some g c =
+    let own = rw (← c.passes.view_is, ← c.self.view_is) at c.requires.own in
+    subst (λ (n : ℕ). 0 < n) (count c.self.inside.parts.items c.passes.inside.parts.items c.self.inside.room.items own.parts.count c.self.invariant.1) c.self.invariant.0.some
+
+pub close_all-requires-clause-founded : goal.close_all-requires-clause-founded
+close_all-requires-clause-founded g c =
+    let own = rw (← c.passes.view_is, ← c.self.view_is) at c.requires.own in
     let founding = rw (← c.passes.view_is, ← c.self.view_is) at c.requires.founded in
-    let founded = founded_on so.seen.list cat.held.list (length ls) (prefix_trans so.seen.list seen.seen.list cat.held.list end.begins.begins follows.begins) founding.founded in
-    subst (λ (x : Keeping _). IsSolo x ss) (sym c.into_catalog-catalog.ensures) (closed_solo faults cat (length ls) ps ss c.self.invariant.0.some long founded closed)
+    subst (λ (n : ℕ). catalog.shards c.passes.inside.records.seen.list ≡ Some n) (count c.self.inside.parts.items c.passes.inside.parts.items c.self.inside.room.items own.parts.count c.self.invariant.1) founding.founded
+
+pub close_all-requires-clause-left : goal.close_all-requires-clause-left
+close_all-requires-clause-left g c =
+    let ps = c.passes.inside.parts.items in
+    none-left g.K.Keeper.faults c.passes.inside.records.seen.list (length ps + length c.self.inside.room.items) (length ps) c.self.inside.room.items c.self.invariant.1
 
 pub returns : goal.returns
 returns g c =
-    let faults = g.K.Keeper.faults in
-    let so = c.passes.inside.records in
-    let ls = c.self.inside.parts.items in
     let ps = c.passes.inside.parts.items in
-    let ss = c.close_parts-shards.result.items in
-    let seen = c.close_parts-shards.new.seen in
-    let cat = c.close.result in
-    let own = rw (← c.passes.view_is, ← c.self.view_is) at c.requires.own in
-    let end = c.close_parts-shards.ensures.seen in
-    let follows = c.close.ensures.follows in
-    let closed = all_on faults seen.seen.list cat.held.list (length ls) 0 ps ss follows.begins c.close_parts-shards.ensures.closed in
-    let long : length ss ≡ length ls = count_closed faults cat.held.list (length ls) 0 ps ss closed ∙ own.parts.count in
-    let all : AreClosed faults cat.held.list (length ss) 0 ps ss = subst (λ (n : ℕ). AreClosed faults cat.held.list n 0 ps ss) (sym long) closed in
-    rw (c.of.ensures, c.into_catalog-catalog.ensures, ← c.passes.view_is) (record { records = follows_trans so.seen seen.seen (tale_of cat.held (faults cat.keeper)) end.begins follows; parts = all })
+    let no_tales : seen_by ps ++ tales g.K.Keeper.faults (reverse c.self.inside.room.items) ≡ seen_by ps = ap (λ (l : List (Keeping _)). seen_by ps ++ tales g.K.Keeper.faults (reverse l)) c.self.invariant.1 ∙ append-nil (seen_by ps) in
+    let all = c.close_all.result in
+    let closed = subst (λ (ts : List (Tale Record)). AreClosed g.K.Keeper.faults all.catalog.held.list (length all.parts) 0 ts all.parts) no_tales c.close_all.ensures.parts in
+    rw (← c.passes.view_is) (record { records = c.close_all.ensures.records; parts = closed })

@@ -1,0 +1,22 @@
+use Rattle.std.proofs.Common.{sym, subst}
+use Rattle.qz_catalog.specs.Keeping.{Keeping}
+use Rattle.qz_solo.specs.Solos.{IsSolo}
+use Rattle.qz_visit.proofs.Opened.{closes_again, solo_again}
+use Rattle.qz_visit.proofs.closing.close_all.Goals as goal
+
+pub of-requires : goal.of-requires
+of-requires g c =
+    let r = c.requires in
+    let e = c.close_parts-shards.ensures in
+    let cat = c.close.result in
+    let all = c.close_parts-shards.result.items in
+    subst (λ (x : Keeping _). IsSolo x all) (sym c.into_catalog-catalog.ensures)
+    (solo_again g.K.Keeper.faults c.args.seen c.close_parts-shards.new.seen cat c.args.passes.items c.args.shards.items all r.some r.founded e.closed e.seen c.close.ensures.follows r.left)
+
+pub returns : goal.returns
+returns g c =
+    let e = c.close_parts-shards.ensures in
+    let cat = c.close.result in
+    let all = c.close_parts-shards.result.items in
+    rw (c.of.ensures, c.into_catalog-catalog.ensures)
+    (closes_again g.K.Keeper.faults c.args.seen c.close_parts-shards.new.seen cat c.args.passes.items c.args.shards.items all e.closed e.seen c.close.ensures.follows c.requires.left)

@@ -1,0 +1,171 @@
+use Rattle.std.proofs.Common.{◌≡◌, ◌+◌, ◌<◌, List, ℕ, Some, length, reverse, ap, ◌∙◌, sym, subst, arith}
+use Rattle.std.proofs.lemmas.List.{reverse-reverse}
+use Rattle.qz_catalog.specs.Keeping as records
+use Rattle.qz_catalog_turns.specs.Turning.{tale_of}
+use Rattle.qz_shard.specs.Keeping.{Keeping}
+use Rattle.qz_solo.specs.Solos.{AgreeAll, ArePlaced}
+use Rattle.qz_terms.specs.declared.record.Record.{Record}
+use Rattle.qz_terms.specs.Catalog as catalog
+use Rattle.qz_turn.specs.declared.view.Tale.{Tale}
+use Rattle.qz_turn.specs.Rule.{HasEvery}
+use Rattle.qz_visit.specs.Closing as closing
+use Rattle.qz_visit.specs.Closing.{AreClosed, Closes}
+use Rattle.qz_visit.specs.Opening.{HalfOpens, tales}
+use Rattle.qz_visit.specs.Visits.{IsPlaced}
+use Rattle.qz_visit.specs.Ways.{Seen}
+use Rattle.qz_visit.proofs.Opened.{closes_self, half_count, half_every, half_left, half_tales, has_below, many_opened, whole_opened}
+use Rattle.qz_visit.proofs.opening.open_all.Goals as goal
+
+back : {K : Type 0} (all turned : List (Keeping K)) → turned ≡ reverse all → reverse turned ≡ all
+back all turned is = ap reverse is ∙ reverse-reverse all
+
+pub open_parts-opened-requires-clause-placed : goal.open_parts-opened-requires-clause-placed
+open_parts-opened-requires-clause-placed g c =
+    subst ArePlaced (sym (back c.args.shards.items c.reverse.new.self.items c.reverse.ensures.items)) c.requires.solo.placed
+
+pub open_parts-opened-requires-clause-agree : goal.open_parts-opened-requires-clause-agree
+open_parts-opened-requires-clause-agree g c =
+    let faults = g.K.Keeper.faults in
+    let turned = back c.args.shards.items c.reverse.new.self.items c.reverse.ensures.items in
+    let agree = subst (AgreeAll c.args.catalog.held.list) (sym turned) c.requires.solo.agree in
+    let told : tale_of c.new.result.held (faults c.new.result.keeper) ≡ tale_of c.args.catalog.held (faults c.args.catalog.keeper) = ap (λ (x : records.Keeping _). tale_of x.held (faults x.keeper)) c.new.ensures in
+    let tale = ap (λ (x : Seen). x.seen) c.in-Ok.ensures.pass ∙ told in
+    subst (λ (l : List Record). AgreeAll l (reverse c.reverse.new.self.items)) (sym (ap (λ (t : Tale Record). t.list) tale)) agree
+
+pub invariant_of-result : goal.invariant_of-result
+invariant_of-result g c =
+    let faults = g.K.Keeper.faults in
+    let all = c.args.shards.items in
+    let turned = back all c.reverse.new.self.items c.reverse.ensures.items in
+    let lock = c.in-Ok.records.lock in
+    let left = c.open_parts-opened.new.shards.items in
+    let ls = c.open_parts-opened.new.locks.items in
+    let ps = c.open_parts-opened.new.passes.items in
+    let half = subst (λ (x : List (Keeping _)). HalfOpens faults lock c.args.seats x left ls ps) turned c.open_parts-opened.ensures.opened in
+    let empty = c.in-Ok-opened.ensures.all in
+    let opened = whole_opened faults lock c.args.seats all left ls ps half empty in
+    let many = many_opened faults lock c.args.seats (length all) all ls ps opened in
+    let some = c.requires.solo.some in
+    let none = ap length empty in
+    let room = c.open_parts-opened.ensures.room in (
+      record { some = omega (arith, many, some); placed = λ k l at. subst (λ (n : ℕ). IsPlaced lock n k l.lock) (sym many) (opened.placed.each k l at) },
+      empty,
+      omega (arith, room, none),
+    )
+
+pub close_all-requires-clause-numbers : goal.close_all-requires-clause-numbers
+close_all-requires-clause-numbers g c =
+    let seen = c.open_parts-opened.ensures.seen ∙ c.in-Ok.ensures.pass in
+    let numbers = ap (λ (x : Seen). x.numbers) seen in
+    subst (λ (n : ℕ). HasEvery n c.open_parts-opened.new.seen.numbers) (sym c.in-Ok.ensures.lock.1) (subst (HasEvery c.args.seats) (sym numbers) (has_below c.args.seats))
+
+pub close_all-requires-clause-placed : goal.close_all-requires-clause-placed
+close_all-requires-clause-placed g c =
+    let faults = g.K.Keeper.faults in
+    let all = c.args.shards.items in
+    let turned = back all c.reverse.new.self.items c.reverse.ensures.items in
+    let lock = c.in-Ok.records.lock in
+    let left = c.open_parts-opened.new.shards.items in
+    let ls = c.open_parts-opened.new.locks.items in
+    let ps = c.open_parts-opened.new.passes.items in
+    let half = subst (λ (x : List (Keeping _)). HalfOpens faults lock c.args.seats x left ls ps) turned c.open_parts-opened.ensures.opened in
+    subst (λ (n : ℕ). closing.ArePlaced lock n ls) (half_count faults lock c.args.seats all left ls ps half) half.opened.placed
+
+pub close_all-requires-clause-every : goal.close_all-requires-clause-every
+close_all-requires-clause-every g c =
+    let faults = g.K.Keeper.faults in
+    let all = c.args.shards.items in
+    let turned = back all c.reverse.new.self.items c.reverse.ensures.items in
+    let lock = c.in-Ok.records.lock in
+    let left = c.open_parts-opened.new.shards.items in
+    let ls = c.open_parts-opened.new.locks.items in
+    let ps = c.open_parts-opened.new.passes.items in
+    let half = subst (λ (x : List (Keeping _)). HalfOpens faults lock c.args.seats x left ls ps) turned c.open_parts-opened.ensures.opened in
+    half_every faults lock c.args.seats all left ls ps half
+
+pub close_all-requires-clause-some : goal.close_all-requires-clause-some
+close_all-requires-clause-some g c =
+    let faults = g.K.Keeper.faults in
+    let all = c.args.shards.items in
+    let turned = back all c.reverse.new.self.items c.reverse.ensures.items in
+    let lock = c.in-Ok.records.lock in
+    let left = c.open_parts-opened.new.shards.items in
+    let ls = c.open_parts-opened.new.locks.items in
+    let ps = c.open_parts-opened.new.passes.items in
+    let half = subst (λ (x : List (Keeping _)). HalfOpens faults lock c.args.seats x left ls ps) turned c.open_parts-opened.ensures.opened in
+    subst (λ (n : ℕ). 0 < n) (half_count faults lock c.args.seats all left ls ps half) c.requires.solo.some
+
+pub close_all-requires-clause-founded : goal.close_all-requires-clause-founded
+close_all-requires-clause-founded g c =
+    let faults = g.K.Keeper.faults in
+    let all = c.args.shards.items in
+    let turned = back all c.reverse.new.self.items c.reverse.ensures.items in
+    let lock = c.in-Ok.records.lock in
+    let left = c.open_parts-opened.new.shards.items in
+    let ls = c.open_parts-opened.new.locks.items in
+    let ps = c.open_parts-opened.new.passes.items in
+    let half = subst (λ (x : List (Keeping _)). HalfOpens faults lock c.args.seats x left ls ps) turned c.open_parts-opened.ensures.opened in
+    let seen = c.open_parts-opened.ensures.seen ∙ c.in-Ok.ensures.pass in
+    let told : tale_of c.new.result.held (faults c.new.result.keeper) ≡ tale_of c.args.catalog.held (faults c.args.catalog.keeper) = ap (λ (x : records.Keeping _). tale_of x.held (faults x.keeper)) c.new.ensures in
+    let tale = ap (λ (x : Seen). x.seen) seen ∙ told in
+    let count = half_count faults lock c.args.seats all left ls ps half in
+    let founded = subst (λ (n : ℕ). catalog.shards c.args.catalog.held.list ≡ Some n) count c.requires.solo.founded in
+    subst (λ (t : Tale Record). catalog.shards t.list ≡ Some (length ps + length left)) (sym tale) founded
+
+pub close_all-requires-clause-left : goal.close_all-requires-clause-left
+close_all-requires-clause-left g c =
+    let faults = g.K.Keeper.faults in
+    let all = c.args.shards.items in
+    let turned = back all c.reverse.new.self.items c.reverse.ensures.items in
+    let lock = c.in-Ok.records.lock in
+    let left = c.open_parts-opened.new.shards.items in
+    let ls = c.open_parts-opened.new.locks.items in
+    let ps = c.open_parts-opened.new.passes.items in
+    let half = subst (λ (x : List (Keeping _)). HalfOpens faults lock c.args.seats x left ls ps) turned c.open_parts-opened.ensures.opened in
+    let seen = c.open_parts-opened.ensures.seen ∙ c.in-Ok.ensures.pass in
+    let told : tale_of c.new.result.held (faults c.new.result.keeper) ≡ tale_of c.args.catalog.held (faults c.args.catalog.keeper) = ap (λ (x : records.Keeping _). tale_of x.held (faults x.keeper)) c.new.ensures in
+    let tale = ap (λ (x : Seen). x.seen) seen ∙ told in
+    subst (λ (t : Tale Record). AreClosed faults t.list (length ps + length left) (length ps) (tales faults (reverse left)) (reverse left)) (sym tale)
+    (half_left faults lock c.args.seats all left ls ps c.args.catalog half c.requires.solo)
+
+pub returns-in-Ok-opened-clause-opened : goal.returns-in-Ok-opened-clause-opened
+returns-in-Ok-opened-clause-opened g c =
+    let faults = g.K.Keeper.faults in
+    let all = c.args.shards.items in
+    let turned = back all c.reverse.new.self.items c.reverse.ensures.items in
+    let lock = c.in-Ok.records.lock in
+    let left = c.open_parts-opened.new.shards.items in
+    let ls = c.open_parts-opened.new.locks.items in
+    let ps = c.open_parts-opened.new.passes.items in
+    let half = subst (λ (x : List (Keeping _)). HalfOpens faults lock c.args.seats x left ls ps) turned c.open_parts-opened.ensures.opened in
+    let opened = whole_opened faults lock c.args.seats all left ls ps half c.in-Ok-opened.ensures.all in
+    let first = c.open_parts-opened.ensures.seen ∙ c.in-Ok.ensures.pass in
+    let seen = rw c.new.ensures at first in
+    record { seats_are = c.in-Ok.ensures.lock.1; records = seen; parts = opened }
+
+pub returns-in-Err-opened-clause-refused : goal.returns-in-Err-opened-clause-refused
+returns-in-Err-opened-clause-refused g c =
+    let faults = g.K.Keeper.faults in
+    let all = c.args.shards.items in
+    let turned = back all c.reverse.new.self.items c.reverse.ensures.items in
+    let lock = c.in-Ok.records.lock in
+    let left = c.open_parts-opened.new.shards.items in
+    let ls = c.open_parts-opened.new.locks.items in
+    let ps = c.open_parts-opened.new.passes.items in
+    let half = subst (λ (x : List (Keeping _)). HalfOpens faults lock c.args.seats x left ls ps) turned c.open_parts-opened.ensures.opened in
+    let seen = c.open_parts-opened.ensures.seen ∙ c.in-Ok.ensures.pass in
+    let told : tale_of c.new.result.held (faults c.new.result.keeper) ≡ tale_of c.args.catalog.held (faults c.args.catalog.keeper) = ap (λ (x : records.Keeping _). tale_of x.held (faults x.keeper)) c.new.ensures in
+    let tale = ap (λ (x : Seen). x.seen) seen ∙ told in
+    let tells = half_tales faults lock c.args.seats all left ls ps half in
+    let a = c.close_all.result in
+    let closes = c.close_all.ensures in
+    record {
+      records = rw (← tale) closes.records;
+      parts = subst (λ (ts : List (Tale Record)). AreClosed faults a.catalog.held.list (length a.parts) 0 ts a.parts) tells closes.parts;
+    }
+
+pub returns-in-Err-clause-refused : goal.returns-in-Err-clause-refused
+returns-in-Err-clause-refused g c =
+    let same = c.into_catalog.ensures ∙ c.in-Err.ensures.refused ∙ c.new.ensures in
+    let whole = rw same at c.of.ensures in
+    rw whole (closes_self g.K.Keeper.faults record { catalog = c.args.catalog; parts = c.args.shards.items } c.requires.solo)
