@@ -2,7 +2,7 @@
 use Rattle.std.proofs.Common.{◌≡◌, ◌⊎◌, inl, inr, ℕ, zero, suc, ◌+◌, ◌<◌, List, [], ◌∷◌, ◌++◌, Some, length, reverse, refl, sym, ap, ◌∙◌, subst, append-nil, append_assoc, arith}
 use Rattle.std.specs.Prelude.{slice_get}
 use Rattle.std.proofs.lemmas.List.FromFn.{get_or-range_with_len, length-range_with_len}
-use Rattle.std.proofs.lemmas.List.{length-append, length-map, length-reverse, map-append, reverse-append}
+use Rattle.std.proofs.lemmas.List.{length-append, length-map, length-reverse, map-append, reverse-append, reverse-reverse}
 use Rattle.std.proofs.lemmas.Option.{slice_get_within}
 use mathlib.Core.List.{IsPrefix}
 use Rattle.qz_catalog.specs.Keeping as records
@@ -201,7 +201,14 @@ closes_self faults a so = record {
   parts = closed_same faults a.catalog.held.list (length a.parts) 0 a.parts (λ j s at. subst (λ (k : ℕ). Stands a.catalog.held.list (length a.parts) k s) (omega arith) (stands a.catalog a.parts j s so at));
 }
 
-module _ {K : Type 0} (faults : K → ℕ) (lock : Lock (Unit {0})) (seats : ℕ) (all left : List (part.Keeping K)) (ls : List (Locked Placed)) (ps : List Part) where
+pub turned_back : {K : Type 0} (all turned : List (part.Keeping K)) → turned ≡ reverse all → reverse turned ≡ all
+turned_back all turned is = ap reverse is ∙ reverse-reverse all
+
+-- those that were turned round before
+pub half_of : {K : Type 0} {faults : K → ℕ} {lock : Lock (Unit {0})} {seats : ℕ} {left : List (part.Keeping K)} {ls : List (Locked Placed)} {ps : List Part} (all turned : List (part.Keeping K)) → turned ≡ reverse all → HalfOpens faults lock seats (reverse turned) left ls ps → HalfOpens faults lock seats all left ls ps
+half_of {faults = faults} {lock = lock} {seats = seats} {left = left} {ls = ls} {ps = ps} all turned is half = subst (λ (x : List (part.Keeping _)). HalfOpens faults lock seats x left ls ps) (turned_back all turned is) half
+
+module _ {K : Type 0} {faults : K → ℕ} {lock : Lock (Unit {0})} {seats : ℕ} {all left : List (part.Keeping K)} {ls : List (Locked Placed)} {ps : List Part} where
   many-done : (h : HalfOpens faults lock seats all left ls ps) → length h.done ≡ length ps
   many-done h =
       let many = many_opened faults lock seats (length all) h.done ls ps h.opened in

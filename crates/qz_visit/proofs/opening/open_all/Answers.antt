@@ -1,8 +1,6 @@
-use Rattle.std.proofs.Common.{◌≡◌, ◌+◌, ◌<◌, List, ℕ, Some, length, reverse, ap, ◌∙◌, sym, subst, arith}
-use Rattle.std.proofs.lemmas.List.{reverse-reverse}
+use Rattle.std.proofs.Common.{◌≡◌, ◌+◌, ◌<◌, List, ℕ, Some, length, reverse, ap, ◌∙◌, sym, subst, arith, refl}
 use Rattle.qz_catalog.specs.Keeping as records
 use Rattle.qz_catalog_turns.specs.Turning.{tale_of}
-use Rattle.qz_shard.specs.Keeping.{Keeping}
 use Rattle.qz_solo.specs.Solos.{AgreeAll, ArePlaced}
 use Rattle.qz_terms.specs.declared.record.Record.{Record}
 use Rattle.qz_terms.specs.Catalog as catalog
@@ -10,45 +8,38 @@ use Rattle.qz_turn.specs.declared.view.Tale.{Tale}
 use Rattle.qz_turn.specs.Rule.{HasEvery}
 use Rattle.qz_visit.specs.Closing as closing
 use Rattle.qz_visit.specs.Closing.{AreClosed, Closes}
-use Rattle.qz_visit.specs.Opening.{HalfOpens, tales}
+use Rattle.qz_visit.specs.Opening.{tales}
 use Rattle.qz_visit.specs.Visits.{IsPlaced}
 use Rattle.qz_visit.specs.Ways.{Seen}
-use Rattle.qz_visit.proofs.Opened.{closes_self, half_count, half_every, half_left, half_tales, has_below, many_opened, whole_opened}
+use Rattle.qz_visit.proofs.Opened.{closes_self, half_count, half_every, half_left, half_of, half_tales, has_below, many_opened, turned_back, whole_opened}
 use Rattle.qz_visit.proofs.opening.open_all.Goals as goal
 
-back : {K : Type 0} (all turned : List (Keeping K)) → turned ≡ reverse all → reverse turned ≡ all
-back all turned is = ap reverse is ∙ reverse-reverse all
+-- what the catalogue tells is what its first pass has seen
+seen-tale : {K : Type 0} (faults : K → ℕ) (cat given : records.Keeping K) (seen first : Seen) → given ≡ cat → seen ≡ first → first.seen ≡ tale_of given.held (faults given.keeper) → seen.seen ≡ tale_of cat.held (faults cat.keeper)
+seen-tale faults cat given seen first same is told = ap (λ (x : Seen). x.seen) is ∙ told ∙ ap (λ (x : records.Keeping _). tale_of x.held (faults x.keeper)) same
 
 pub open_parts-opened-requires-clause-placed : goal.open_parts-opened-requires-clause-placed
 open_parts-opened-requires-clause-placed g c =
-    subst ArePlaced (sym (back c.args.shards.items c.reverse.new.self.items c.reverse.ensures.items)) c.requires.solo.placed
+    subst ArePlaced (sym (turned_back c.args.shards.items c.reverse.new.self.items c.reverse.ensures.items)) c.requires.solo.placed
 
 pub open_parts-opened-requires-clause-agree : goal.open_parts-opened-requires-clause-agree
 open_parts-opened-requires-clause-agree g c =
     let faults = g.K.Keeper.faults in
-    let turned = back c.args.shards.items c.reverse.new.self.items c.reverse.ensures.items in
+    let turned = turned_back c.args.shards.items c.reverse.new.self.items c.reverse.ensures.items in
     let agree = subst (AgreeAll c.args.catalog.held.list) (sym turned) c.requires.solo.agree in
-    let told : tale_of c.new.result.held (faults c.new.result.keeper) ≡ tale_of c.args.catalog.held (faults c.args.catalog.keeper) = ap (λ (x : records.Keeping _). tale_of x.held (faults x.keeper)) c.new.ensures in
-    let tale = ap (λ (x : Seen). x.seen) c.in-Ok.ensures.pass ∙ told in
+    let tale = seen-tale faults c.args.catalog c.new.result c.in-Ok.seen c.in-Ok.seen c.new.ensures refl (ap (λ (x : Seen). x.seen) c.in-Ok.ensures.pass) in
     subst (λ (l : List Record). AgreeAll l (reverse c.reverse.new.self.items)) (sym (ap (λ (t : Tale Record). t.list) tale)) agree
 
 pub invariant_of-result : goal.invariant_of-result
 invariant_of-result g c =
-    let faults = g.K.Keeper.faults in
-    let all = c.args.shards.items in
-    let turned = back all c.reverse.new.self.items c.reverse.ensures.items in
-    let lock = c.in-Ok.records.lock in
-    let left = c.open_parts-opened.new.shards.items in
-    let ls = c.open_parts-opened.new.locks.items in
-    let ps = c.open_parts-opened.new.passes.items in
-    let half = subst (λ (x : List (Keeping _)). HalfOpens faults lock c.args.seats x left ls ps) turned c.open_parts-opened.ensures.opened in
+    let half = half_of c.args.shards.items c.reverse.new.self.items c.reverse.ensures.items c.open_parts-opened.ensures.opened in
     let empty = c.in-Ok-opened.ensures.all in
-    let opened = whole_opened faults lock c.args.seats all left ls ps half empty in
-    let many = many_opened faults lock c.args.seats (length all) all ls ps opened in
+    let opened = whole_opened half empty in
+    let many = many_opened g.K.Keeper.faults c.in-Ok.records.lock c.args.seats (length c.args.shards.items) c.args.shards.items c.open_parts-opened.new.locks.items c.open_parts-opened.new.passes.items opened in
     let some = c.requires.solo.some in
     let none = ap length empty in
     let room = c.open_parts-opened.ensures.room in (
-      record { some = omega (arith, many, some); placed = λ k l at. subst (λ (n : ℕ). IsPlaced lock n k l.lock) (sym many) (opened.placed.each k l at) },
+      record { some = omega (arith, many, some); placed = λ k l at. subst (λ (n : ℕ). IsPlaced c.in-Ok.records.lock n k l.lock) (sym many) (opened.placed.each k l at) },
       empty,
       omega (arith, room, none),
     )
@@ -61,107 +52,55 @@ close_all-requires-clause-numbers g c =
 
 pub close_all-requires-clause-placed : goal.close_all-requires-clause-placed
 close_all-requires-clause-placed g c =
-    let faults = g.K.Keeper.faults in
-    let all = c.args.shards.items in
-    let turned = back all c.reverse.new.self.items c.reverse.ensures.items in
-    let lock = c.in-Ok.records.lock in
-    let left = c.open_parts-opened.new.shards.items in
-    let ls = c.open_parts-opened.new.locks.items in
-    let ps = c.open_parts-opened.new.passes.items in
-    let half = subst (λ (x : List (Keeping _)). HalfOpens faults lock c.args.seats x left ls ps) turned c.open_parts-opened.ensures.opened in
-    subst (λ (n : ℕ). closing.ArePlaced lock n ls) (half_count faults lock c.args.seats all left ls ps half) half.opened.placed
+    let half = half_of c.args.shards.items c.reverse.new.self.items c.reverse.ensures.items c.open_parts-opened.ensures.opened in
+    subst (λ (n : ℕ). closing.ArePlaced c.in-Ok.records.lock n c.open_parts-opened.new.locks.items) (half_count half) half.opened.placed
 
 pub close_all-requires-clause-every : goal.close_all-requires-clause-every
 close_all-requires-clause-every g c =
-    let faults = g.K.Keeper.faults in
-    let all = c.args.shards.items in
-    let turned = back all c.reverse.new.self.items c.reverse.ensures.items in
-    let lock = c.in-Ok.records.lock in
-    let left = c.open_parts-opened.new.shards.items in
-    let ls = c.open_parts-opened.new.locks.items in
-    let ps = c.open_parts-opened.new.passes.items in
-    let half = subst (λ (x : List (Keeping _)). HalfOpens faults lock c.args.seats x left ls ps) turned c.open_parts-opened.ensures.opened in
-    half_every faults lock c.args.seats all left ls ps half
+    let half = half_of c.args.shards.items c.reverse.new.self.items c.reverse.ensures.items c.open_parts-opened.ensures.opened in
+    half_every half
 
 pub close_all-requires-clause-some : goal.close_all-requires-clause-some
 close_all-requires-clause-some g c =
-    let faults = g.K.Keeper.faults in
-    let all = c.args.shards.items in
-    let turned = back all c.reverse.new.self.items c.reverse.ensures.items in
-    let lock = c.in-Ok.records.lock in
-    let left = c.open_parts-opened.new.shards.items in
-    let ls = c.open_parts-opened.new.locks.items in
-    let ps = c.open_parts-opened.new.passes.items in
-    let half = subst (λ (x : List (Keeping _)). HalfOpens faults lock c.args.seats x left ls ps) turned c.open_parts-opened.ensures.opened in
-    subst (λ (n : ℕ). 0 < n) (half_count faults lock c.args.seats all left ls ps half) c.requires.solo.some
+    let half = half_of c.args.shards.items c.reverse.new.self.items c.reverse.ensures.items c.open_parts-opened.ensures.opened in
+    subst (λ (n : ℕ). 0 < n) (half_count half) c.requires.solo.some
 
 pub close_all-requires-clause-founded : goal.close_all-requires-clause-founded
 close_all-requires-clause-founded g c =
-    let faults = g.K.Keeper.faults in
-    let all = c.args.shards.items in
-    let turned = back all c.reverse.new.self.items c.reverse.ensures.items in
-    let lock = c.in-Ok.records.lock in
-    let left = c.open_parts-opened.new.shards.items in
-    let ls = c.open_parts-opened.new.locks.items in
-    let ps = c.open_parts-opened.new.passes.items in
-    let half = subst (λ (x : List (Keeping _)). HalfOpens faults lock c.args.seats x left ls ps) turned c.open_parts-opened.ensures.opened in
-    let seen = c.open_parts-opened.ensures.seen ∙ c.in-Ok.ensures.pass in
-    let told : tale_of c.new.result.held (faults c.new.result.keeper) ≡ tale_of c.args.catalog.held (faults c.args.catalog.keeper) = ap (λ (x : records.Keeping _). tale_of x.held (faults x.keeper)) c.new.ensures in
-    let tale = ap (λ (x : Seen). x.seen) seen ∙ told in
-    let count = half_count faults lock c.args.seats all left ls ps half in
+    let half = half_of c.args.shards.items c.reverse.new.self.items c.reverse.ensures.items c.open_parts-opened.ensures.opened in
+    let tale = seen-tale g.K.Keeper.faults c.args.catalog c.new.result c.open_parts-opened.new.seen c.in-Ok.seen c.new.ensures c.open_parts-opened.ensures.seen (ap (λ (x : Seen). x.seen) c.in-Ok.ensures.pass) in
+    let count = half_count half in
     let founded = subst (λ (n : ℕ). catalog.shards c.args.catalog.held.list ≡ Some n) count c.requires.solo.founded in
-    subst (λ (t : Tale Record). catalog.shards t.list ≡ Some (length ps + length left)) (sym tale) founded
+    subst (λ (t : Tale Record). catalog.shards t.list ≡ Some (length c.open_parts-opened.new.passes.items + length c.open_parts-opened.new.shards.items)) (sym tale) founded
 
 pub close_all-requires-clause-left : goal.close_all-requires-clause-left
 close_all-requires-clause-left g c =
+    let half = half_of c.args.shards.items c.reverse.new.self.items c.reverse.ensures.items c.open_parts-opened.ensures.opened in
+    let tale = seen-tale g.K.Keeper.faults c.args.catalog c.new.result c.open_parts-opened.new.seen c.in-Ok.seen c.new.ensures c.open_parts-opened.ensures.seen (ap (λ (x : Seen). x.seen) c.in-Ok.ensures.pass) in
     let faults = g.K.Keeper.faults in
-    let all = c.args.shards.items in
-    let turned = back all c.reverse.new.self.items c.reverse.ensures.items in
-    let lock = c.in-Ok.records.lock in
     let left = c.open_parts-opened.new.shards.items in
-    let ls = c.open_parts-opened.new.locks.items in
     let ps = c.open_parts-opened.new.passes.items in
-    let half = subst (λ (x : List (Keeping _)). HalfOpens faults lock c.args.seats x left ls ps) turned c.open_parts-opened.ensures.opened in
-    let seen = c.open_parts-opened.ensures.seen ∙ c.in-Ok.ensures.pass in
-    let told : tale_of c.new.result.held (faults c.new.result.keeper) ≡ tale_of c.args.catalog.held (faults c.args.catalog.keeper) = ap (λ (x : records.Keeping _). tale_of x.held (faults x.keeper)) c.new.ensures in
-    let tale = ap (λ (x : Seen). x.seen) seen ∙ told in
     subst (λ (t : Tale Record). AreClosed faults t.list (length ps + length left) (length ps) (tales faults (reverse left)) (reverse left)) (sym tale)
-    (half_left faults lock c.args.seats all left ls ps c.args.catalog half c.requires.solo)
+    (half_left c.args.catalog half c.requires.solo)
 
 pub returns-in-Ok-opened-clause-opened : goal.returns-in-Ok-opened-clause-opened
 returns-in-Ok-opened-clause-opened g c =
-    let faults = g.K.Keeper.faults in
-    let all = c.args.shards.items in
-    let turned = back all c.reverse.new.self.items c.reverse.ensures.items in
-    let lock = c.in-Ok.records.lock in
-    let left = c.open_parts-opened.new.shards.items in
-    let ls = c.open_parts-opened.new.locks.items in
-    let ps = c.open_parts-opened.new.passes.items in
-    let half = subst (λ (x : List (Keeping _)). HalfOpens faults lock c.args.seats x left ls ps) turned c.open_parts-opened.ensures.opened in
-    let opened = whole_opened faults lock c.args.seats all left ls ps half c.in-Ok-opened.ensures.all in
+    let half = half_of c.args.shards.items c.reverse.new.self.items c.reverse.ensures.items c.open_parts-opened.ensures.opened in
+    let opened = whole_opened half c.in-Ok-opened.ensures.all in
     let first = c.open_parts-opened.ensures.seen ∙ c.in-Ok.ensures.pass in
     let seen = rw c.new.ensures at first in
     record { seats_are = c.in-Ok.ensures.lock.1; records = seen; parts = opened }
 
 pub returns-in-Err-opened-clause-refused : goal.returns-in-Err-opened-clause-refused
 returns-in-Err-opened-clause-refused g c =
-    let faults = g.K.Keeper.faults in
-    let all = c.args.shards.items in
-    let turned = back all c.reverse.new.self.items c.reverse.ensures.items in
-    let lock = c.in-Ok.records.lock in
-    let left = c.open_parts-opened.new.shards.items in
-    let ls = c.open_parts-opened.new.locks.items in
-    let ps = c.open_parts-opened.new.passes.items in
-    let half = subst (λ (x : List (Keeping _)). HalfOpens faults lock c.args.seats x left ls ps) turned c.open_parts-opened.ensures.opened in
-    let seen = c.open_parts-opened.ensures.seen ∙ c.in-Ok.ensures.pass in
-    let told : tale_of c.new.result.held (faults c.new.result.keeper) ≡ tale_of c.args.catalog.held (faults c.args.catalog.keeper) = ap (λ (x : records.Keeping _). tale_of x.held (faults x.keeper)) c.new.ensures in
-    let tale = ap (λ (x : Seen). x.seen) seen ∙ told in
-    let tells = half_tales faults lock c.args.seats all left ls ps half in
+    let half = half_of c.args.shards.items c.reverse.new.self.items c.reverse.ensures.items c.open_parts-opened.ensures.opened in
+    let tale = seen-tale g.K.Keeper.faults c.args.catalog c.new.result c.open_parts-opened.new.seen c.in-Ok.seen c.new.ensures c.open_parts-opened.ensures.seen (ap (λ (x : Seen). x.seen) c.in-Ok.ensures.pass) in
+    let tells = half_tales half in
     let a = c.close_all.result in
     let closes = c.close_all.ensures in
     record {
       records = rw (← tale) closes.records;
-      parts = subst (λ (ts : List (Tale Record)). AreClosed faults a.catalog.held.list (length a.parts) 0 ts a.parts) tells closes.parts;
+      parts = subst (λ (ts : List (Tale Record)). AreClosed g.K.Keeper.faults a.catalog.held.list (length a.parts) 0 ts a.parts) tells closes.parts;
     }
 
 pub returns-in-Err-clause-refused : goal.returns-in-Err-clause-refused
