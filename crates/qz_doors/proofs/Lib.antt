@@ -1,2 +1,4 @@
 pub mod ServeLemmas
 pub mod DoorLemmas
+pub mod Following
+pub mod Carrying

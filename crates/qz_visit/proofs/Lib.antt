@@ -9,3 +9,5 @@ pub mod Standing
 pub mod Closed
 pub mod Opened
 pub mod Dealt
+pub mod Holding
+pub mod Seeing

@@ -4,3 +4,5 @@ pub mod Tokens
 pub mod Reports
 pub mod Closing
 pub mod Opening
+pub mod Seeing
+pub mod Holding

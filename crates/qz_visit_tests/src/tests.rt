@@ -1,6 +1,6 @@
 ghost use Rattle.std.specs.Prelude.{ℕ, List, [], ◌∷◌, IfOk};
 ghost use Rattle.qz_visit.specs.Visits.{AreOf};
-ghost use Rattle.qz_visit_tests.specs.Holding.{GoesOn, HasSeats, Holds};
+ghost use Rattle.qz_visit.specs.Holding.{GoesOn, HasSeats, Holds};
 
 use qz_disks::{Keeper, MemoryDisk, MemoryShelf};
 use qz_folders::found;
@@ -59,7 +59,7 @@ fn closed<K: Keeper>(school: School<K>, mut passes: Passes<K>, other: Passes<K>)
 }
 
 /// The reply to a line of a script.
-#[tactic(auto, using(crate::proofs::Holding::goes_asked, crate::proofs::Holding::goes_self))]
+#[tactic(auto, using(qz_visit::proofs::Holding::goes_asked, qz_visit::proofs::Holding::goes_self))]
 fn told<K: Keeper, R: Wait>(
     alloc: Global,
     visit: &mut Visit<K, R>,
@@ -76,7 +76,7 @@ fn told<K: Keeper, R: Wait>(
 }
 
 /// The replies to lines, in turn.
-#[tactic(auto, using(crate::proofs::Holding::goes_on, crate::proofs::Holding::goes_self))]
+#[tactic(auto, using(qz_visit::proofs::Holding::goes_on, qz_visit::proofs::Holding::goes_self))]
 fn all_told<K: Keeper, R: Wait>(
     alloc: Global,
     visit: &mut Visit<K, R>,
@@ -92,7 +92,7 @@ fn all_told<K: Keeper, R: Wait>(
 }
 
 /// What one with these passes is told, and the passes.
-#[tactic(auto, using(crate::proofs::Holding::holds_gone, crate::proofs::Holding::own_gone))]
+#[tactic(auto, using(qz_visit::proofs::Holding::holds_gone, qz_visit::proofs::Holding::own_gone))]
 fn asks<K: Keeper + Drop, R: Wait>(
     rt: &R,
     alloc: Global,
@@ -161,7 +161,7 @@ const BOB: [&str; 4] = [
 ];
 
 /// What two are told who ask on threads of their own.
-#[tactic(auto, using(crate::proofs::Holding::of_held))]
+#[tactic(auto, using(qz_visit::proofs::Holding::of_held))]
 fn both_told<K: Keeper + Drop + Send + Sync, R: Threads + Wait + Sync>(
     rt: &R,
     alloc: Global,

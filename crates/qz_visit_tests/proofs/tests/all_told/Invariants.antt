@@ -1,4 +1,4 @@
-use Rattle.qz_visit_tests.specs.Holding.{GoesOn}
+use Rattle.qz_visit.specs.Holding.{GoesOn}
 use Rattle.qz_visit_tests.proofs.tests.all_told.Given as goal
 
 abbrev pub invariant-loop-line : goal.invariant-loop-line

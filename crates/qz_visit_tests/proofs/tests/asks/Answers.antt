@@ -1,4 +1,4 @@
-use Rattle.qz_visit_tests.proofs.Holding.{holds_gone}
+use Rattle.qz_visit.proofs.Holding.{holds_gone}
 use Rattle.qz_visit_tests.proofs.tests.asks.Goals as goal
 
 pub returns-clause-numbers : goal.returns-clause-numbers

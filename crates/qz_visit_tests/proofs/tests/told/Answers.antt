@@ -1,4 +1,4 @@
-use Rattle.qz_visit_tests.proofs.Holding.{goes_asked}
+use Rattle.qz_visit.proofs.Holding.{goes_asked}
 use Rattle.qz_visit_tests.proofs.tests.told.Goals as goal
 
 pub returns : goal.returns

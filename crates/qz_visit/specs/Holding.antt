@@ -1,4 +1,4 @@
--- What those who test a school say of its passes.
+-- Passes of a school from its opening to its closing.
 use Rattle.std.specs.Prelude.{◌≡◌, ℕ, List, length, slice_get, Some}
 use Rattle.qz_shard_turns.specs.Tying.{Placed, SeesMore}
 use Rattle.qz_terms.specs.Catalog.{shards}

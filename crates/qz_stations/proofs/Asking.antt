@@ -1,0 +1,52 @@
+-- What is read of a link may be asked of a school, and a visit to a school that serves a door goes on.
+use Rattle.std.proofs.Common.{◌≡◌, ◌≤◌, ℕ, true, List, [], None, Some, Option, IfSome, length, arith}
+use Rattle.std.specs.Prelude.{unwrap_or}
+use Rattle.qz_doors.specs.Answers.{Answerer, Asks}
+use Rattle.qz_doors.specs.declared.door.DoorEnd.{DoorEnd}
+use Rattle.qz_doors.specs.Doors.{Entrance, ServesDoor}
+use Rattle.qz_doors.specs.Following.{Follows, asked, stays}
+use Rattle.qz_doors.specs.Links.{Peer}
+use Rattle.qz_doors.proofs.Carrying.{Carries, carries_door}
+use Rattle.qz_doors.proofs.Following.{by_door}
+use Rattle.qz_http.specs.Items.{IsAskable}
+use Rattle.qz_solo.specs.Answering.{MayBeAsked}
+use Rattle.qz_terms.specs.declared.ask.Ask.{Ask}
+use Rattle.qz_terms.specs.declared.reply.Reply.{Reply}
+use Rattle.qz_terms.specs.Kept.{is_moment}
+use Rattle.qz_visit.specs.Holding.{GoesOn}
+use Rattle.qz_visit.specs.Seeing.{IsAskedBeside}
+use Rattle.qz_visit.specs.Visits.{Tellings, Visited, Visitor, seen_in}
+use Rattle.qz_visit.proofs.Holding.{goes_asked, goes_on, goes_self}
+use Rattle.qz_visit.proofs.Seeing.{asked_beside}
+use Rattle.qz_wire.specs.Brief.{IsBriefToken}
+
+brief-key : (key : Option (List ℕ)) → IfSome key IsBriefToken → length (unwrap_or key []) ≤ 64
+brief-key None brief = omega arith
+brief-key (Some key) brief = brief.1
+
+pub may_ask : (now : ℕ) (ask : Ask) → is_moment now ≡ true → IsAskable ask → MayBeAsked ask now
+may_ask now ask kept can = record { keyed = can.keyed; kept = can.kept; described = can.described; moment_kept = kept; brief = brief-key ask.key can.brief.key; names = can.brief.names }
+
+-- what one who visits answers
+abbrev pub Visiting : Visitor → Visitor → ℕ → Ask → Reply → Type 0
+Visiting a b now ask told = (b.school ≡ a.school) × (Visited a.passes b.passes now ask told)
+
+visit-goes : (a b : Visitor) → Follows Visiting a b → GoesOn a b
+visit-goes a _ (stays _) = goes_self a
+visit-goes a c (asked _ b _ now ask r before last) = goes_on a b c (visit-goes a b before) (goes_asked b c now ask r last)
+
+-- of a visit, what it sees of the lists
+abbrev pub seen_by_clock : {C : Type 0} → Answerer Visitor C → Answerer Tellings C
+seen_by_clock a = record { desk = seen_in a.desk.passes; clock = a.clock }
+
+asks-beside : {C : Type 0} (tells : C → ℕ → C → Type 0) → Carries (Asks tells Visiting) (Asks tells IsAskedBeside) seen_by_clock
+asks-beside tells = record {
+  each = λ a b what r s. record { moment = s.moment; told = s.told; answered = asked_beside a.desk.passes b.desk.passes _ what r s.answered.1 };
+}
+
+module _ {L C : Type 0} (tells : C → ℕ → C → Type 0) (peer : L → Peer) (most : ℕ) (old new : Entrance L) (a b : Answerer Visitor C) (end : DoorEnd) (served : ServesDoor (Asks tells Visiting) peer most old new a b end) where
+  pub serves_beside : ServesDoor (Asks tells IsAskedBeside) peer most old new (seen_by_clock a) (seen_by_clock b) end
+  serves_beside = carries_door (Asks tells Visiting) (Asks tells IsAskedBeside) seen_by_clock peer most old new a b end (asks-beside tells) served
+
+  pub visit_goes_on : GoesOn a.desk b.desk
+  visit_goes_on = visit-goes a.desk b.desk (by_door Visiting tells peer most old new a b end served)

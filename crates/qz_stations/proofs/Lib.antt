@@ -1,0 +1,5 @@
+pub mod Counting
+pub mod Asking
+pub mod TakingUp
+pub mod Leaving
+pub mod Serving

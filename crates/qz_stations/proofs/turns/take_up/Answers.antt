@@ -1,0 +1,44 @@
+use Rattle.std.proofs.Common.{◌≡◌, ◌<◌, ◌++◌, ◌∷◌, [], length, length-append, map, ap, sym, ◌∙◌, arith}
+use Rattle.std.proofs.lemmas.List.{length-map}
+use Rattle.qz_stations.specs.Stations.{at_door}
+use Rattle.qz_stations.proofs.TakingUp.{first_of_some, next_number, takes_one}
+use Rattle.qz_visit.proofs.Holding.{holds_given, of_held}
+use Rattle.qz_stations.proofs.turns.take_up.Goals as goal
+
+pub new-requires : goal.new-requires
+new-requires g c =
+    let i = c.loop.invariant in
+    let long = i.1 in
+    let test = c.loop-test.true in
+    let few : length c.loop.stations.items < c.args.count = omega (arith, long, test) in
+    of_held _ _ _ _ (holds_given _ _ _ _ _ _ (next_number _ _ _ _ _ _ _ i.0 few) c.in_ok-given.ensures.given)
+
+pub loop-preserved : goal.loop-preserved
+loop-preserved g c =
+    let i = c.loop.invariant in
+    let so = i.0 in
+    let long = i.1 in
+    let test = c.loop-test.true in
+    let few : length c.loop.stations.items < c.args.count = omega (arith, long, test) in
+    let now = c.loop.doors.items in
+    let at = c.remove-at.result in
+    let whole = ap (λ l. length l) so.doors in
+    let both = length-append (map at_door c.loop.stations.items) now in
+    let many = length-map c.loop.stations.items at_door in
+    let enough = c.requires.doors in
+    let some : 0 < length now = omega (arith, whole, both, many, enough, few) in
+    let next = first_of_some now at some c.remove-at.ensures.value ∙ ap (λ l. at ∷ l) (sym c.remove-at.ensures.by_index.2) in
+    let made = c.new-in-loop.ensures in
+    let visit = ap (λ p. p.visit.passes) made ∙ ap (λ v. v.passes) c.new.ensures in
+    let pushed = ap (λ l. length l) c.push_reserved.ensures.items in
+    let one = length-append c.loop.stations.items (c.new-in-loop.result ∷ []) in
+    let room = i.2 in
+    let place = i.3 in
+    let kept = c.push_reserved.ensures.capacity in
+    let fewer = c.remove-at.ensures.len in
+    let same = c.remove-at.ensures.capacity in (
+      takes_one _ _ _ _ _ _ _ _ _ _ _ at c.new-in-loop.result so few next c.in_ok-given.ensures.given (ap at_door made) visit (ap (λ p. p.end) made) c.push_reserved.ensures.items,
+      omega (arith, pushed, one, long),
+      omega (arith, room, kept),
+      omega (arith, pushed, one, place, fewer, same),
+    )

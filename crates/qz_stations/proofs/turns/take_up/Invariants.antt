@@ -1,0 +1,11 @@
+use Rattle.std.proofs.Common.{◌≡◌, ◌+◌, ◌≤◌, length}
+use Rattle.std.specs.Prelude.{vec_len, vec_capacity}
+use Rattle.qz_visit.specs.Visits.{seen_in}
+use Rattle.qz_stations.specs.Posts.{TakesUp}
+use Rattle.qz_stations.proofs.turns.take_up.Given as goal
+
+abbrev pub invariant-loop : goal.invariant-loop
+invariant-loop g l = TakesUp l.school l.count (seen_in l.fn.passes) l.fn.doors.items l.doors.items l.passes l.stations.items
+    × (length l.stations.items ≡ l.counter)
+    × (l.count ≤ vec_capacity l.stations)
+    × (length l.stations.items + vec_len l.doors ≤ vec_capacity l.doors)

@@ -1,0 +1,57 @@
+-- The doors of a school, served side by side: what each who served one saw of the school, and how serving ended.
+use Rattle.std.specs.Prelude.{◌≡◌, ℕ, ◌+◌, Bool, false, ◌||◌, List, length, drop, slice_get, sum_by, Some}
+use Rattle.std.specs.List.{list_any}
+use Rattle.qz_doors.specs.declared.door.DoorEnd.{DoorEnd}
+use Rattle.qz_doors.specs.Answers.{Answerer}
+use Rattle.qz_visit.specs.Visits.{Tellings, Visitor}
+
+-- ---- a station
+
+-- a door with its clock, one who asks the school for it, and how serving the door ended
+pub record Post (D C : Type 0) : Type 0 where
+  pub door : D
+  pub clock : C
+  pub visit : Visitor
+  pub end : DoorEnd
+
+abbrev pub at_door : {D C : Type 0} → Post D C → D × C
+at_door p = (p.door, p.clock)
+
+-- ---- how serving ended
+
+abbrev pub no_end : DoorEnd
+no_end = record { taken = 0; fault = false; short = 0 }
+
+abbrev pub both_ends : DoorEnd → DoorEnd → DoorEnd
+both_ends a b = record { taken = a.taken + b.taken; fault = a.fault || b.fault; short = a.short + b.short }
+
+-- of several doors: the links taken and those that were short in all, and whether one of the doors failed
+abbrev pub all_ends : List DoorEnd → DoorEnd
+all_ends ends = record { taken = sum_by (λ e. e.taken) ends; fault = list_any (λ e. e.fault) ends; short = sum_by (λ e. e.short) ends }
+
+-- ---- doors
+
+-- What serving a door means: the door, then what answers, of which the lists that it sees are told, before and after, and how it ended.
+abbrev pub Serving : Type 0 → Type 0 → Type 1
+Serving D C = D → D → Answerer Tellings C → Answerer Tellings C → DoorEnd → Type 0
+
+-- The door at this place was served by its clock for one who saw this much of the lists before. Of what it saw afterwards this holds.
+pub record ServesAt {D C : Type 0} (serves : Serving D C) (told : Tellings) (Kept : Tellings → Type 0) (old new : List (D × C)) (k : ℕ) (end : DoorEnd) : Type 0 where
+  pub door : D
+  pub served : D
+  pub clock : C
+  pub ticked : C
+  pub seen : Tellings
+  pub before : slice_get old k ≡ Some (door, clock)
+  pub after : slice_get new k ≡ Some (served, ticked)
+  pub going : serves door served (record { desk = told; clock = clock }) (record { desk = seen; clock = ticked }) end
+  pub kept : Kept seen
+
+-- The first so many doors were served side by side, and ended so in all. The others stay.
+pub record ServesBeside {D C : Type 0} (serves : Serving D C) (told : Tellings) (Kept : Tellings → Type 0) (count : ℕ) (old new : List (D × C)) (end : DoorEnd) : Type 0 where
+  pub ends : List DoorEnd
+  pub count_is : length ends ≡ count
+  pub end_is : end ≡ all_ends ends
+  pub each : (k : ℕ) (e : DoorEnd) → slice_get ends k ≡ Some e → ServesAt serves told Kept old new k e
+  pub others : drop count new ≡ drop count old
+  pub as_many : length new ≡ length old
