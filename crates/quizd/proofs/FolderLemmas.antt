@@ -1,11 +1,17 @@
 -- A school whose lists keepers keep, as a desk; and how a command ends that serves the school of a folder.
-use Rattle.std.proofs.Common.{◌≡◌, ◌⊎◌, ℕ, ◌≤◌, Bool, true, false, List, [], length, Option, Some, None, is_some, IfSome, inl, inr, refl, sym, ap, ◌∙◌, subst, arith}
-use Rattle.std.specs.Prelude.{bytes_eq}
+use Rattle.std.proofs.Common.{◌≡◌, ◌⊎◌, ℕ, zero, suc, ◌+◌, ◌≤◌, Bool, true, false, ◌||◌, List, [], ◌∷◌, length, Option, Some, None, Result, Ok, Err, MatchResult, is_some, IfSome, inl, inr, refl, sym, ap, ◌∙◌, subst, arith}
+use Rattle.std.specs.Prelude.{bytes_eq, slice_get, sum_by}
+use Rattle.std.specs.List.{list_any}
 use Rattle.std.specs.Io.KnownBytes.{Keeps}
 use Rattle.std.proofs.lemmas.Bool.{true≢false}
 use Rattle.std.proofs.lemmas.List.{length-map}
+use Rattle.std.proofs.lemmas.List.Sums.{sum_by-cons}
 use Rattle.std.proofs.lemmas.Slice.Eq.{bytes_eq-Decides}
+use Rattle.qz_asking.specs.Following.{Follows, asked, stays}
+use Rattle.qz_catalog_turns.specs.Turning.{tale_of}
 use Rattle.qz_disks.specs.Shelves.{File, Files, NoneOutIn, Place, RisesBy, place}
+use Rattle.qz_doors.specs.Answers.{Answerer}
+use Rattle.qz_doors.specs.declared.door.DoorEnd.{DoorEnd}
 use Rattle.qz_ending.specs.declared.stop.Stop.{Stop}
 use Rattle.qz_ending.specs.declared.stop.Stop.TheVariants as stop
 use Rattle.qz_ending.specs.Endings.{Outside, status_of}
@@ -26,14 +32,22 @@ use Rattle.qz_solo.specs.Solos.{Fails, GoOn, School, faults_of, held_of, lists_i
 use Rattle.qz_solo.proofs.Keepers.{go_both, go_none}
 use Rattle.qz_serial.specs.Once.{AskedOnce}
 use Rattle.qz_serial.proofs.Staying.{asks_grow}
+use Rattle.qz_stations.specs.Stations.{ServesBeside, Serving}
+use Rattle.qz_stations.proofs.Serving.{beside_kept}
 use Rattle.qz_terms.specs.declared.ask.Ask.{Ask}
+use Rattle.qz_terms.specs.declared.record.Record.{Record}
 use Rattle.qz_terms.specs.declared.reply.Reply.{Reply}
 use Rattle.qz_terms.specs.Serial.{Held}
+use Rattle.qz_turn.specs.declared.view.Tale.{Tale}
+use Rattle.qz_visit.specs.Closing.{AreClosed, Closes}
+use Rattle.qz_visit.specs.Closing as closing
+use Rattle.qz_visit.specs.Opening.{tales, told_by}
+use Rattle.qz_visit.specs.Visits.{Tellings}
 use Rattle.quizd.specs.Commands.{NoneOut}
-use Rattle.quizd.specs.Folders.{Disks, DoorsFolderEnds, FolderEnds, IsGivenBack, IsStanding, ScriptFolderEnds, ServedFolder, ServesDoors, ServesFolder, Unserved, disk_faults, seen_of, sunk}
-use Rattle.quizd.specs.Retries.{AnswersOnce, Follows, Seen, asked, stays}
+use Rattle.quizd.specs.Folders.{Disks, DoorsFolderEnds, FolderEnds, IsGivenBack, IsStanding, ScriptFolderEnds, ServedAlone, ServedFolder, ServedTogether, ServesDoors, ServesFolder, Unserved, disk_faults, journal_faults, seen_of, sunk}
+use Rattle.quizd.specs.Retries.{AnswersOnce, Seen}
 use Rattle.quizd.specs.Scripts.{HasRisenBy, ServeEnds}
-use Rattle.quizd.specs.Serving.{ServedDoor, Serving}
+use Rattle.quizd.specs.Serving.{NoDoorFails, NoneServed, SaysOf, SaysServed, ServedDoors}
 use Rattle.quizd.proofs.ScriptLemmas.{serves_all}
 
 -- ---- as a desk
@@ -61,6 +75,30 @@ follows_count sound faults a b (asked _ m _ now ask r front last) = served-count
 pub follows_goes : {K : Type 0} (sound : K → Type 0) (faults : K → ℕ) (a b : School K) → Follows (IsServed sound faults) a b → GoOn sound faults a b
 follows_goes sound faults a _ (stays _) = go_none sound faults a
 follows_goes sound faults a b (asked _ m _ now ask r front last) = go_both sound faults a m b (follows_goes sound faults a m front) last.goes_on
+
+-- ---- what those at its doors leave
+
+closed-count : {K : Type 0} (faults : K → ℕ) (c : List Record) (n k : ℕ) (ts : List (Tale Record)) (ss : List (part.Keeping K)) → AreClosed faults c n k ts ss → length ss ≡ length ts
+closed-count faults c n _ _ _ (closing.none k) = refl
+closed-count faults c n _ _ _ (closing.more k t s ts ss is rest) = ap suc (closed-count faults c n (k + 1) ts ss rest)
+
+pub closes_count : {K : Type 0} (faults : K → ℕ) (a b : School K) → Closes faults (told_by faults a) b → length b.parts ≡ length a.parts
+closes_count faults a b c = closed-count faults b.catalog.held.list (length b.parts) 0 (tales faults a.parts) b.parts c.parts ∙ length-map a.parts (λ s. tale_of s.held (faults s.keeper))
+
+closed-later : {K : Type 0} (faults : K → ℕ) (c : List Record) (n k : ℕ) (xs ss : List (part.Keeping K)) → AreClosed faults c n k (tales faults xs) ss → sum_by (λ s. faults s.keeper) xs ≤ sum_by (λ s. faults s.keeper) ss
+closed-later faults c n _ [] _ (closing.none k) = omega arith
+closed-later faults c n _ (x ∷ xs) _ (closing.more k _ s _ ss is rest) =
+    let first = is.follows.faults in
+    let others = closed-later faults c n (k + 1) xs ss rest in
+    let before = sum_by-cons (λ (y : part.Keeping _). faults y.keeper) x xs in
+    let after = sum_by-cons (λ (y : part.Keeping _). faults y.keeper) s ss in
+    omega arith
+
+pub closes_later : {K : Type 0} (faults : K → ℕ) (a b : School K) → Closes faults (told_by faults a) b → faults_of faults a ≤ faults_of faults b
+closes_later faults a b c =
+    let first = c.records.faults in
+    let others = closed-later faults b.catalog.held.list (length b.parts) 0 a.parts b.parts c.parts in
+    omega arith
 
 -- ---- the shelf
 
@@ -97,26 +135,24 @@ back-stands old new journal held same back = told-stands (StandForList held new.
 -- What loading, serving and closing come to.
 pub given_back : {D : Type 0} (disks : Disks D) (folder : List ℕ) (old new : Shelved) (mid : Files) (count : ℕ) (a b : School (Ledger D))
     → TellAlike folder old.files new.files → IsLoadedFrom disks.moment disks.left_at folder old.files a.catalog a.parts → KeepsElsewhere folder (length a.parts) old.files mid → old.faults ≤ count
-    → Follows (IsServed (IsSound disks.sound) (λ journal. disks.faults journal.disk)) a b
+    → length b.parts ≡ length a.parts → disk_faults disks a ≤ disk_faults disks b
     → IsBack b.catalog.keeper b.catalog.held (new.files.file (catalog_place folder)) → PartsAreBack folder b.parts new.files → KeepsElsewhere folder (length b.parts) mid new.files
     → RisesBy (disk_faults disks b) count new.faults → IsGivenBack disks folder old new a b
-given_back disks folder old new mid count a b alike loaded apart later follows catalog parts others rises =
-    let same = follows_count (IsSound disks.sound) (λ journal. disks.faults journal.disk) a b follows in
-    record {
-      loaded = loaded;
-      count = same;
-      goes_on = follows_goes (IsSound disks.sound) (λ journal. disks.faults journal.disk) a b follows;
-      catalog = back-stands (old.files.file (catalog_place folder)) (new.files.file (catalog_place folder)) b.catalog.keeper b.catalog.held (alike catalog_name) catalog;
-      parts = record {
-        each = λ k s got. back-stands (old.files.file (part_place folder k)) (new.files.file (part_place folder k)) s.keeper s.held (alike (part_name k)) (parts.each k s got);
-      };
-      others = elsewhere-on folder (length a.parts) (length b.parts) old.files mid new.files same apart others;
-      risen = rises-past old.faults count new.faults (disk_faults disks b) later rises;
-      as_often = λ n told. often-past old.faults count new.faults (disk_faults disks a) (disk_faults disks b) n later rises told;
-    }
+given_back disks folder old new mid count a b alike loaded apart later same fell catalog parts others rises = record {
+  loaded = loaded;
+  count = same;
+  later = fell;
+  catalog = back-stands (old.files.file (catalog_place folder)) (new.files.file (catalog_place folder)) b.catalog.keeper b.catalog.held (alike catalog_name) catalog;
+  parts = record {
+    each = λ k s got. back-stands (old.files.file (part_place folder k)) (new.files.file (part_place folder k)) s.keeper s.held (alike (part_name k)) (parts.each k s got);
+  };
+  others = elsewhere-on folder (length a.parts) (length b.parts) old.files mid new.files same apart others;
+  risen = rises-past old.faults count new.faults (disk_faults disks b) later rises;
+  as_often = λ n told. often-past old.faults count new.faults (disk_faults disks a) (disk_faults disks b) n later rises told;
+}
 
-pub served_ends : {D : Type 0} (disks : Disks D) (folder : List ℕ) (serves : Seen → Seen → Option Stop → Type 0) (kept : Type 0) (old new : Shelved) (before now : Sunk) (a b : School (Ledger D)) (s : Option Stop)
-    → IsGivenBack disks folder old new a b → serves (seen_of disks a) (seen_of disks b) s → NoneOutIn folder new.files → old.faults ≤ new.faults → FolderEnds disks folder serves kept old new before now s
+pub served_ends : {D : Type 0} (disks : Disks D) (folder : List ℕ) (serves : School (Ledger D) → School (Ledger D) → Option Stop → Type 0) (kept : Type 0) (old new : Shelved) (before now : Sunk) (a b : School (Ledger D)) (s : Option Stop)
+    → IsGivenBack disks folder old new a b → serves a b s → NoneOutIn folder new.files → old.faults ≤ new.faults → FolderEnds disks folder serves kept old new before now s
 served_ends disks folder serves kept old new before now a b s back served inside later = record { by = inl (record { loaded = a; closed = b; back = back; served = served }); none_out = inside; later = later }
 
 -- ---- files that don't give a school
@@ -140,7 +176,7 @@ unloaded-for folder old new before now stop.DoorFault u = absurd u
 unloaded_none_out : (folder : List ℕ) (old new : Shelved) (before now : Sunk) (s : Stop) → UnloadedBy folder old new before now s → NoneOutIn folder new.files
 unloaded_none_out folder old new before now s u = (unloaded-for folder old new before now s u).unloaded.none_out
 
-pub unloaded_ends : {D : Type 0} (disks : Disks D) (folder : List ℕ) (serves : Seen → Seen → Option Stop → Type 0) (kept : Type 0) (old new : Shelved) (before now : Sunk) (s : Stop) → UnloadedBy folder old new before now s → kept → old.faults ≤ new.faults
+pub unloaded_ends : {D : Type 0} (disks : Disks D) (folder : List ℕ) (serves : School (Ledger D) → School (Ledger D) → Option Stop → Type 0) (kept : Type 0) (old new : Shelved) (before now : Sunk) (s : Stop) → UnloadedBy folder old new before now s → kept → old.faults ≤ new.faults
     → FolderEnds disks folder serves kept old new before now (Some s)
 unloaded_ends disks folder serves kept old new before now s u is later = record { by = inr (u, is); none_out = unloaded_none_out folder old new before now s u; later = later }
 
@@ -167,43 +203,89 @@ pub serves_folder : {D : Type 0} (disks : Disks D) (folder : List ℕ) (limit : 
 serves_folder disks folder limit old new before now s e = record { done = λ text is within source sink shelf. by text is within source sink shelf e.by }
   where
     by : (text : List ℕ) → before.left ≡ Some text → length text ≤ limit → ¬ HasRisen before.source_faults now.source_faults → ¬ HasRisen before.sink_faults now.sink_faults → ¬ HasRisen old.faults new.faults
-        → ServedFolder disks folder (λ a b. ServeEnds limit a b before now s) old new ⊎ Unserved folder (Keeps before.left now.left) old new (sunk before) (sunk now) s
+        → ServedFolder disks folder (ServedAlone disks (λ a b. ServeEnds limit a b before now s)) old new ⊎ Unserved folder (Keeps before.left now.left) old new (sunk before) (sunk now) s
         → (status_of s ≡ 0) ⊎ ((status_of s ≡ 7) ⊎ (status_of s ≡ 8))
-    by text is within source sink shelf (inl done) = elim ((serves_all limit (seen_of disks done.loaded) (seen_of disks done.closed) before now s done.served).done text is within source sink) [ inl all ↦ inl all | inr wanting ↦ inr (inr wanting) ]
+    by text is within source sink shelf (inl done) = elim ((serves_all limit (seen_of disks done.loaded) (seen_of disks done.closed) before now s done.served.ends).done text is within source sink) [ inl all ↦ inl all | inr wanting ↦ inr (inr wanting) ]
     by text is within source sink shelf (inr not) = inr (unserved_status folder (Keeps before.left now.left) old new (sunk before) (sunk now) s not sink shelf)
 
-door-status : {R C : Type 0} (serves : Serving R C) (doors after : List (R × C)) (a b : Seen) (old new : Option (List ℕ)) (before now : ℕ) (s : Option Stop) → ServedDoor serves doors after a b old new before now s
-    → ¬ HasRisen before now → (status_of s ≡ 0) ⊎ ((status_of s ≡ 8) ⊎ (status_of s ≡ 10))
-door-status serves doors after a b old new before now None e quiet = inl refl
-door-status serves doors after a b old new before now (Some stop.BadWords) e quiet = absurd e.says
-door-status serves doors after a b old new before now (Some (stop.Malformed line)) e quiet = absurd e.says
-door-status serves doors after a b old new before now (Some (stop.Unreadable line rule)) e quiet = absurd e.says
-door-status serves doors after a b old new before now (Some stop.SourceFault) e quiet = absurd e.says
-door-status serves doors after a b old new before now (Some stop.SinkFault) e quiet = absurd (quiet e.says.1)
-door-status serves doors after a b old new before now (Some stop.Memory) e quiet = inr (inl refl)
-door-status serves doors after a b old new before now (Some stop.TooLong) e quiet = absurd e.says
-door-status serves doors after a b old new before now (Some stop.ShelfFault) e quiet = absurd e.says
-door-status serves doors after a b old new before now (Some stop.Refused) e quiet = absurd e.says
-door-status serves doors after a b old new before now (Some stop.DoorFault) e quiet = inr (inr refl)
+-- ---- doors
 
-pub serves_doors : {D R C : Type 0} (disks : Disks D) (folder : List ℕ) (serves : Serving R C) (doors after : List (R × C)) (old new : Shelved) (before now : Sunk) (s : Option Stop)
-    → DoorsFolderEnds disks folder serves doors after old new before now s → ServesDoors old new before now (status_of s)
-serves_doors disks folder serves doors after old new before now s e = record { done = λ sink shelf. by sink shelf e.by }
+-- a door that failed
+record HasFaulty (ends : List DoorEnd) : Type 0 where
+  place : ℕ
+  end : DoorEnd
+  there : slice_get ends place ≡ Some end
+  failed : end.fault ≡ true
+
+faulty : (ends : List DoorEnd) → list_any (λ e. e.fault) ends ≡ true → HasFaulty ends
+faulty [] some = absurd cc
+faulty (e ∷ es) some = by e.fault refl (faulty es)
   where
-    by : ¬ HasRisen before.faults now.faults → ¬ HasRisen old.faults new.faults
-        → ServedFolder disks folder (λ a b. ServedDoor serves doors after a b before.holds now.holds before.faults now.faults s) old new ⊎ Unserved folder (after ≡ doors) old new before now s
-        → (status_of s ≡ 0) ⊎ ((status_of s ≡ 7) ⊎ ((status_of s ≡ 8) ⊎ (status_of s ≡ 10)))
-    by sink shelf (inl done) = elim (door-status serves doors after (seen_of disks done.loaded) (seen_of disks done.closed) before.holds now.holds before.faults now.faults s done.served sink) [
-      | inl all ↦ inl all
-      | inr other ↦ inr (inr other)
-    ]
-    by sink shelf (inr not) = elim (unserved_status folder (after ≡ doors) old new before now s not sink shelf) [ inl why ↦ inr (inl why) | inr wanting ↦ inr (inr (inl wanting)) ]
+    by : (b : Bool) → e.fault ≡ b → (list_any (λ x. x.fault) es ≡ true → HasFaulty es) → HasFaulty (e ∷ es)
+    by true is rest = record { place = zero; end = e; there = refl; failed = is }
+    by false is rest = let found = rest (subst (λ (b : Bool). (b || list_any (λ x. x.fault) es) ≡ true) is some) in record { place = suc found.place; end = found.end; there = found.there; failed = found.failed }
+
+-- what failed at a door shows in its count
+abbrev pub Counts : {R C : Type 0} → Serving R C → (R → ℕ) → Type 0
+Counts {R} {C} serves faults = (door served : R) (a b : Answerer Tellings C) (end : DoorEnd) → serves door served a b end → end.fault ≡ true → HasRisen (faults door) (faults served)
+
+none-failed : {R C : Type 0} (serves : Serving R C) (faults : R → ℕ) (told : Tellings) (Kept : Tellings → Type 0) (count : ℕ) (doors after : List (R × C)) (end : DoorEnd) → Counts serves faults
+    → ServesBeside serves told Kept count doors after end → NoDoorFails faults doors after → end.fault ≡ true → ⊥
+none-failed serves faults told Kept count doors after end counts beside quiet failed =
+    let one = faulty beside.ends (sym (ap (λ (e : DoorEnd). e.fault) beside.end_is) ∙ failed) in
+    let here = beside.each one.place one.end one.there in
+    quiet.each one.place (here.door, here.clock) (here.served, here.ticked) here.before here.after (counts here.door here.served _ _ one.end here.going one.failed)
+
+says-status : (old new : Option (List ℕ)) (before now : ℕ) (end : DoorEnd) (s : Option Stop) → SaysServed old new before now end s → ¬ HasRisen before now → (end.fault ≡ true → ⊥) → (status_of s ≡ 0) ⊎ (status_of s ≡ 8)
+says-status old new before now end None says sink quiet = inl refl
+says-status old new before now end (Some stop.BadWords) says sink quiet = absurd says
+says-status old new before now end (Some (stop.Malformed line)) says sink quiet = absurd says
+says-status old new before now end (Some (stop.Unreadable line rule)) says sink quiet = absurd says
+says-status old new before now end (Some stop.SourceFault) says sink quiet = absurd says
+says-status old new before now end (Some stop.SinkFault) says sink quiet = absurd (sink says.1)
+says-status old new before now end (Some stop.Memory) says sink quiet = inr refl
+says-status old new before now end (Some stop.TooLong) says sink quiet = absurd says
+says-status old new before now end (Some stop.ShelfFault) says sink quiet = absurd says
+says-status old new before now end (Some stop.Refused) says sink quiet = absurd says
+says-status old new before now end (Some stop.DoorFault) says sink quiet = absurd (quiet says.1)
+
+doors-status : {R C : Type 0} (serves : Serving R C) (faults : R → ℕ) (told : Tellings) (Kept : Tellings → Type 0) (count : ℕ) (doors after : List (R × C)) (old new : Option (List ℕ)) (before now : ℕ) (s : Option Stop) → Counts serves faults
+    → ServedDoors serves told Kept count doors after old new before now s ⊎ NoneServed doors after old new s → ¬ HasRisen before now → NoDoorFails faults doors after → (status_of s ≡ 0) ⊎ (status_of s ≡ 8)
+doors-status serves faults told Kept count doors after old new before now s counts (inl some) sink quiet =
+    says-status old new before now some.end s some.says sink (none-failed serves faults told Kept count doors after some.end counts some.beside quiet)
+doors-status serves faults told Kept count doors after old new before now s counts (inr none) sink quiet = inr (ap status_of none.memory)
+
+pub serves_doors : {D R C : Type 0} (disks : Disks D) (folder : List ℕ) (count : ℕ) (serves : Serving R C) (faults : R → ℕ) (doors after : List (R × C)) (old new : Shelved) (before now : Sunk) (s : Option Stop) → Counts serves faults
+    → DoorsFolderEnds disks folder count serves doors after old new before now s → ServesDoors (NoDoorFails faults doors after) old new before now (status_of s)
+serves_doors disks folder count serves faults doors after old new before now s counts e = record { done = λ sink shelf quiet. by sink shelf quiet e.by }
+  where
+    by : ¬ HasRisen before.faults now.faults → ¬ HasRisen old.faults new.faults → NoDoorFails faults doors after
+        → ServedFolder disks folder (ServedTogether disks count serves doors after before now s) old new ⊎ Unserved folder (after ≡ doors) old new before now s
+        → (status_of s ≡ 0) ⊎ ((status_of s ≡ 7) ⊎ (status_of s ≡ 8))
+    by sink shelf quiet (inl done) =
+        elim (doors-status serves faults (told_by (journal_faults disks) done.loaded) (λ seen. Closes (journal_faults disks) seen done.closed) count doors after before.holds now.holds before.faults now.faults s counts done.served.ends sink quiet) [
+          | inl all ↦ inl all
+          | inr wanting ↦ inr (inr wanting)
+        ]
+    by sink shelf quiet (inr not) = inr (unserved_status folder (after ≡ doors) old new before now s not sink shelf)
+
+-- what was served, and what was said of it
+pub said_of : {R C E : Type 0} (serves : Serving R C) (told : Tellings) (Kept Known : Tellings → Type 0) (count : ℕ) (doors after : List (R × C)) (old new : Option (List ℕ)) (before now : ℕ) (served : Result DoorEnd E) (s : Option Stop)
+    → MatchResult served (ServesBeside serves told Kept count doors after) (λ _. after ≡ doors) → ((t : Tellings) → Kept t → Known t) → SaysOf old new before now served s
+    → ServedDoors serves told Known count doors after old new before now s ⊎ NoneServed doors after old new s
+said_of serves told Kept Known count doors after old new before now (Ok end) s beside to says = inl (record { end = end; beside = beside_kept serves told Kept Known count doors after end to beside; says = says })
+said_of serves told Kept Known count doors after old new before now (Err e) s stay to says = inr (record { memory = says.0; stay = stay; unwritten = says.1 })
+
+pub doors_as_many : {R C E : Type 0} (serves : Serving R C) (told : Tellings) (Kept : Tellings → Type 0) (count : ℕ) (doors after : List (R × C)) (served : Result DoorEnd E)
+    → MatchResult served (ServesBeside serves told Kept count doors after) (λ _. after ≡ doors) → length after ≡ length doors
+doors_as_many serves told Kept count doors after (Ok end) beside = beside.as_many
+doors_as_many serves told Kept count doors after (Err e) stay = ap length stay
 
 pub unserved_folder : (folder : List ℕ) (limit : ℕ) (old new : Shelved) (before now : Outside) (s : Stop) → UnloadedBy folder old new (sunk before) (sunk now) s → ServesFolder limit old new before now (status_of (Some s))
 unserved_folder folder limit old new before now s u = record { done = λ text is within source sink shelf. inr (not_raised folder old new (sunk before) (sunk now) s u sink shelf) }
 
-pub unserved_doors : (folder : List ℕ) (old new : Shelved) (before now : Sunk) (s : Stop) → UnloadedBy folder old new before now s → ServesDoors old new before now (status_of (Some s))
-unserved_doors folder old new before now s u = record { done = λ sink shelf. elim (not_raised folder old new before now s u sink shelf) [ inl why ↦ inr (inl why) | inr wanting ↦ inr (inr (inl wanting)) ] }
+pub unserved_doors : (none_fails : Type 0) (folder : List ℕ) (old new : Shelved) (before now : Sunk) (s : Stop) → UnloadedBy folder old new before now s → ServesDoors none_fails old new before now (status_of (Some s))
+unserved_doors none_fails folder old new before now s u = record { done = λ sink shelf quiet. inr (not_raised folder old new before now s u sink shelf) }
 
 -- ---- no file is out
 
@@ -227,7 +309,7 @@ none-out-by folder count old new at false same was inside apart =
 elsewhere_none_out : (folder : List ℕ) (count : ℕ) (old new : Files) → NoneOut old → NoneOutIn folder new → KeepsElsewhere folder count old new → NoneOut new
 elsewhere_none_out folder count old new was inside apart = record { each = λ at. none-out-by folder count old new at (bytes_eq at.folder folder) refl was inside apart }
 
-pub folder_none_out : {D : Type 0} (disks : Disks D) (folder : List ℕ) (serves : Seen → Seen → Option Stop → Type 0) (kept : Type 0) (old new : Shelved) (before now : Sunk) (s : Option Stop)
+pub folder_none_out : {D : Type 0} (disks : Disks D) (folder : List ℕ) (serves : School (Ledger D) → School (Ledger D) → Option Stop → Type 0) (kept : Type 0) (old new : Shelved) (before now : Sunk) (s : Option Stop)
     → NoneOut old.files → FolderEnds disks folder serves kept old new before now s → NoneOut new.files
 folder_none_out disks folder serves kept old new before now s was e = by s e.by
   where

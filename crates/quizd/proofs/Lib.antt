@@ -3,8 +3,6 @@ pub mod InputLemmas
 pub mod RetryLemmas
 pub mod ScriptLemmas
 pub mod SoloLemmas
-pub mod SeenLemmas
-pub mod FollowLemmas
 pub mod BulkLemmas
 pub mod GiftLemmas
 pub mod FolderLemmas

@@ -1,5 +1,5 @@
 -- The commands of the command line, and how a run of each ends.
-use Rattle.std.specs.Prelude.{◌≡◌, ◌⊎◌, ℕ, Bool, true, false, ◌&&◌, ◌==◌, if◌then◌else◌, List, ◌++◌, Option, Some, None, MatchBool, bytes_eq, codes}
+use Rattle.std.specs.Prelude.{◌≡◌, ◌⊎◌, ℕ, Bool, true, false, ◌==◌, if◌then◌else◌, List, ◌++◌, Option, Some, None, MatchBool, bytes_eq, codes}
 use Rattle.std.specs.Io.KnownBytes.{Appends, Keeps}
 use Rattle.qz_outside.specs.Causes.{HasRisen}
 use Rattle.qz_outside.specs.Sources.{AppendsFront}
@@ -16,7 +16,7 @@ use Rattle.qz_replay.specs.ReplayEndings.{ReplayEnds, ReplaysAll}
 use Rattle.qz_disks.specs.Shelves.{Files, Place}
 use Rattle.qz_found.specs.FoundEndings.{FoundEnds, FoundsAll, Shelved, Sunk}
 use Rattle.quizd.specs.Folders.{Disks, DoorsFolderEnds, ScriptFolderEnds, ServesDoors, ServesFolder, sunk}
-use Rattle.quizd.specs.Serving.{Serving}
+use Rattle.qz_stations.specs.Stations.{Serving}
 use Rattle.quizd.specs.Scripts.{ScriptEnds, ServesAll, script_limit}
 use Rattle.quizd.specs.GiftEndings.{GiftEnds, GiftsAll}
 
@@ -24,9 +24,9 @@ use Rattle.quizd.specs.GiftEndings.{GiftEnds, GiftsAll}
 abbrev pub is_memory : List ℕ → Bool
 is_memory folder = bytes_eq folder (codes "memory")
 
--- So far links are served by one worker and without a regrader.
+-- So far links are served without a regrader.
 abbrev pub is_built : Command → Bool
-is_built (command.Serve folder port workers regraders links) = (workers == 1) && (regraders == 0)
+is_built (command.Serve folder port workers regraders links) = regraders == 0
 is_built c = true
 
 abbrev pub if_built : Option Command → Option Command
@@ -99,7 +99,7 @@ CommandEndsAt disks serving at after (Some (command.Found folder shards token)) 
     × FoundEnds (record { folder = folder; shards = shards; token = token }) at.told after.told (sunk old) (sunk new) s
 CommandEndsAt disks serving at after (Some (command.Serve folder port workers regraders links)) old new s =
     Keeps old.left new.left
-    × DoorsFolderEnds disks folder (serving links) at.doors after.doors at.told after.told (sunk old) (sunk new) s
+    × DoorsFolderEnds disks folder workers (serving links) at.doors after.doors at.told after.told (sunk old) (sunk new) s
 CommandEndsAt disks serving at after c old new s = CommandEnds c old new s × AreLeft at after
 
 -- memory was wanting for the words, and nothing was done
@@ -118,17 +118,18 @@ abbrev pub ScriptDoesAll : Shelved → Shelved → List ℕ → Outside → Outs
 ScriptDoesAll at after folder old new status =
     MatchBool (is_memory folder) (ServesAll script_limit old new status) (ServesFolder script_limit at after old new status)
 
-abbrev pub CommandDoesAll : Shelved → Shelved → Option Command → Outside → Outside → ℕ → Type 0
-CommandDoesAll at after None old new status = Unit {0}
-CommandDoesAll at after (Some command.Replay) old new status = ReplaysAll old new status
-CommandDoesAll at after (Some command.GiftCheck) old new status = GiftsAll old new status
-CommandDoesAll at after (Some command.GiftFormat) old new status = GiftsAll old new status
-CommandDoesAll at after (Some (command.Script folder)) old new status = ScriptDoesAll at after folder old new status
-CommandDoesAll at after (Some (command.Found folder shards token)) old new status =
+-- in a run in which no door failed, where this says so
+abbrev pub CommandDoesAll : Type 0 → Shelved → Shelved → Option Command → Outside → Outside → ℕ → Type 0
+CommandDoesAll none_fails at after None old new status = Unit {0}
+CommandDoesAll none_fails at after (Some command.Replay) old new status = ReplaysAll old new status
+CommandDoesAll none_fails at after (Some command.GiftCheck) old new status = GiftsAll old new status
+CommandDoesAll none_fails at after (Some command.GiftFormat) old new status = GiftsAll old new status
+CommandDoesAll none_fails at after (Some (command.Script folder)) old new status = ScriptDoesAll at after folder old new status
+CommandDoesAll none_fails at after (Some (command.Found folder shards token)) old new status =
     FoundsAll (record { folder = folder; shards = shards; token = token }) at after (sunk old) (sunk new) status
-CommandDoesAll at after (Some (command.Serve folder port workers regraders links)) old new status =
-    ServesDoors at after (sunk old) (sunk new) status
-CommandDoesAll at after (Some (command.Bulk count)) old new status = ¬ HasRisen old.sink_faults new.sink_faults → (status ≡ 0) ⊎ (status ≡ 8)
+CommandDoesAll none_fails at after (Some (command.Serve folder port workers regraders links)) old new status =
+    ServesDoors none_fails at after (sunk old) (sunk new) status
+CommandDoesAll none_fails at after (Some (command.Bulk count)) old new status = ¬ HasRisen old.sink_faults new.sink_faults → (status ≡ 0) ⊎ (status ≡ 8)
 
-abbrev pub RunsAll : Shelved → Shelved → List (List ℕ) → Outside → Outside → ℕ → Type 0
-RunsAll at after words old new status = CommandDoesAll at after (built_command words) old new status
+abbrev pub RunsAll : Type 0 → Shelved → Shelved → List (List ℕ) → Outside → Outside → ℕ → Type 0
+RunsAll none_fails at after words old new status = CommandDoesAll none_fails at after (built_command words) old new status

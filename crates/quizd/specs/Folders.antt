@@ -13,10 +13,13 @@ use Rattle.qz_opening.specs.Unloaded.{UnloadedBy}
 use Rattle.qz_outside.specs.Causes.{HasRisen}
 use Rattle.qz_shard.specs.Keeping as part
 use Rattle.qz_solo.specs.Solos.{GoOn, School, faults_of, lists_in}
+use Rattle.qz_stations.specs.Stations.{Serving}
 use Rattle.qz_terms.specs.Serial.{Held}
+use Rattle.qz_visit.specs.Closing.{Closes}
+use Rattle.qz_visit.specs.Opening.{told_by}
 use Rattle.quizd.specs.Retries.{Seen}
 use Rattle.quizd.specs.Scripts.{HasRisenBy, ServeEnds}
-use Rattle.quizd.specs.Serving.{ServedDoor, Serving}
+use Rattle.quizd.specs.Serving.{NoneServed, ServedDoors}
 
 -- what is told of the disks of a shelf: the moment of one, what a crash at each moment may have left of it, that it fails no call, and how
 -- often it has failed
@@ -26,9 +29,13 @@ pub record Disks (D : Type 0) : Type 1 where
   pub sound : D → Type 0
   pub faults : D → ℕ
 
--- how often the disks of a school's files failed, in all
+-- how often the disk of a list's file failed
+abbrev pub journal_faults : {D : Type 0} → Disks D → Ledger D → ℕ
+journal_faults disks journal = disks.faults journal.disk
+
+-- how often those of a school's files failed, in all
 abbrev pub disk_faults : {D : Type 0} → Disks D → School (Ledger D) → ℕ
-disk_faults disks a = faults_of (λ journal. disks.faults journal.disk) a
+disk_faults disks a = faults_of (journal_faults disks) a
 
 -- what is seen of a school whose lists journals keep
 abbrev pub seen_of : {D : Type 0} → Disks D → School (Ledger D) → Seen
@@ -48,7 +55,7 @@ pub record PartsStand {D : Type 0} (folder : List ℕ) (parts : List (part.Keepi
 pub record IsGivenBack {D : Type 0} (disks : Disks D) (folder : List ℕ) (old new : Shelved) (a b : School (Ledger D)) : Type 0 where
   pub loaded : IsLoadedFrom disks.moment disks.left_at folder old.files a.catalog a.parts
   pub count : length b.parts ≡ length a.parts
-  pub goes_on : GoOn (IsSound disks.sound) (λ journal. disks.faults journal.disk) a b
+  pub later : disk_faults disks a ≤ disk_faults disks b
   pub catalog : IsStanding b.catalog.held (old.files.file (catalog_place folder)) (new.files.file (catalog_place folder))
   pub parts : PartsStand folder b.parts old.files new.files
   pub others : KeepsElsewhere folder (length a.parts) old.files new.files
@@ -57,12 +64,22 @@ pub record IsGivenBack {D : Type 0} (disks : Disks D) (folder : List ℕ) (old n
   -- so however often they failed while it was served, the shelf's count rose as often
   pub as_often : (n : ℕ) → HasRisenBy (disk_faults disks a) n (disk_faults disks b) → HasRisenBy old.faults n new.faults
 
--- it was served so, from what was seen of it as it was loaded to what was seen of it as it was given back
-pub record ServedFolder {D : Type 0} (disks : Disks D) (folder : List ℕ) (serves : Seen → Seen → Type 0) (old new : Shelved) : Type 0 where
+-- it was served so, from what it was as it was loaded to what it was as it was given back
+pub record ServedFolder {D : Type 0} (disks : Disks D) (folder : List ℕ) (serves : School (Ledger D) → School (Ledger D) → Type 0) (old new : Shelved) : Type 0 where
   pub loaded : School (Ledger D)
   pub closed : School (Ledger D)
   pub back : IsGivenBack disks folder old new loaded closed
-  pub served : serves (seen_of disks loaded) (seen_of disks closed)
+  pub served : serves loaded closed
+
+-- one after the other asked it, from what is seen of it before to what is seen of it afterwards, and disks that fail no call failed none
+pub record ServedAlone {D : Type 0} (disks : Disks D) (serves : Seen → Seen → Type 0) (a b : School (Ledger D)) : Type 0 where
+  pub goes_on : GoOn (IsSound disks.sound) (journal_faults disks) a b
+  pub ends : serves (seen_of disks a) (seen_of disks b)
+
+-- Those at its doors asked it side by side: each of its lists goes on from what it was, and from what was seen of it at each door.
+pub record ServedTogether {D R C : Type 0} (disks : Disks D) (count : ℕ) (serves : Serving R C) (doors after : List (R × C)) (before now : Sunk) (s : Option Stop) (a b : School (Ledger D)) : Type 0 where
+  pub closes : Closes (journal_faults disks) (told_by (journal_faults disks) a) b
+  pub ends : ServedDoors serves (told_by (journal_faults disks) a) (λ seen. Closes (journal_faults disks) seen b) count doors after before.holds now.holds before.faults now.faults s ⊎ NoneServed doors after before.holds now.holds s
 
 -- ---- how a command ends
 
@@ -72,7 +89,7 @@ Unserved folder stays old new before now None = ⊥
 Unserved folder stays old new before now (Some s) = UnloadedBy folder old new before now s × stays
 
 -- The school of a folder was served so, or the files don't give one, and this stays. Each file is given back, and no count falls.
-pub record FolderEnds {D : Type 0} (disks : Disks D) (folder : List ℕ) (serves : Seen → Seen → Option Stop → Type 0) (stays : Type 0) (old new : Shelved) (before now : Sunk) (s : Option Stop) : Type 0 where
+pub record FolderEnds {D : Type 0} (disks : Disks D) (folder : List ℕ) (serves : School (Ledger D) → School (Ledger D) → Option Stop → Type 0) (stays : Type 0) (old new : Shelved) (before now : Sunk) (s : Option Stop) : Type 0 where
   pub by : ServedFolder disks folder (λ a b. serves a b s) old new ⊎ Unserved folder stays old new before now s
   pub none_out : NoneOutIn folder new.files
   pub later : old.faults ≤ new.faults
@@ -83,12 +100,12 @@ sunk o = record { holds = o.holds; faults = o.sink_faults }
 -- a script was answered over it, or nothing of the source was read
 abbrev pub ScriptFolderEnds : {D : Type 0} → Disks D → List ℕ → ℕ → Shelved → Shelved → Outside → Outside → Option Stop → Type 0
 ScriptFolderEnds disks folder limit old new before now s =
-    FolderEnds disks folder (λ a b t. ServeEnds limit a b before now t) (Keeps before.left now.left) old new (sunk before) (sunk now) s
+    FolderEnds disks folder (λ a b t. ServedAlone disks (λ from to. ServeEnds limit from to before now t) a b) (Keeps before.left now.left) old new (sunk before) (sunk now) s
 
--- the first of some doors was served over it, or all stay as they are
-abbrev pub DoorsFolderEnds : {D R C : Type 0} → Disks D → List ℕ → Serving R C → List (R × C) → List (R × C) → Shelved → Shelved → Sunk → Sunk → Option Stop → Type 0
-DoorsFolderEnds disks folder serves doors after old new before now s =
-    FolderEnds disks folder (λ a b t. ServedDoor serves doors after a b before.holds now.holds before.faults now.faults t) (after ≡ doors) old new before now s
+-- the first so many of some doors were served over it, or all stay as they are
+abbrev pub DoorsFolderEnds : {D R C : Type 0} → Disks D → List ℕ → ℕ → Serving R C → List (R × C) → List (R × C) → Shelved → Shelved → Sunk → Sunk → Option Stop → Type 0
+DoorsFolderEnds disks folder count serves doors after old new before now s =
+    FolderEnds disks folder (λ a b t. ServedTogether disks count serves doors after before now t a b) (after ≡ doors) old new before now s
 
 -- Where no count rose and the source is within the limit, all of it is answered, or the files don't give a school, or memory was wanting.
 pub record ServesFolder (limit : ℕ) (old new : Shelved) (before now : Outside) (status : ℕ) : Type 0 where
@@ -96,7 +113,7 @@ pub record ServesFolder (limit : ℕ) (old new : Shelved) (before now : Outside)
       → ¬ HasRisen before.source_faults now.source_faults → ¬ HasRisen before.sink_faults now.sink_faults → ¬ HasRisen old.faults new.faults
       → (status ≡ 0) ⊎ ((status ≡ 7) ⊎ (status ≡ 8))
 
--- Where neither the sink's count rose nor the shelf's, the doors were served, or the files don't give a school, or memory was wanting, or the
--- first door failed.
-pub record ServesDoors (old new : Shelved) (before now : Sunk) (status : ℕ) : Type 0 where
-  pub done : ¬ HasRisen before.faults now.faults → ¬ HasRisen old.faults new.faults → (status ≡ 0) ⊎ ((status ≡ 7) ⊎ ((status ≡ 8) ⊎ (status ≡ 10)))
+-- Where neither the sink's count rose nor the shelf's, nor a door failed, the doors were served, or the files don't give a school, or memory
+-- was wanting.
+pub record ServesDoors (none_fails : Type 0) (old new : Shelved) (before now : Sunk) (status : ℕ) : Type 0 where
+  pub done : ¬ HasRisen before.faults now.faults → ¬ HasRisen old.faults new.faults → none_fails → (status ≡ 0) ⊎ ((status ≡ 7) ⊎ (status ≡ 8))

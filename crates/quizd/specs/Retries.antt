@@ -29,11 +29,6 @@ pub record AnswersOnce {D : Type 0} (lists : D → Lists) (faults : D → ℕ) (
   pub once : (a b : D) (now : ℕ) (ask : Ask) (r : Reply) → answers a b now ask r → AskedOnce (HasRisen (faults a) (faults b)) (lists a) (lists b) now ask r
   pub later : (a b : D) (now : ℕ) (ask : Ask) (r : Reply) → answers a b now ask r → faults a ≤ faults b
 
--- requests, one after the other, lead from one desk to another
-pub data Follows {D : Type 0} (answers : D → D → ℕ → Ask → Reply → Type 0) : D → D → Type 0 where
-  stays : (a : D) → Follows answers a a
-  asked : (a b c : D) (now : ℕ) (ask : Ask) (r : Reply) → Follows answers a b → answers b c now ask r → Follows answers a c
-
 -- so a line is answered
 abbrev pub GoesOnce : Seen → Seen → Line → Reply → Type 0
 GoesOnce a b (Unread place rule) r = Goes a.lists b.lists (Unread place rule) r × (b.faults ≡ a.faults)

@@ -1,28 +1,14 @@
--- How serving a door over a desk ends.
-use Rattle.std.specs.Prelude.{◌≡◌, ◌⊎◌, ℕ, ◌<◌, true, false, List, ◌++◌, Option, Some, None, codes, decimal, slice_get, slice_set}
+-- How serving the doors of a school side by side ends.
+use Rattle.std.specs.Prelude.{◌≡◌, ◌⊎◌, ℕ, ◌<◌, true, false, List, ◌++◌, Option, Some, None, Result, MatchResult, codes, decimal, slice_get}
 use Rattle.std.specs.Io.KnownBytes.{Appends, Keeps}
 use Rattle.qz_outside.specs.Causes.{HasRisen}
 use Rattle.qz_outside.specs.Sources.{AppendsFront}
 use Rattle.qz_doors.specs.declared.door.DoorEnd.{DoorEnd}
-use Rattle.qz_doors.specs.Answers.{Answerer}
 use Rattle.qz_ending.specs.declared.stop.Stop.{Stop}
 use Rattle.qz_ending.specs.declared.stop.Stop.TheVariants as stop
+use Rattle.qz_stations.specs.Stations.{ServesBeside, Serving}
+use Rattle.qz_visit.specs.Visits.{Tellings}
 use Rattle.qz_wire.specs.Lines.{newline}
-use Rattle.quizd.specs.Retries.{Seen}
-
--- what serving a door means: the door, then what answers, of which its desk is seen, before and after, and how it ended
-abbrev pub Serving : Type 0 → Type 0 → Type 1
-Serving D C = D → D → Answerer Seen C → Answerer Seen C → DoorEnd → Type 0
-
--- The first door is served by its clock, over a desk of which a is seen before and b afterwards. No other door changes.
-pub record ServesFirst {D C : Type 0} (serves : Serving D C) (old new : List (D × C)) (a b : Seen) (end : DoorEnd) : Type 0 where
-  pub door : D
-  pub served : D
-  pub clock : C
-  pub told : C
-  pub before : slice_get old 0 ≡ Some (door, clock)
-  pub after : new ≡ slice_set old 0 (served, told)
-  pub going : serves door served (record { desk = a; clock = clock }) (record { desk = b; clock = told }) end
 
 -- so many links were taken
 abbrev pub served_line : ℕ → List ℕ
@@ -36,8 +22,23 @@ SaysServed old new before now end (Some stop.DoorFault) = Appends old new (serve
 SaysServed old new before now end (Some stop.Memory) = Keeps old new ⊎ (Appends old new (served_line end.taken) × (end.fault ≡ false) × (0 < end.short))
 SaysServed old new before now end (Some s) = ⊥
 
--- the first door was served over a desk, and this was said of it
-pub record ServedDoor {D C : Type 0} (serves : Serving D C) (doors after : List (D × C)) (a b : Seen) (old new : Option (List ℕ)) (before now : ℕ) (s : Option Stop) : Type 0 where
+-- nothing is written of doors that weren't served, since memory was wanting
+abbrev pub SaysOf : {E : Type 0} → Option (List ℕ) → Option (List ℕ) → ℕ → ℕ → Result DoorEnd E → Option Stop → Type 0
+SaysOf old new before now served s = MatchResult served (λ end. SaysServed old new before now end s) (λ _. (s ≡ Some stop.Memory) × Keeps old new)
+
+-- The first so many doors were served side by side, for ones who had seen so much of the school before, and this was said of all of them.
+-- Of what was seen at each door at its end this holds.
+pub record ServedDoors {D C : Type 0} (serves : Serving D C) (told : Tellings) (Kept : Tellings → Type 0) (count : ℕ) (doors after : List (D × C)) (old new : Option (List ℕ)) (before now : ℕ) (s : Option Stop) : Type 0 where
   pub end : DoorEnd
-  pub first : ServesFirst serves doors after a b end
+  pub beside : ServesBeside serves told Kept count doors after end
   pub says : SaysServed old new before now end s
+
+-- memory was wanting before any door was served
+pub record NoneServed {D C : Type 0} (doors after : List (D × C)) (old new : Option (List ℕ)) (s : Option Stop) : Type 0 where
+  pub memory : s ≡ Some stop.Memory
+  pub stay : after ≡ doors
+  pub unwritten : Keeps old new
+
+-- no door's count of faults rose
+pub record NoDoorFails {D C : Type 0} (faults : D → ℕ) (doors after : List (D × C)) : Type 0 where
+  pub each : (k : ℕ) (old new : D × C) → slice_get doors k ≡ Some old → slice_get after k ≡ Some new → ¬ HasRisen (faults old.0) (faults new.0)

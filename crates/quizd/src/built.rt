@@ -9,7 +9,7 @@ use qz_command::{Command, WordsFault, command_of};
 use qz_text::Text;
 use std::alloc::Global;
 
-/// The command that these words are, of those that are built so far: links are served by one worker and no regrader.
+/// The command that these words are, of those that are built so far: links are served without a regrader.
 ///
 /// # Errors
 ///
@@ -29,11 +29,7 @@ fn is_built(command: &Command) -> bool
     ensures { result ≡ is_built command.now }
 {
     match command {
-        Command::Serve {
-            workers,
-            regraders,
-            ..
-        } => *workers == 1 && *regraders == 0,
+        Command::Serve { regraders, .. } => *regraders == 0,
         Command::Replay
         | Command::GiftCheck
         | Command::GiftFormat

@@ -1,22 +1,26 @@
-//! Serving the school of a folder.
+//! Answering over the school of a folder.
 
-ghost use Rattle.std.specs.Prelude.{◌≡◌, ◌<◌, length};
+ghost use Rattle.std.specs.Prelude.{◌≡◌, ◌≤◌, length};
 ghost use Rattle.qz_disks.specs.Shelves.{NoneOutIn};
 ghost use Rattle.qz_doors.specs.Answers.{Asks};
 ghost use Rattle.qz_doors.specs.Doors.{ServesDoor};
 ghost use Rattle.qz_ending.specs.Endings.{Ended};
 ghost use Rattle.quizd.specs.Folders.{DoorsFolderEnds, ScriptFolderEnds, ServesDoors, ServesFolder};
-ghost use Rattle.quizd.specs.Retries.{IsServedOnce};
+ghost use Rattle.qz_visit.specs.Seeing.{IsAskedBeside};
 ghost use Rattle.quizd.specs.Scripts.{script_limit};
+ghost use Rattle.quizd.specs.Serving.{NoDoorFails};
 
 use crate::script::{LIMIT, serve};
-use crate::serve::serve_links;
+use crate::serve::say_served;
 use qz_disks::Shelf;
 use qz_links::{Clock, Door};
 use qz_opening::open_school;
 use qz_outside::{Sink, Source};
 use qz_solo::close;
+use qz_stations::serve_doors;
 use std::alloc::Global;
+use std::sync::Wait;
+use std::thread::Threads;
 
 /// Answers the lines of a script over the school of a folder, of which no file is out, and answers the exit status.
 ///
@@ -56,25 +60,32 @@ pub fn script_folder<S: Source, O: Sink, F: Shelf>(
     }
 }
 
-/// Serves the first of some doors over the school of a folder, of which no file is out, until `links` links were taken, none comes or the door
-/// fails; writes `served N`, how many were taken, and answers the exit status.
+/// Serves the first doors, as many as there are workers, over the school of a folder, of which no file is out: side by side, each on a thread
+/// of its own where one can be started, until `links` links were taken there, none comes or the door fails. Writes `served N`, how many were
+/// taken in all, and answers the exit status.
 ///
 /// With status 7 the files don't give a school, and one line says why; with status 6 the shelf failed, or the disk of a file; no link was
-/// taken then. Afterwards each file is given back, and stands for its list.
-pub fn serve_folder<O: Sink, R: Door, C: Clock, F: Shelf>(
+/// taken then. With status 8 memory was wanting, for the school, for a link, which has ended then, or for the line; with status 10 a door
+/// failed, and the others were served. Afterwards each file is given back, and stands for its list.
+pub fn serve_folder<W: Threads + Wait + Sync, O: Sink, R: Door + Send, C: Clock + Send, F: Shelf>(
+    rt: &W,
     alloc: Global,
     folder: &[u8],
-    links: u64,
+    workers: u8,
+    links: u32,
     sink: &mut O,
     doors: &mut Vec<(R, C)>,
     shelf: &mut F,
 ) -> u8
+where
+    F::Disk: Send + Sync,
+    R::Link: Send,
     requires none_out { NoneOutIn folder.now (F.files shelf.old) }
-    requires some_door { 0 < length doors.old.items }
+    requires enough { workers ≤ length doors.old.items }
     ensures ended { Ended
         (DoorsFolderEnds (record { moment = F.Disk.moment; left_at = F.Disk.left_at; sound = F.Disk.sound; faults = F.Disk.faults })
-        folder.now
-        (λ door served a b end. ServesDoor (Asks C.tells IsServedOnce)
+        folder.now workers
+        (λ door served a b end. ServesDoor (Asks C.tells IsAskedBeside)
         (λ link. record { left = R.Link.left link; holds = R.Link.holds link; faults = R.Link.faults link })
         links
         (record { left = R.left door; returned = R.returned door; returns = R.returns door; out = R.out door; faults = R.faults door })
@@ -86,7 +97,7 @@ pub fn serve_folder<O: Sink, R: Door, C: Clock, F: Shelf>(
         (record { holds = O.holds sink.old; faults = O.faults sink.old })
         (record { holds = O.holds sink.new; faults = O.faults sink.new }))
         result }
-    ensures complete { ServesDoors
+    ensures complete { ServesDoors (NoDoorFails R.faults doors.old.items doors.new.items)
         (record { files = F.files shelf.old; faults = F.faults shelf.old })
         (record { files = F.files shelf.new; faults = F.faults shelf.new })
         (record { holds = O.holds sink.old; faults = O.faults sink.old })
@@ -95,10 +106,10 @@ pub fn serve_folder<O: Sink, R: Door, C: Clock, F: Shelf>(
     ensures doors { length doors.new.items ≡ length doors.old.items }
 {
     match open_school(alloc, folder, sink, shelf) {
-        Ok(mut desk) => {
-            let status = serve_links(alloc, links, &mut desk, sink, doors);
-            close(shelf, folder, desk);
-            status
+        Ok(school) => {
+            let (school, served) = serve_doors(rt, alloc, school, u32::from(workers), links, doors);
+            close(shelf, folder, school);
+            say_served(alloc, sink, served)
         }
         Err(stop) => stop.status(),
     }

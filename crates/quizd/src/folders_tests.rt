@@ -10,7 +10,8 @@ use qz_text::{Bytes, Listed};
 use std::test::Fail;
 
 /// What comes of a script over the school of a folder: its status and what was written.
-pub(crate) fn scripted(
+pub(crate) fn scripted<W: Threads + Wait + Sync>(
+    rt: &W,
     alloc: Global,
     lines: &str,
     shelf: &mut MemoryShelf,
@@ -25,7 +26,7 @@ pub(crate) fn scripted(
     let mut source = MemorySource::new(lines, Listed::empty(alloc), 65_536);
     let mut sink = MemorySink::new(alloc, 1 << 20, Listed::empty(alloc), 65_536)?;
     let mut doors = no_doors(alloc)?;
-    let status = run(alloc, &words, &mut source, &mut sink, &mut doors, shelf);
+    let status = run(rt, alloc, &words, &mut source, &mut sink, &mut doors, shelf);
     Ok((status, String::from_utf8_lossy(alloc, sink.bytes())?))
 }
 
@@ -71,13 +72,13 @@ ok 3 attempt finished 2.0000000 -
 fn a_school_stays_in_its_folder(rt: HostRuntime) -> Result<(), Fail> {
     let alloc = rt.alloc();
     let mut shelf = MemoryShelf::new(alloc, Listed::empty(alloc));
-    let (status, written) = scripted(alloc, FIRST, &mut shelf)?;
+    let (status, written) = scripted(&rt, alloc, FIRST, &mut shelf)?;
     assert_eq!(rt; (status, written.as_str()), (7, "not founded\n"));
-    let (status, written) = shown(alloc, &["found", "school", "2", "root"], 0, &mut shelf)?;
+    let (status, written) = shown(&rt, alloc, &["found", "school", "2", "root"], 0, &mut shelf)?;
     assert_eq!(rt; (status, written.as_str()), (0, "founded 2\n"));
-    let (status, written) = scripted(alloc, FIRST, &mut shelf)?;
+    let (status, written) = scripted(&rt, alloc, FIRST, &mut shelf)?;
     assert_eq!(rt; (status, written.as_str()), (0, FIRST_SAID));
-    let (status, written) = scripted(alloc, SECOND, &mut shelf)?;
+    let (status, written) = scripted(&rt, alloc, SECOND, &mut shelf)?;
     assert_eq!(rt; (status, written.as_str()), (0, SECOND_SAID));
     Ok(())
 }
@@ -96,7 +97,7 @@ fn damaged(alloc: Global) -> Result<MemoryShelf, NoMemory>
 fn a_damaged_file_is_told(rt: HostRuntime) -> Result<(), Fail> {
     let alloc = rt.alloc();
     let mut shelf = damaged(alloc)?;
-    let (status, written) = scripted(alloc, FIRST, &mut shelf)?;
+    let (status, written) = scripted(&rt, alloc, FIRST, &mut shelf)?;
     assert_eq!(rt; (status, written.as_str()), (7, "damaged catalog.jnl 0\n"));
     Ok(())
 }
@@ -155,10 +156,10 @@ fn a_record_in_doubt_is_found_or_put_anew(rt: HostRuntime) -> Result<(), Fail> {
     // The write of the gate that opens the second record, and the sync after it: five calls load the file, and each record takes four.
     for call in [12, 13] {
         let mut shelf = failing(alloc, call)?;
-        shown(alloc, &["found", "school", "1", "root"], 0, &mut shelf)?;
-        let (status, written) = scripted(alloc, UNKEPT, &mut shelf)?;
+        shown(&rt, alloc, &["found", "school", "1", "root"], 0, &mut shelf)?;
+        let (status, written) = scripted(&rt, alloc, UNKEPT, &mut shelf)?;
         assert_eq!(rt; (status, written.as_str()), (0, UNKEPT_SAID));
-        let (status, written) = scripted(alloc, KEPT, &mut shelf)?;
+        let (status, written) = scripted(&rt, alloc, KEPT, &mut shelf)?;
         assert_eq!(rt; (status, written.as_str()), (0, KEPT_SAID));
     }
     Ok(())

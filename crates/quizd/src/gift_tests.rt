@@ -5,7 +5,12 @@ use qz_text::{Bytes, Listed};
 use std::test::Fail;
 
 /// What comes of a GIFT text: the status and what was written.
-fn told(alloc: Global, word: &str, text: &[u8]) -> Result<(u8, String), NoMemory> {
+fn told<W: Threads + Wait + Sync>(
+    rt: &W,
+    alloc: Global,
+    word: &str,
+    text: &[u8],
+) -> Result<(u8, String), NoMemory> {
     let mut words = Vec::new(alloc);
     words.push(Text::of(alloc, "gift")?)?;
     words.push(Text::of(alloc, word)?)?;
@@ -14,6 +19,7 @@ fn told(alloc: Global, word: &str, text: &[u8]) -> Result<(u8, String), NoMemory
     let mut doors = no_doors(alloc)?;
     let mut shelf = MemoryShelf::new(alloc, Listed::empty(alloc));
     let status = run(
+        rt,
         alloc,
         &words,
         &mut source,
@@ -36,12 +42,12 @@ fn gift_texts_are_checked_and_laid_out(rt: HostRuntime) -> Result<(), Fail> {
         ("check", "Sky{T}\n\nSea{\nwide\n", 3, "malformed 4 5\n"),
         ("fmt", "Sky{T}\n\nSea}{\n", 3, "malformed 3 5\n"),
     ] {
-        let (ended, written) = told(alloc, word, text.as_bytes())?;
+        let (ended, written) = told(&rt, alloc, word, text.as_bytes())?;
         assert_eq!(rt; (ended, written.as_str()), (status, output));
     }
     let mut text = Vec::new(alloc);
     text.resize(8_388_609, b'\n')?;
-    let (ended, written) = told(alloc, "check", &text)?;
+    let (ended, written) = told(&rt, alloc, "check", &text)?;
     assert_eq!(rt; (ended, written.as_str()), (9, ""));
     Ok(())
 }

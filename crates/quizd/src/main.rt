@@ -3,6 +3,8 @@
 
 ghost use Rattle.std.specs.Prelude.{◌≡◌, length, IfOk};
 
+#[cfg(test)]
+mod beside_tests;
 mod built;
 mod bulk;
 mod folders;
@@ -11,6 +13,8 @@ mod folders_tests;
 mod gift;
 #[cfg(test)]
 mod gift_tests;
+#[cfg(test)]
+mod held_disk;
 #[cfg(test)]
 mod prompt_tests;
 mod run;
@@ -42,6 +46,8 @@ pub use script::script;
 use std::alloc::Global;
 use std::process::ExitCode;
 use std::rt::Env;
+use std::sync::Wait;
+use std::thread::Threads;
 use std::{env, io};
 
 /// The words of the command line behind the program's name. No words stand for arguments that the system doesn't give as text.
@@ -132,29 +138,41 @@ fn tell_folder(rt: &HostRuntime, folder: &Text, status: u8) {
 }
 
 /// Runs the words over standard input and output, some doors and the folders of the system.
-fn run_at<R: Door, C: Clock>(rt: HostRuntime, words: &[Text], doors: &mut Vec<(R, C)>) -> u8
+fn run_at<W: Threads + Wait + Sync, R: Door + Send, C: Clock + Send>(
+    host: HostRuntime,
+    rt: &W,
+    words: &[Text],
+    doors: &mut Vec<(R, C)>,
+) -> u8
+where
+    R::Link: Send,
     requires { length doors.old.items ≡ DOORS }
 {
-    let alloc = rt.alloc();
-    let mut source = StdSource::new(rt.reader());
-    let mut sink = StdSink::new(io::writer(&rt));
-    let mut shelf = FolderShelf::new(alloc, &rt);
-    run(alloc, words, &mut source, &mut sink, doors, &mut shelf)
+    let alloc = host.alloc();
+    let mut source = StdSource::new(host.reader());
+    let mut sink = StdSink::new(io::writer(&host));
+    let mut shelf = FolderShelf::new(alloc, &host);
+    run(rt, alloc, words, &mut source, &mut sink, doors, &mut shelf)
 }
 
 /// The same where nobody comes to any door.
-fn run_alone(rt: HostRuntime, words: &[Text]) -> u8 {
-    match no_doors(rt.alloc()) {
-        Ok(mut doors) => run_at(rt, words, &mut doors),
+fn run_alone<W: Threads + Wait + Sync>(host: HostRuntime, rt: &W, words: &[Text]) -> u8 {
+    match no_doors(host.alloc()) {
+        Ok(mut doors) => run_at(host, rt, words, &mut doors),
         Err(NoMemory) => Stop::Memory.status(),
     }
 }
 
 /// The same with doors at this port.
-fn run_at_port(rt: HostRuntime, words: &[Text], port: u16) -> u8 {
-    match open_doors(rt, port) {
-        Ok(mut doors) => run_at(rt, words, &mut doors),
-        Err(why) => tell(&rt, port, why).status(),
+fn run_at_port<W: Threads + Wait + Sync>(
+    host: HostRuntime,
+    rt: &W,
+    words: &[Text],
+    port: u16,
+) -> u8 {
+    match open_doors(host, port) {
+        Ok(mut doors) => run_at(host, rt, words, &mut doors),
+        Err(why) => tell(&host, port, why).status(),
     }
 }
 
@@ -165,17 +183,17 @@ fn main(rt: HostRuntime) -> ExitCode {
     let command = built_command(rt.alloc(), &words);
     let status = match &command {
         Ok(Command::Serve { folder, port, .. }) => {
-            let status = run_at_port(rt, &words, *port);
+            let status = run_at_port(rt, &rt, &words, *port);
             tell_folder(&rt, folder, status);
             status
         }
         Ok(Command::Found { folder, .. } | Command::Script { folder }) => {
-            let status = run_alone(rt, &words);
+            let status = run_alone(rt, &rt, &words);
             tell_folder(&rt, folder, status);
             status
         }
         Ok(Command::Replay | Command::GiftCheck | Command::GiftFormat | Command::Bulk { .. })
-        | Err(WordsFault::BadWords) => run_alone(rt, &words),
+        | Err(WordsFault::BadWords) => run_alone(rt, &rt, &words),
         Err(WordsFault::Memory) => Stop::Memory.status(),
     };
     drop(command);

@@ -63,7 +63,11 @@ impl Sink for Counting<'_> {
 }
 
 /// The status of a script that comes in these pieces, and how many replies were written.
-fn answered(alloc: Global, pieces: &[&str]) -> Result<(u8, usize), NoMemory> {
+fn answered<W: Threads + Wait + Sync>(
+    rt: &W,
+    alloc: Global,
+    pieces: &[&str],
+) -> Result<(u8, usize), NoMemory> {
     let mut words = Vec::new(alloc);
     words.push(Text::of(alloc, "script")?)?;
     words.push(Text::of(alloc, "memory")?)?;
@@ -79,6 +83,7 @@ fn answered(alloc: Global, pieces: &[&str]) -> Result<(u8, usize), NoMemory> {
     let mut doors = no_doors(alloc)?;
     let mut shelf = MemoryShelf::new(alloc, Listed::empty(alloc));
     let status = run(
+        rt,
         alloc,
         &words,
         &mut source,
@@ -93,7 +98,7 @@ fn answered(alloc: Global, pieces: &[&str]) -> Result<(u8, usize), NoMemory> {
 fn each_line_is_answered_before_the_next_read(rt: HostRuntime) -> Result<(), Fail> {
     let alloc = rt.alloc();
     let whole = ["110 ann k1 start 1\n", "120 ann - grade 1 2\n"];
-    assert_eq!(rt; answered(alloc, &whole)?, (0, 2));
+    assert_eq!(rt; answered(&rt, alloc, &whole)?, (0, 2));
     let cut = [
         "110 ann k1",
         " start 1\n120 ann - gra",
@@ -101,8 +106,8 @@ fn each_line_is_answered_before_the_next_read(rt: HostRuntime) -> Result<(), Fai
         "\n",
         "\n",
     ];
-    assert_eq!(rt; answered(alloc, &cut)?, (0, 4));
+    assert_eq!(rt; answered(&rt, alloc, &cut)?, (0, 4));
     let together = ["110 ann k1 start 1\n120 ann - grade 1 2\n", "\n130"];
-    assert_eq!(rt; answered(alloc, &together)?, (0, 4));
+    assert_eq!(rt; answered(&rt, alloc, &together)?, (0, 4));
     Ok(())
 }

@@ -5,7 +5,8 @@ ghost use Rattle.std.specs.Prelude.{◌≡◌, length};
 ghost use Rattle.qz_doors.specs.Answers.{Asks};
 ghost use Rattle.qz_doors.specs.Doors.{ServesDoor};
 ghost use Rattle.qz_ending.specs.Endings.{Ended};
-ghost use Rattle.quizd.specs.Retries.{IsServedOnce};
+ghost use Rattle.qz_visit.specs.Seeing.{IsAskedBeside};
+ghost use Rattle.quizd.specs.Serving.{NoDoorFails};
 
 use crate::built::{built_command, is_memory};
 use crate::bulk::bulk;
@@ -21,6 +22,8 @@ use qz_outside::{Sink, Source, write_all};
 use qz_replay::replay;
 use qz_text::Text;
 use std::alloc::Global;
+use std::sync::Wait;
+use std::thread::Threads;
 
 const USAGE: &str =
     "usage: quizd replay | gift check | gift fmt | script FOLDER | found FOLDER SHARDS TOKEN | serve FOLDER PORT WORKERS REGRADERS LINKS | bulk N\n";
@@ -29,10 +32,11 @@ const USAGE: &str =
 /// answers its exit status.
 ///
 /// The commands so far are `replay`, `gift check`, `gift fmt`, `script FOLDER`, `found FOLDER SHARDS TOKEN`, `bulk N` and
-/// `serve FOLDER PORT 1 0 LINKS`, which serves the first of the doors. The folder's school is loaded, and given back with all that was
+/// `serve FOLDER PORT WORKERS 0 LINKS`, which serves the first doors, one a worker. The folder's school is loaded, and given back with all that was
 /// accepted; for a script `memory` stands for a school in memory, just founded. Words that are no command are status 2: nothing is read, and the usage line is written. Where the sink fails under the usage line the status is 5.
 /// Where memory is wanting for the words it is 8, and nothing is done.
-pub fn run<S: Source, O: Sink, R: Door, C: Clock, F: Shelf>(
+pub fn run<W: Threads + Wait + Sync, S: Source, O: Sink, R: Door + Send, C: Clock + Send, F: Shelf>(
+    rt: &W,
     alloc: Global,
     words: &[Text],
     source: &mut S,
@@ -40,11 +44,14 @@ pub fn run<S: Source, O: Sink, R: Door, C: Clock, F: Shelf>(
     doors: &mut Vec<(R, C)>,
     shelf: &mut F,
 ) -> u8
+where
+    F::Disk: Send + Sync,
+    R::Link: Send,
     requires doors { length doors.old.items ≡ 16 }
     requires none_out { NoneOut (F.files shelf.old) }
     ensures ended { Ended
         (RunEnds (record { moment = F.Disk.moment; left_at = F.Disk.left_at; sound = F.Disk.sound; faults = F.Disk.faults })
-        (λ links door served a b end. ServesDoor (Asks C.tells IsServedOnce)
+        (λ links door served a b end. ServesDoor (Asks C.tells IsAskedBeside)
         (λ link. record { left = R.Link.left link; holds = R.Link.holds link; faults = R.Link.faults link })
         links
         (record { left = R.left door; returned = R.returned door; returns = R.returns door; out = R.out door; faults = R.faults door })
@@ -55,7 +62,7 @@ pub fn run<S: Source, O: Sink, R: Door, C: Clock, F: Shelf>(
         (record { left = S.left source.old; source_faults = S.faults source.old; holds = O.holds sink.old; sink_faults = O.faults sink.old })
         (record { left = S.left source.new; source_faults = S.faults source.new; holds = O.holds sink.new; sink_faults = O.faults sink.new }))
         result }
-    ensures complete { RunsAll
+    ensures complete { RunsAll (NoDoorFails R.faults doors.old.items doors.new.items)
         (record { files = F.files shelf.old; faults = F.faults shelf.old })
         (record { files = F.files shelf.new; faults = F.faults shelf.new }) words.now
         (record { left = S.left source.old; source_faults = S.faults source.old; holds = O.holds sink.old; sink_faults = O.faults sink.old })
@@ -80,11 +87,20 @@ pub fn run<S: Source, O: Sink, R: Door, C: Clock, F: Shelf>(
             Command::Serve {
                 folder,
                 port: _port,
-                workers: _workers,
+                workers,
                 regraders: _regraders,
                 links,
             },
-        ) => serve_folder(alloc, folder.as_bytes(), links as u64, sink, doors, shelf),
+        ) => serve_folder(
+            rt,
+            alloc,
+            folder.as_bytes(),
+            workers,
+            links,
+            sink,
+            doors,
+            shelf,
+        ),
         Ok(Command::Bulk { count }) => bulk(alloc, count, sink),
         Err(WordsFault::BadWords) => show_usage(sink).status(),
         Err(WordsFault::Memory) => Stop::Memory.status(),

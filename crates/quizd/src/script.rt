@@ -2,9 +2,10 @@
 
 ghost use Rattle.std.specs.Prelude.{◌≡◌, ◌<◌, ◌^◌, length, MatchResult, Some, None};
 ghost use Rattle.quizd.specs.ScriptLines.{kept_item};
+ghost use Rattle.qz_asking.specs.Following.{Follows};
 ghost use Rattle.qz_ending.specs.Endings.{Ended};
 ghost use Rattle.quizd.specs.Solo.{first_lists};
-ghost use Rattle.quizd.specs.Retries.{AnswersOnce, Follows, GoesOnce, TakesLines};
+ghost use Rattle.quizd.specs.Retries.{AnswersOnce, GoesOnce, TakesLines};
 ghost use Rattle.quizd.specs.Scripts.{AnswersLine, AnswerStops, Says, SayStops, ScriptEnds, ServeEnds, ServesAll, script_limit};
 
 use crate::script_input::{Given, ScriptInput};

@@ -37,7 +37,12 @@ fn sink_for(alloc: Global, outer: Outer) -> Result<MemorySink, NoMemory> {
 }
 
 /// What comes of a script: its status and what was written.
-fn scripted(alloc: Global, text: &[u8], outer: Outer) -> Result<(u8, String), NoMemory> {
+fn scripted<W: Threads + Wait + Sync>(
+    rt: &W,
+    alloc: Global,
+    text: &[u8],
+    outer: Outer,
+) -> Result<(u8, String), NoMemory> {
     let mut words = Vec::new(alloc);
     words.push(Text::of(alloc, "script")?)?;
     words.push(Text::of(alloc, "memory")?)?;
@@ -46,6 +51,7 @@ fn scripted(alloc: Global, text: &[u8], outer: Outer) -> Result<(u8, String), No
     let mut doors = no_doors(alloc)?;
     let mut shelf = MemoryShelf::new(alloc, Listed::empty(alloc));
     let status = run(
+        rt,
         alloc,
         &words,
         &mut source,
@@ -94,9 +100,14 @@ const MADE: &str =
     "ok 2 made 2\nok 3 made 3\nok 4 imported 1 1\nok 5 made 1\nok 6 slot 1\nok 7 done\n";
 
 /// What is written for these lines behind those of the school, and for no other.
-fn replies(alloc: Global, lines: &str, outer: Outer) -> Result<(u8, String), NoMemory> {
+fn replies<W: Threads + Wait + Sync>(
+    rt: &W,
+    alloc: Global,
+    lines: &str,
+    outer: Outer,
+) -> Result<(u8, String), NoMemory> {
     let text = format!(in alloc; "{SCHOOL}{lines}")?;
-    let (status, written) = scripted(alloc, text.as_bytes(), outer)?;
+    let (status, written) = scripted(rt, alloc, text.as_bytes(), outer)?;
     let said = written.as_str().strip_prefix(MADE).unwrap_or("no school\n");
     Ok((status, format!(in alloc; "{said}")?))
 }
@@ -126,7 +137,7 @@ fn one_line_is_answered(rt: HostRuntime) -> Result<(), Fail> {
         ("280 root a1 user ann student ann", "ok 2 made 2\n"),
     ] {
         let text = format!(in alloc; "{line}\n")?;
-        let (status, said) = replies(alloc, &text, WELL)?;
+        let (status, said) = replies(&rt, alloc, &text, WELL)?;
         assert_eq!(rt; (status, said.as_str()), (0, want), "{line}");
     }
     Ok(())
@@ -144,7 +155,7 @@ fn every_response_is_read(rt: HostRuntime) -> Result<(), Fail> {
     ] {
         let text = format!(in alloc; "110 ann k1 start 1\n120 ann k2 save 2.1 1 0 {response}\n")?;
         let want = format!(in alloc; "ok 1 started 2.1 1 -\n{want}\n")?;
-        let (status, written) = replies(alloc, &text, WELL)?;
+        let (status, written) = replies(&rt, alloc, &text, WELL)?;
         assert_eq!(rt;
             (status, written.as_str()),
             (0, want.as_str()),
@@ -157,15 +168,15 @@ fn every_response_is_read(rt: HostRuntime) -> Result<(), Fail> {
 #[test]
 fn lines_that_are_no_text_or_too_long(rt: HostRuntime) -> Result<(), Fail> {
     let alloc = rt.alloc();
-    let (status, written) = scripted(alloc, &[255, 10], WELL)?;
+    let (status, written) = scripted(&rt, alloc, &[255, 10], WELL)?;
     assert_eq!(rt; (status, written.as_str()), (0, "refused 1 0 0\n"));
     let mut text = Vec::new(alloc);
     text.resize(17_825_792, b'a')?;
-    let (status, written) = scripted(alloc, &text, WELL)?;
+    let (status, written) = scripted(&rt, alloc, &text, WELL)?;
     assert_eq!(rt; (status, written.as_str()), (0, "refused 1 1 0\n"));
     text.push(b'a')?;
     text.extend_from_slice(b"\n200 zed k1 start 1\n")?;
-    let (status, written) = scripted(alloc, &text, WELL)?;
+    let (status, written) = scripted(&rt, alloc, &text, WELL)?;
     assert_eq!(rt;
         (status, written.as_str()),
         (0, "refused 1 0 2\nrefused 2\n")
@@ -180,13 +191,13 @@ const TWO: &[u8] = b"200 zed k1 start 1\n201 zed k1 start 1\n";
 fn bytes_come_in_pieces(rt: HostRuntime) -> Result<(), Fail> {
     let alloc = rt.alloc();
     let both = "refused 2\nrefused 2\n";
-    let (status, written) = scripted(alloc, b"", WELL)?;
+    let (status, written) = scripted(&rt, alloc, b"", WELL)?;
     assert_eq!(rt; (status, written.as_str()), (0, ""));
     for most in [1usize, 7, 100] {
         let cut = Outer { most, ..WELL };
-        let (status, written) = scripted(alloc, TWO, cut)?;
+        let (status, written) = scripted(&rt, alloc, TWO, cut)?;
         assert_eq!(rt; (status, written.as_str()), (0, both));
-        let (status, written) = scripted(alloc, TWO.split_at(37).0, cut)?;
+        let (status, written) = scripted(&rt, alloc, TWO.split_at(37).0, cut)?;
         assert_eq!(rt; (status, written.as_str()), (0, both));
     }
     Ok(())
@@ -202,7 +213,7 @@ fn faults_leave_whole_lines(rt: HostRuntime) -> Result<(), Fail> {
             failing_read,
             failing_write: 0,
         };
-        let (status, written) = scripted(alloc, TWO, bad)?;
+        let (status, written) = scripted(&rt, alloc, TWO, bad)?;
         assert_eq!(rt;
             (status, written.as_str()),
             (4, want),
@@ -214,7 +225,7 @@ fn faults_leave_whole_lines(rt: HostRuntime) -> Result<(), Fail> {
         failing_read: 0,
         failing_write: 2,
     };
-    let (status, written) = scripted(alloc, TWO, bad)?;
+    let (status, written) = scripted(&rt, alloc, TWO, bad)?;
     assert_eq!(rt; (status, written.as_str()), (5, one));
     Ok(())
 }
@@ -237,7 +248,7 @@ fn many_lines_run(rt: HostRuntime) -> Result<(), Fail> {
     for _ in 0..20_000 {
         text.push_str("200 zed k1 start 1\n")?;
     }
-    let (status, written) = scripted(alloc, text.as_bytes(), WELL)?;
+    let (status, written) = scripted(&rt, alloc, text.as_bytes(), WELL)?;
     assert_eq!(rt; status, 0);
     assert_eq!(rt; written.len(), 200_000);
     Ok(())
@@ -256,7 +267,7 @@ fn a_whole_exam(rt: HostRuntime) -> Result<(), Fail> {
             failing_read: 0,
             failing_write: 0,
         };
-        let (status, written) = replies(alloc, lines, cut)?;
+        let (status, written) = replies(&rt, alloc, lines, cut)?;
         assert_eq!(rt; (status, written.as_str()), (0, told));
     }
     Ok(())

@@ -11,7 +11,7 @@ use qz_text::Listed;
 use std::test::Fail;
 
 /// A school with two students, and a quiz of one question.
-const SETUP: &str = "\
+pub(crate) const SETUP: &str = "\
 100 root a1 user ann student ann
 100 root a2 user bob student bob
 100 root a3 import Sky\\s{T}
@@ -80,11 +80,11 @@ fn calls_from(alloc: Global, call: u64) -> Result<Listed<u64>, NoMemory> {
 }
 
 /// A school of one shard in its folder.
-fn founded(alloc: Global) -> Result<MemoryShelf, NoMemory>
+fn founded<W: Threads + Wait + Sync>(rt: &W, alloc: Global) -> Result<MemoryShelf, NoMemory>
     ensures { IfOk result (λ shelf. NoneOut (memory_files shelf.slots)) }
 {
     let mut shelf = MemoryShelf::new(alloc, Listed::empty(alloc));
-    shown(alloc, &["found", "school", "1", "root"], 0, &mut shelf)?;
+    shown(rt, alloc, &["found", "school", "1", "root"], 0, &mut shelf)?;
     Ok(shelf)
 }
 
@@ -164,15 +164,15 @@ fn a_stop_at_each_call_of_a_shard_keeps_what_was_acknowledged(rt: HostRuntime) -
     // Five calls load the file, and each record takes four.
     for call in 1..=17 {
         for fill in FILLS {
-            let mut shelf = founded(alloc)?;
-            scripted(alloc, SETUP, &mut shelf)?;
+            let mut shelf = founded(&rt, alloc)?;
+            scripted(&rt, alloc, SETUP, &mut shelf)?;
             let mut shelf = stopping(alloc, shelf, b"part-00.jnl", call)?;
-            let (_, written) = scripted(alloc, ATTEMPT, &mut shelf)?;
+            let (_, written) = scripted(&rt, alloc, ATTEMPT, &mut shelf)?;
             let kept = acknowledged(&written);
             let found = records_in(alloc, &shelf, b"part-00.jnl", fill)?;
             assert!(rt; found == Some(kept) || found == Some(kept.saturating_add(1)));
             let mut shelf = restarted(alloc, &shelf, fill)?;
-            let (status, written) = scripted(alloc, EXAM, &mut shelf)?;
+            let (status, written) = scripted(&rt, alloc, EXAM, &mut shelf)?;
             assert_eq!(rt; (status, written.as_str()), (0, EXAM_SAID));
         }
     }
@@ -186,13 +186,13 @@ fn a_stop_at_each_call_of_the_catalogue_keeps_what_was_acknowledged(
     let alloc = rt.alloc();
     for call in 1..=32 {
         for fill in FILLS {
-            let mut shelf = stopping(alloc, founded(alloc)?, b"catalog.jnl", call)?;
-            let (_, written) = scripted(alloc, SETUP, &mut shelf)?;
+            let mut shelf = stopping(alloc, founded(&rt, alloc)?, b"catalog.jnl", call)?;
+            let (_, written) = scripted(&rt, alloc, SETUP, &mut shelf)?;
             let kept = acknowledged(&written).saturating_add(1);
             let found = records_in(alloc, &shelf, b"catalog.jnl", fill)?;
             assert!(rt; found == Some(kept) || found == Some(kept.saturating_add(1)));
             let mut shelf = restarted(alloc, &shelf, fill)?;
-            let (status, written) = scripted(alloc, SETUP, &mut shelf)?;
+            let (status, written) = scripted(&rt, alloc, SETUP, &mut shelf)?;
             assert_eq!(rt; (status, written.as_str()), (0, SETUP_SAID));
         }
     }

@@ -13,7 +13,8 @@ const USAGE: &str =
 
 /// What these words show, with nothing to read, over a shelf: the status and what was written, 9 bytes a call, of which the call with this
 /// number fails (0 for none).
-pub(crate) fn shown(
+pub(crate) fn shown<W: Threads + Wait + Sync>(
+    rt: &W,
     alloc: Global,
     words: &[&str],
     failing: u64,
@@ -32,7 +33,7 @@ pub(crate) fn shown(
     };
     let mut sink = MemorySink::new(alloc, 1 << 20, failing, 9)?;
     let mut doors = no_doors(alloc)?;
-    let status = run(alloc, &texts, &mut source, &mut sink, &mut doors, shelf);
+    let status = run(rt, alloc, &texts, &mut source, &mut sink, &mut doors, shelf);
     Ok((status, String::from_utf8_lossy(alloc, sink.bytes())?))
 }
 
@@ -49,16 +50,16 @@ fn other_words_show_the_usage_line(rt: HostRuntime) -> Result<(), Fail> {
         &["script"],
         &["found", "school", "0", "root"],
         &["found", "school", "65", "root"],
-        &["serve", "memory", "8080", "2", "0", "1"],
-        &["serve", "folder", "8080", "1", "1", "1"],
+        &["serve", "school", "8080", "17", "0", "1"],
+        &["serve", "school", "8080", "1", "1", "1"],
     ];
     for words in rows {
         let mut shelf = MemoryShelf::new(alloc, Listed::empty(alloc));
-        let (status, written) = shown(alloc, words, 0, &mut shelf)?;
+        let (status, written) = shown(&rt, alloc, words, 0, &mut shelf)?;
         assert_eq!(rt; (status, written.as_str()), (2, USAGE));
     }
     let mut shelf = MemoryShelf::new(alloc, Listed::empty(alloc));
-    let (status, written) = shown(alloc, &["help"], 2, &mut shelf)?;
+    let (status, written) = shown(&rt, alloc, &["help"], 2, &mut shelf)?;
     assert_eq!(rt; (status, written.as_str()), (5, "usage: qu"));
     Ok(())
 }
@@ -67,12 +68,14 @@ fn other_words_show_the_usage_line(rt: HostRuntime) -> Result<(), Fail> {
 fn a_school_is_founded_on_the_shelf(rt: HostRuntime) -> Result<(), Fail> {
     let alloc = rt.alloc();
     let mut shelf = MemoryShelf::new(alloc, Listed::empty(alloc));
-    let (status, written) = shown(alloc, &["found", "school", "2", "root"], 0, &mut shelf)?;
+    let (status, written) = shown(&rt, alloc, &["found", "school", "2", "root"], 0, &mut shelf)?;
     assert_eq!(rt; (status, written.as_str()), (0, "founded 2\n"));
-    let (status, written) = shown(alloc, &["found", "school", "3", "root"], 0, &mut shelf)?;
+    let (status, written) = shown(&rt, alloc, &["found", "school", "3", "root"], 0, &mut shelf)?;
     assert_eq!(rt; (status, written.as_str()), (7, "founded already\n"));
-    let words = ["serve", "school", "8080", "1", "0", "1"];
-    let (status, written) = shown(alloc, &words, 0, &mut shelf)?;
-    assert_eq!(rt; (status, written.as_str()), (0, "served 0\n"));
+    for workers in ["1", "2", "16"] {
+        let words = ["serve", "school", "8080", workers, "0", "1"];
+        let (status, written) = shown(&rt, alloc, &words, 0, &mut shelf)?;
+        assert_eq!(rt; (status, written.as_str()), (0, "served 0\n"), "{workers}");
+    }
     Ok(())
 }

@@ -2,4 +2,3 @@ pub mod Answers
 pub mod Links
 pub mod Steps
 pub mod Doors
-pub mod Following

@@ -1,5 +1,6 @@
 //! The passes of a worker.
 
+ghost use Rattle.qz_asking.specs.Following.{Follows};
 ghost use Rattle.qz_regrading.specs.Loops.{LoopEnds};
 ghost use Rattle.qz_regrading.specs.Passes.{PassEnds};
 ghost use Rattle.qz_regrading.specs.Workers.{ServesWorkers, TakesWork};
@@ -14,10 +15,12 @@ use qz_terms::Desk;
 use std::alloc::Global;
 
 /// One pass: works on each job in each shard, settles the attempts whose time is over, and goes on with the jobs that there are then.
+#[tactic(auto, using(crate::proofs::Following::leading))]
 fn pass<D: Desk, C: Clock>(alloc: Global, desk: &mut D, clock: &mut C) -> Met
     requires takes { TakesWork D.takes }
     requires serves { ServesWorkers D.lists D.faults D.answers }
-    ensures { PassEnds (D.lists desk.new) (D.faults desk.old) (D.faults desk.new) result }
+    ensures ends { PassEnds (D.lists desk.new) (D.faults desk.old) (D.faults desk.new) result }
+    ensures follows { Follows D.answers desk.old desk.new }
 {
     let mut met = Met::nothing();
     let mut next = walk(alloc, desk, clock, &mut met, 1);
@@ -46,7 +49,8 @@ fn pass<D: Desk, C: Clock>(alloc: Global, desk: &mut D, clock: &mut C) -> Met
 /// last pass, at least one, by which the desk's count of faults rose. With `Short` no keeper failed in the last pass, but memory was wanting,
 /// or the desk refused a request as no school does.
 ///
-/// The call returns no sooner than `stop` is set.
+/// Nothing but requests changes the desk. The call returns no sooner than `stop` is set.
+#[tactic(auto, using(crate::proofs::Following::leading))]
 pub fn regrade_loop<D: Desk, C: Clock>(
     alloc: Global,
     desk: &mut D,
@@ -55,7 +59,8 @@ pub fn regrade_loop<D: Desk, C: Clock>(
 ) -> LoopEnd
     requires takes { TakesWork D.takes }
     requires serves { ServesWorkers D.lists D.faults D.answers }
-    ensures { LoopEnds (D.lists desk.new) (D.faults desk.old) (D.faults desk.new) result }
+    ensures ends { LoopEnds (D.lists desk.new) (D.faults desk.old) (D.faults desk.new) result }
+    ensures follows { Follows D.answers desk.old desk.new }
 {
     for _ in 0..u64::MAX {
         if stop.is_set() {

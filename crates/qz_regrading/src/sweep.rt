@@ -1,5 +1,6 @@
 //! Settling the attempts whose time is over.
 
+ghost use Rattle.qz_asking.specs.Following.{Follows};
 ghost use Rattle.qz_regrading.specs.Passes.{Meets};
 ghost use Rattle.qz_regrading.specs.Workers.{ServesWorkers, TakesWork};
 
@@ -13,6 +14,7 @@ use std::alloc::Global;
 
 /// Settles the attempts of a shard that haven't ended, in order, until there are no more or looking for the next is refused. Whether the
 /// shard is there, as far as that was told.
+#[tactic(auto, using(crate::proofs::Following::leading))]
 fn sweep_shard<D: Desk, C: Clock>(
     alloc: Global,
     desk: &mut D,
@@ -22,8 +24,9 @@ fn sweep_shard<D: Desk, C: Clock>(
 ) -> bool
     requires takes { TakesWork D.takes }
     requires serves { ServesWorkers D.lists D.faults D.answers }
-    ensures { Meets (D.lists desk.old) (D.lists desk.new)
+    ensures meets { Meets (D.lists desk.old) (D.lists desk.new)
         (D.faults desk.old) (D.faults desk.new) met.old met.new }
+    ensures follows { Follows D.answers desk.old desk.new }
 {
     let mut attempt = AttemptId { user: 0, nth: 0 };
     for _ in 0..u64::MAX {
@@ -44,11 +47,13 @@ fn sweep_shard<D: Desk, C: Clock>(
 }
 
 /// Settles the attempts of each shard that haven't ended.
+#[tactic(auto, using(crate::proofs::Following::leading))]
 pub fn sweep<D: Desk, C: Clock>(alloc: Global, desk: &mut D, clock: &mut C, met: &mut Met)
     requires takes { TakesWork D.takes }
     requires serves { ServesWorkers D.lists D.faults D.answers }
-    ensures { Meets (D.lists desk.old) (D.lists desk.new)
+    ensures meets { Meets (D.lists desk.old) (D.lists desk.new)
         (D.faults desk.old) (D.faults desk.new) met.old met.new }
+    ensures follows { Follows D.answers desk.old desk.new }
 {
     for shard in 0..SHARDS {
         if !sweep_shard(alloc, desk, clock, met, shard) {

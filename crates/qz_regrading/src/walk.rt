@@ -1,6 +1,7 @@
 //! Working on jobs in each shard.
 
 ghost use Rattle.std.specs.Prelude.{◌≡◌, ◌≤◌, length};
+ghost use Rattle.qz_asking.specs.Following.{Follows};
 ghost use Rattle.qz_regrading.specs.Passes.{AreDone, AreDoneInAll, IsClean, IsRefused, Meets, missing_thing};
 ghost use Rattle.qz_regrading.specs.Workers.{KeepsParts, ServesWorkers, TakesWork};
 
@@ -32,6 +33,7 @@ struct JobsEnd {
 }
 
 /// Works on the jobs of a shard in turn, from one on, until work is refused.
+#[tactic(auto, using(crate::proofs::Following::leading))]
 fn work_jobs<D: Desk, C: Clock>(
     alloc: Global,
     desk: &mut D,
@@ -46,6 +48,7 @@ fn work_jobs<D: Desk, C: Clock>(
     ensures done { AreDone (D.lists desk.new) shard from result.next }
     ensures refused { IsRefused (D.lists desk.new)
         (D.faults desk.old) (D.faults desk.new) shard result.why }
+    ensures follows { Follows D.answers desk.old desk.new }
 {
     for job in from..u32::MAX {
         if let Err(why) = work(alloc, desk, clock, job, shard) {
@@ -61,6 +64,7 @@ fn work_jobs<D: Desk, C: Clock>(
 /// Works on the jobs of each shard, from one on, and answers the first job that isn't done in each.
 ///
 /// A refusal ends work in its shard alone. A school with more than 64 shards leaves the pass short.
+#[tactic(auto, using(crate::proofs::Following::leading))]
 pub fn walk<D: Desk, C: Clock>(
     alloc: Global,
     desk: &mut D,
@@ -73,6 +77,7 @@ pub fn walk<D: Desk, C: Clock>(
     ensures meets { Meets (D.lists desk.old) (D.lists desk.new)
         (D.faults desk.old) (D.faults desk.new) met.old met.new }
     ensures done { IsClean met.new → AreDoneInAll (D.lists desk.new) from result }
+    ensures follows { Follows D.answers desk.old desk.new }
 {
     let mut next = u32::MAX;
     for shard in 0..SHARDS {

@@ -1,6 +1,7 @@
 //! What a worker asks.
 
 ghost use Rattle.std.specs.Prelude.{◌≡◌, ◌≤◌, true, length, MatchResult, MatchOption};
+ghost use Rattle.qz_asking.specs.Following.{Follows};
 ghost use Rattle.qz_terms.specs.declared.reply.Reply.TheVariants as reply;
 ghost use Rattle.qz_terms.specs.Catalog.{jobs, worker};
 ghost use Rattle.qz_terms.specs.Cause.{may_ask};
@@ -25,6 +26,7 @@ fn ask<D: Desk, C: Clock>(alloc: Global, desk: &mut D, clock: &mut C, request: R
     requires may { may_ask worker request ≡ true }
     ensures tells { TellsWorker (D.lists desk.old) (D.lists desk.new) request result }
     ensures counts { CountsFault (D.faults desk.old) (D.faults desk.new) result }
+    ensures follows { Follows D.answers desk.old desk.new }
 {
     let asked = Ask {
         caller: Caller::Worker,
@@ -44,6 +46,7 @@ fn is_over(done: &Done) -> bool
 
 /// Works on a job in a shard until it is done there, or work is refused. After 2^64 - 1 steps that didn't end it, which no job has, that
 /// counts as refused.
+#[tactic(auto, using(crate::proofs::Following::leading))]
 pub fn work<D: Desk, C: Clock>(
     alloc: Global,
     desk: &mut D,
@@ -58,6 +61,7 @@ pub fn work<D: Desk, C: Clock>(
     ensures ends { MatchResult result
         (λ _. is_done (part_list (D.lists desk.new) shard) job ≡ true)
         (IsRefused (D.lists desk.new) (D.faults desk.old) (D.faults desk.new) shard) }
+    ensures follows { Follows D.answers desk.old desk.new }
 {
     for _ in 0..u64::MAX {
         match ask(alloc, desk, clock, Request::Work { job, shard }) {
@@ -86,6 +90,7 @@ pub fn live_after<D: Desk, C: Clock>(
     ensures later { D.faults desk.old ≤ D.faults desk.new }
     ensures refused { MatchResult result (λ _. Unit {0})
         (λ why. CountsFault (D.faults desk.old) (D.faults desk.new) (reply.Refused why)) }
+    ensures follows { Follows D.answers desk.old desk.new }
 {
     match ask(alloc, desk, clock, Request::Live { shard, attempt }) {
         Reply::Ok {
@@ -107,8 +112,9 @@ pub fn settle<D: Desk, C: Clock>(
 )
     requires takes { TakesWork D.takes }
     requires serves { ServesWorkers D.lists D.faults D.answers }
-    ensures { Meets (D.lists desk.old) (D.lists desk.new)
+    ensures meets { Meets (D.lists desk.old) (D.lists desk.new)
         (D.faults desk.old) (D.faults desk.new) met.old met.new }
+    ensures follows { Follows D.answers desk.old desk.new }
 {
     let reply = ask(alloc, desk, clock, Request::Settle { attempt });
     if let Reply::Refused(why) = &reply {
@@ -129,6 +135,7 @@ pub fn count_jobs<D: Desk, C: Clock>(
         (D.faults desk.old) (D.faults desk.new) met.old met.new }
     ensures counted { MatchOption result (IsClean met.new → ⊥)
         (λ count. count ≡ length (jobs (D.lists desk.new).records.list)) }
+    ensures follows { Follows D.answers desk.old desk.new }
 {
     match ask(alloc, desk, clock, Request::Jobs) {
         Reply::Ok {

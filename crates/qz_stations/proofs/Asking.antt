@@ -1,10 +1,10 @@
 -- What is read of a link may be asked of a school, and a visit to a school that serves a door goes on.
 use Rattle.std.proofs.Common.{◌≡◌, ◌≤◌, ℕ, true, List, [], None, Some, Option, IfSome, length, arith}
 use Rattle.std.specs.Prelude.{unwrap_or}
+use Rattle.qz_asking.specs.Following.{Follows, asked, stays}
 use Rattle.qz_doors.specs.Answers.{Answerer, Asks}
 use Rattle.qz_doors.specs.declared.door.DoorEnd.{DoorEnd}
 use Rattle.qz_doors.specs.Doors.{Entrance, ServesDoor}
-use Rattle.qz_doors.specs.Following.{Follows, asked, stays}
 use Rattle.qz_doors.specs.Links.{Peer}
 use Rattle.qz_doors.proofs.Carrying.{Carries, carries_door}
 use Rattle.qz_doors.proofs.Following.{by_door}

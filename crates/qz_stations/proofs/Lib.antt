@@ -3,3 +3,4 @@ pub mod Asking
 pub mod TakingUp
 pub mod Leaving
 pub mod Serving
+pub mod Regrading

@@ -38,14 +38,14 @@ returns-in-Ok-Bulk-clause-complete g c =
 pub returns-in-Ok-Serve-clause-ended : goal.returns-in-Ok-Serve-clause-ended
 returns-in-Ok-Serve-clause-ended g c =
     let s = c.in-Ok-Serve in
-    let is : built_command c.args.words.now ≡ Some (command.Serve s.folder s._port s._workers s._regraders s.links) = search rules in
+    let is : built_command c.args.words.now ≡ Some (command.Serve s.folder s._port s.workers s._regraders s.links) = search rules in
     let e = rw c.as_bytes-in-Ok-Serve.ensures at c.serve_folder.ensures.ended in
     record { stop = e.stop; status_is = e.status_is; cause = inl (rw is (Keeps-refl _, e.cause)) }
 
 pub returns-in-Ok-Serve-clause-complete : goal.returns-in-Ok-Serve-clause-complete
 returns-in-Ok-Serve-clause-complete g c =
     let s = c.in-Ok-Serve in
-    let is : built_command c.args.words.now ≡ Some (command.Serve s.folder s._port s._workers s._regraders s.links) = search rules in
+    let is : built_command c.args.words.now ≡ Some (command.Serve s.folder s._port s.workers s._regraders s.links) = search rules in
     rw is c.serve_folder.ensures.complete
 
 pub returns-in-Ok-Serve-clause-none_out : goal.returns-in-Ok-Serve-clause-none_out

@@ -1,5 +1,5 @@
-use Rattle.quizd.specs.Retries.{stays}
-use Rattle.quizd.proofs.FollowLemmas.{follows_one}
+use Rattle.qz_asking.specs.Following.{stays}
+use Rattle.qz_asking.proofs.Following.{follows_one}
 use Rattle.quizd.proofs.script.reply_to.Goals as goal
 
 pub returns-in-Ok-clause-follows : goal.returns-in-Ok-clause-follows

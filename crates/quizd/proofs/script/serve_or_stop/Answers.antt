@@ -1,4 +1,4 @@
-use Rattle.quizd.specs.Retries.{stays}
+use Rattle.qz_asking.specs.Following.{stays}
 use Rattle.quizd.proofs.ScriptLemmas.{none_served}
 use Rattle.quizd.proofs.script.serve_or_stop.Goals as goal
 

@@ -1,7 +1,7 @@
 use Rattle.std.proofs.Common.{arith}
 use Rattle.std.proofs.lemmas.Result.{err_from_is_err_and}
-use Rattle.quizd.specs.Retries.{stays}
-use Rattle.quizd.proofs.FollowLemmas.{follows_on}
+use Rattle.qz_asking.specs.Following.{stays}
+use Rattle.qz_asking.proofs.Following.{follows_on}
 use Rattle.quizd.proofs.ScriptLemmas.{ends_at_last, ends_at_line, ends_done, ends_reading, serves_line, serves_none}
 use Rattle.quizd.proofs.script.serve_through.Goals as goal
 

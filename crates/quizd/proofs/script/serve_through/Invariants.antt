@@ -1,5 +1,5 @@
 use Rattle.std.proofs.Common.{◌+◌, ◌*◌, ◌-◌, ◌<◌, length}
-use Rattle.quizd.specs.Retries.{Follows}
+use Rattle.qz_asking.specs.Following.{Follows}
 use Rattle.quizd.proofs.ScriptLemmas.{IsServed}
 use Rattle.quizd.proofs.script.serve_through.Given as goal
 

@@ -1,5 +1,9 @@
+use Rattle.qz_asking.specs.Following.{Follows}
 use Rattle.qz_regrading.specs.Passes.{Meets}
 use Rattle.qz_regrading.proofs.sweep.sweep_shard.Given as goal
 
 abbrev pub invariant-loop : goal.invariant-loop
-invariant-loop g l = Meets (g.D.Desk.lists l.fn.desk) (g.D.Desk.lists l.desk) (g.D.Desk.faults l.fn.desk) (g.D.Desk.faults l.desk) l.fn.met l.met
+invariant-loop g l = record {
+  meets : Meets (g.D.Desk.lists l.fn.desk) (g.D.Desk.lists l.desk) (g.D.Desk.faults l.fn.desk) (g.D.Desk.faults l.desk) l.fn.met l.met;
+  follows : Follows g.D.Desk.answers l.fn.desk l.desk;
+}

@@ -1,4 +1,5 @@
 use Rattle.std.proofs.Common.{◌≤◌}
+use Rattle.qz_asking.specs.Following.{Follows}
 use Rattle.qz_regrading.specs.Passes.{AreDone}
 use Rattle.qz_regrading.specs.Workers.{KeepsParts}
 use Rattle.qz_regrading.proofs.walk.work_jobs.Given as goal
@@ -8,4 +9,5 @@ invariant-loop-job g l = record {
   keeps : KeepsParts (g.D.Desk.lists l.fn.desk) (g.D.Desk.lists l.desk);
   later : g.D.Desk.faults l.fn.desk ≤ g.D.Desk.faults l.desk;
   done : AreDone (g.D.Desk.lists l.desk) l.shard l.from l.job;
+  follows : Follows g.D.Desk.answers l.fn.desk l.desk;
 }

@@ -1,4 +1,5 @@
 use Rattle.std.proofs.Common.{◌≤◌}
+use Rattle.qz_asking.specs.Following.{Follows}
 use Rattle.qz_regrading.specs.Workers.{KeepsParts}
 use Rattle.qz_regrading.proofs.worker.work.Given as goal
 
@@ -6,4 +7,5 @@ abbrev pub invariant-loop : goal.invariant-loop
 invariant-loop g l = record {
   keeps : KeepsParts (g.D.Desk.lists l.fn.desk) (g.D.Desk.lists l.desk);
   later : g.D.Desk.faults l.fn.desk ≤ g.D.Desk.faults l.desk;
+  follows : Follows g.D.Desk.answers l.fn.desk l.desk;
 }

@@ -1,0 +1,4 @@
+//! Requests to a desk, one after the other.
+#![tactic(auto)]
+
+pub mod laws;
