@@ -72,7 +72,15 @@ fn a_school_is_founded_on_the_shelf(rt: HostRuntime) -> Result<(), Fail> {
     assert_eq!(rt; (status, written.as_str()), (0, "founded 2\n"));
     let (status, written) = shown(&rt, alloc, &["found", "school", "3", "root"], 0, &mut shelf)?;
     assert_eq!(rt; (status, written.as_str()), (7, "founded already\n"));
+    Ok(())
+}
+
+#[test]
+fn a_school_with_no_links_is_served(rt: HostRuntime) -> Result<(), Fail> {
+    let alloc = rt.alloc();
     for workers in ["1", "2", "16"] {
+        let mut shelf = MemoryShelf::new(alloc, Listed::empty(alloc));
+        shown(&rt, alloc, &["found", "school", "2", "root"], 0, &mut shelf)?;
         let words = ["serve", "school", "8080", workers, "0", "1"];
         let (status, written) = shown(&rt, alloc, &words, 0, &mut shelf)?;
         assert_eq!(rt; (status, written.as_str()), (0, "served 0\n"), "{workers}");
