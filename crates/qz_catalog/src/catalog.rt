@@ -1,6 +1,7 @@
 //! A catalogue whose list a keeper keeps, and what is asked of it.
 
-ghost use Rattle.std.specs.Prelude.{◌≡◌, ◌≤◌, length, [], Ok, Err, None, unwrap_or, IfOk, IfErr, IfSome};
+ghost use Rattle.std.specs.Prelude.{◌≡◌, ◌≤◌, length, [], Ok, Err, None, unwrap_or, IfOk, IfErr, IfSome, is_none, option_copied};
+ghost use Rattle.qz_grading.specs.Grading.{at_place};
 ghost use Rattle.qz_keeper.specs.Lists.{CallEnds, EachMayStand, IsStored, Looks, OneCall, Settles};
 ghost use Rattle.qz_keeper.specs.Recording.{GoesOn, HasFailed};
 ghost use Rattle.qz_record.specs.Lengths.{NamesBriefly};
@@ -14,7 +15,7 @@ use qz_disks::{KeepErr, Keeper};
 use qz_grading::Refusal;
 use qz_keeper::{RecordKeeper, refusal_of, reply_of};
 use qz_record::ListFault;
-use qz_terms::{Ask, Job, Plan, Policy, Reply, User};
+use qz_terms::{Ask, Job, Plan, Policy, Record, Reply, User};
 use qz_text::{Bytes, Listed, Text, TryCopy};
 use std::alloc::Global;
 use std::marker::Model;
@@ -80,6 +81,20 @@ impl<K: Keeper> Catalog<K> {
         ensures { result.now ≡ self.now.held.list }
     {
         &self.core
+    }
+
+    /// Whether no record is in doubt.
+    pub fn is_settled(&self) -> bool
+        ensures { result ≡ is_none self.now.held.doubt }
+    {
+        self.keeper.is_settled()
+    }
+
+    /// The record at a place, from 1 on, and `None` where there is no such place. One in doubt has none.
+    pub fn record_at(&self, place: u64) -> Option<&Record>
+        ensures { option_copied result ≡ at_place self.now.held.list place }
+    {
+        self.core.records().get((place as usize).checked_sub(1)?)
     }
 
     /// The keeper, as it keeps the list.

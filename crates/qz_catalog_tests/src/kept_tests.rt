@@ -116,7 +116,8 @@ fn is_made_once<K: Keeper>(catalog: &mut Catalog<K>, alloc: Global) -> bool {
     let first = is_fault(asks(catalog, alloc));
     let second = is_made(asks(catalog, alloc));
     let third = is_made(asks(catalog, alloc));
-    first && second && third && catalog.len() == 2
+    let placed = catalog.record_at(2).is_some() && catalog.record_at(3).is_none();
+    first && second && third && placed && catalog.len() == 2
 }
 
 fn is_group_made_once(alloc: Global, keeps: bool) -> Result<bool, NoMemory> {
@@ -160,6 +161,8 @@ fn is_told<K: Keeper>(catalog: &mut Catalog<K>, alloc: Global) -> bool {
         && policy == quiz
         && job == Some(Refusal::Unknown { what: Thing::Job })
         && catalog.core().records().len() == 1
+        && catalog.record_at(0).is_none()
+        && catalog.record_at(1).is_some()
 }
 
 fn is_founded(alloc: Global) -> Result<bool, NoMemory> {

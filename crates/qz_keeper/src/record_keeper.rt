@@ -1,13 +1,13 @@
 //! A keeper of records.
 
-ghost use Rattle.std.specs.Prelude.{◌≡◌, ◌≤◌, ◌++◌, ◌∷◌, [], ℕ, List, length, Ok, Some, None, option_map, true, false, IfOk, IfSome, IsErrOf, MatchResult};
+ghost use Rattle.std.specs.Prelude.{◌≡◌, ◌≤◌, ◌++◌, ◌∷◌, [], ℕ, List, length, Ok, Some, None, is_none, option_map, true, false, IfOk, IfSome, IsErrOf, MatchResult};
 ghost use Rattle.std.specs.Option.{option_copied};
 ghost use Rattle.qz_disks.specs.declared.keeper.KeepErr.TheVariants.{Fault};
 ghost use Rattle.qz_disks.specs.Keepers.{EndsAppending, with_one_more};
 ghost use Rattle.qz_record.specs.Records.{is_spellable};
 ghost use Rattle.qz_terms.specs.Kept.{IsKept};
 ghost use Rattle.qz_terms.specs.Spelling.{spelling};
-ghost use Rattle.qz_keeper.specs.Custody.{Appends, FindsOut, IsReady};
+ghost use Rattle.qz_keeper.specs.Custody.{Appends, FindsOut, IsReady, pending};
 ghost use Rattle.qz_keeper.specs.Recording.{Serves, failure};
 
 use crate::recorder::Recorder;
@@ -71,6 +71,16 @@ impl<K: Keeper> RecordKeeper<K> {
         ensures doubt { K.doubt result ≡ option_map spelling self.doubt }
     {
         self.keeper
+    }
+
+    /// Whether no record is in doubt, and none that was found waits for its list.
+    pub fn is_settled(&self) -> bool
+        ensures { result ≡ is_none (pending self.now) }
+    {
+        match &self.doubt {
+            Some(_) => false,
+            None => self.found.is_none(),
+        }
     }
 
     /// The record that was found to be kept, and that its list doesn't have yet.

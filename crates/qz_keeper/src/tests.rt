@@ -126,7 +126,7 @@ fn what_is_in_doubt_is_found_or_dropped(rt: HostRuntime) -> Result<(), Fail> {
         });
         let found = found(&rt, alloc, &mut records, count);
         records.settle();
-        let is_settled = records.found().is_none();
+        let is_settled = records.is_settled();
         drop(records);
         assert_eq!(rt; found, moment);
         assert!(rt; is_settled);

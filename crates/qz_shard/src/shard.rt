@@ -1,7 +1,8 @@
 //! A shard whose list a keeper keeps, and what is asked of it.
 
-ghost use Rattle.std.specs.Prelude.{◌≡◌, ◌+◌, ◌≤◌, length, [], true, Ok, Err, Some, None, option_map, unwrap_or, IfOk, IfErr, IfSome, IsErrOf};
+ghost use Rattle.std.specs.Prelude.{◌≡◌, ◌+◌, ◌≤◌, length, [], true, Ok, Err, Some, None, is_none, option_copied, option_map, unwrap_or, IfOk, IfErr, IfSome, IsErrOf};
 ghost use Rattle.qz_decimal.specs.Numbers.{IsMaxSum, IsQuizGrade};
+ghost use Rattle.qz_grading.specs.Grading.{at_place};
 ghost use Rattle.qz_keeper.specs.Lists.{CallEnds, EachMayStand, IsStored, Settles};
 ghost use Rattle.qz_keeper.specs.Recording.{GoesOn, HasFailed};
 ghost use Rattle.qz_terms.specs.History.{live_after};
@@ -106,6 +107,20 @@ impl<K: Keeper> Shard<K> {
         ensures { result.now ≡ self.now.held.list }
     {
         self.core.records()
+    }
+
+    /// Whether no record is in doubt.
+    pub fn is_settled(&self) -> bool
+        ensures { result ≡ is_none self.now.held.doubt }
+    {
+        self.keeper.is_settled()
+    }
+
+    /// The record at a place, from 1 on, and `None` where there is no such place. One in doubt has none.
+    pub fn record_at(&self, place: u64) -> Option<&Record>
+        ensures { option_copied result ≡ at_place self.now.held.list place }
+    {
+        self.records().get((place as usize).checked_sub(1)?)
     }
 
     /// The keeper, as it keeps the list.

@@ -1,15 +1,17 @@
 //! A school: a catalogue and its shards, each with its keeper.
 
-ghost use Rattle.std.specs.Prelude.{◌≡◌, length};
+ghost use Rattle.std.specs.Prelude.{◌≡◌, length, option_copied};
+ghost use Rattle.qz_grading.specs.Grading.{at_place};
 ghost use Rattle.qz_keeper.specs.Lists.{EachMayStand};
 ghost use Rattle.qz_terms.specs.Legal.{IsLegalCatalog};
+ghost use Rattle.qz_terms.specs.Serial.{held_in};
 ghost use Rattle.qz_solo.specs.Answering.{IsServed, MayBeAsked};
 ghost use Rattle.qz_solo.specs.Solos.{IsSolo, faults_of, lists_in};
 
 use qz_catalog::Catalog;
 use qz_disks::Keeper;
 use qz_shard::Shard;
-use qz_terms::{Ask, Caller, Desk, Reply};
+use qz_terms::{Ask, Caller, Desk, Record, Reply};
 use std::alloc::Global;
 use std::marker::Model;
 
@@ -59,6 +61,17 @@ impl<K: Keeper> Solo<K> {
         ensures solo { IsSolo self.now.catalog self.now.parts }
     {
         self.catalog.len()
+    }
+
+    /// The record at a place, from 1 on, of the catalogue's list or of this shard's, and `None` where there is no such shard or place. One in
+    /// doubt has none.
+    pub fn record_at(&self, list: Option<u8>, place: u64) -> Option<&Record>
+        ensures { option_copied result ≡ at_place (held_in (lists_in self.now) list).list place }
+    {
+        match list {
+            None => self.catalog.record_at(place),
+            Some(index) => self.shards.get(usize::from(index))?.record_at(place),
+        }
     }
 }
 
