@@ -38,6 +38,10 @@ impl Told for Count {
     ghost tells = { λ count. record { list = []; doubt = None; faults = count.turns } };
 
     ghost fits = { λ _ _. Unit {0} };
+
+    fn len(&self) -> u64 {
+        0
+    }
 }
 
 #[derive(Drop)]

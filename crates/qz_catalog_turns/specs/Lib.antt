@@ -1,3 +1,4 @@
 pub mod Turning
 pub mod Answering
 pub mod Headings
+pub mod Owning

@@ -6,8 +6,10 @@ mod answering;
 mod looking;
 mod questions;
 mod records;
+mod replied;
 
 pub use answering::answer;
 pub use looking::{heading, job, plan, user};
 pub use questions::Heading;
 pub use records::Records;
+pub use replied::{OwnRecord, Replied};

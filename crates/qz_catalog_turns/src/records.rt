@@ -48,4 +48,8 @@ impl<K: Keeper> Told for Records<K> {
     ghost tells = { λ c. tale_of c.held (K.faults c.keeper) };
 
     ghost fits = { λ _ _. Unit {0} };
+
+    fn len(&self) -> u64 {
+        self.catalog.len()
+    }
 }

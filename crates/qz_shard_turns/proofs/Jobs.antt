@@ -1,12 +1,13 @@
 -- What a step of a job leaves, and that its shard stays tied to its catalogue.
 use Rattle.std.proofs.Common.{◌≡◌, ℕ, List, Option, Some, refl, ap, sym, ◌∙◌, subst}
 use mathlib.Core.List.{IsPrefix}
-use Rattle.qz_catalog_turns.specs.Turning.{Calls, tale_of}
-use Rattle.qz_grading.specs.declared.refusal.Refusal.{Refusal}
+use Rattle.qz_catalog_turns.specs.declared.replied.Replied.{Replied}
+use Rattle.qz_catalog_turns.specs.Owning.{CallReplies, OneReply, TurnReplies}
+use Rattle.qz_catalog_turns.specs.Turning.{tale_of}
+use Rattle.qz_catalog_turns.proofs.Owning.{Puts, call-replies, one-told}
 use Rattle.qz_keeper.specs.Lists.{EachMayStand, OneCall}
 use Rattle.qz_keeper.specs.Recording.{HasFailed}
 use Rattle.qz_school.proofs.Working.{working_law}
-use Rattle.qz_serial.proofs.Composing.{calls_mean}
 use Rattle.qz_serial.proofs.Longer.{staying_law}
 use Rattle.qz_shard.specs.Holdings.{IsWorkable}
 use Rattle.qz_shard.specs.Keeping as part
@@ -16,15 +17,16 @@ use Rattle.qz_terms.specs.declared.plan.Job.{Job}
 use Rattle.qz_terms.specs.declared.record.Record.{Record}
 use Rattle.qz_terms.specs.declared.reply.Reply.{Reply}
 use Rattle.qz_terms.specs.declared.reply.Reply.TheVariants as reply
+use Rattle.qz_terms.specs.Answer.{put_by_job}
 use Rattle.qz_terms.specs.Catalog as catalog
 use Rattle.qz_terms.specs.Legal.{AllAgree, IsLegal, IsLegalCatalog}
 use Rattle.qz_terms.specs.Serial.{Held}
-use Rattle.qz_turn.specs.declared.view.Tale.{Tale}
 use Rattle.qz_turn.specs.Passes.{Standing}
+use Rattle.qz_turn.specs.Tales.{Follows}
 use Rattle.qz_turn.specs.Turns.{Joins}
-use Rattle.qz_shard_turns.specs.Tying.{Behind, Did, IsTied, Placed}
-use Rattle.qz_shard_turns.specs.Jobs.{CanWork}
-use Rattle.qz_shard_turns.proofs.Posing.{same-legal}
+use Rattle.qz_shard_turns.specs.Tying.{Behind, IsTied, Placed}
+use Rattle.qz_shard_turns.specs.Jobs.{CanWork, DidWork}
+use Rattle.qz_shard_turns.proofs.Posing.{same-legal, turn-of}
 use Rattle.qz_shard_turns.proofs.Tying.{agree-on, joined-first, joined-legal, joined-second}
 
 -- ---- a longer catalogue has the job too
@@ -71,32 +73,32 @@ work-tied failed place before after note caller job moment told tied j same w ow
           (stand_both (AllAgree d) (IsLegal before.shard.index before.shard.count) before.shard.held (tied-before place before note after.note tied j) own) call;
     }
 
+-- ---- what became of its own record
+
+-- a step puts at most one record
+pub worked-puts : (moment caller : ℕ) (job : Job) → Puts (λ h t g. IsWorked h moment caller job t g)
+worked-puts moment caller job h told g is = record { put = put_by_job h moment caller job; grown = is.list }
+
 -- ---- what came of it
 
-pub work-did : {K : Type 0} (sound : K → Type 0) (faults : K → ℕ) (caller : ℕ) (job : Job) (moment : ℕ) (before after : part.Keeping K) (told : Reply) → OneCall (HasFailed (sound before.keeper) (faults before.keeper) (faults after.keeper)) reply.Refused (λ h t g. IsWorked h moment caller job t g) before.held after.held told
-    → part.IsSamePart before after → EachMayStand (IsLegal before.index before.count) before.held → EachMayStand (IsLegal after.index after.count) after.held → Did faults reply.Refused (λ h t g. IsWorked h moment caller job t g) before after (Some told)
-work-did sound faults caller job moment before after told call same found left = record {
-  answer = told;
+pub work-did : {K : Type 0} (sound : K → Type 0) (faults : K → ℕ) (caller : ℕ) (job : Job) (moment : ℕ) (before after : part.Keeping K) (told : Replied)
+    → OneReply (HasFailed (sound before.keeper) (faults before.keeper) (faults after.keeper)) reply.Refused (λ h t g. IsWorked h moment caller job t g) before.held after.held told.reply told.own
+    → part.IsSamePart before after → EachMayStand (IsLegal before.index before.count) before.held → EachMayStand (IsLegal after.index after.count) after.held → DidWork faults moment caller job before after (Some told)
+work-did sound faults caller job moment before after told r same found left = record {
+  replied = told;
   told_is = refl;
-  calls = record {
-    call = (calls_mean _ _ reply.Refused (λ h t g. IsWorked h moment caller job t g) (λ h t g. IsWorked h moment caller job t g)).each before.held after.held told (λ f. f.rose) (λ h t g is. is) call;
-    found_may = found;
-    seen_may = same-legal before after same left;
-  };
+  comes = call-replies (IsLegal before.index before.count) (HasFailed (sound before.keeper) (faults before.keeper) (faults after.keeper)) reply.Refused (λ h t g. IsWorked h moment caller job t g) (tale_of before.held (faults before.keeper)) (tale_of after.held (faults after.keeper)) told.reply told.own
+      (λ f. f.rose) r found (same-legal before after same left);
 }
 
 -- ---- a turn
 
-one-told : {A : Type 0} (o : Option A) (a b : A) → o ≡ Some a → o ≡ Some b → a ≡ b
-one-told o a b one other = cc
-
-pub turned : {A K : Type 0} (faults : K → ℕ) (refused : Refusal → A) (Answers : List Record → A → List Record → Type 0) (place : Placed) (before after : Behind K) (found seen : Tale Record) (o : Option A) (told : A)
-    → Did faults refused Answers before.shard after.shard o → o ≡ Some told → IsTied place before → found ≡ tale_of before.shard.held (faults before.shard.keeper) → seen ≡ tale_of after.shard.held (faults after.shard.keeper)
-    → Calls (IsLegal place.index place.count) refused Answers found seen told
-turned faults refused Answers place before after found seen o told w is tied first last =
-    let same : w.answer ≡ told = one-told o w.answer told w.told_is is in
-    let own = subst (λ (i : ℕ). Calls (IsLegal i place.count) refused Answers (tale_of before.shard.held (faults before.shard.keeper)) (tale_of after.shard.held (faults after.shard.keeper)) w.answer) tied.index_is
-    (subst (λ (n : ℕ). Calls (IsLegal before.shard.index n) refused Answers (tale_of before.shard.held (faults before.shard.keeper)) (tale_of after.shard.held (faults after.shard.keeper)) w.answer) tied.count_is w.calls) in
-    subst (λ (t : Tale Record). Calls (IsLegal place.index place.count) refused Answers t seen told) (sym first)
-    (subst (λ (t : Tale Record). Calls (IsLegal place.index place.count) refused Answers (tale_of before.shard.held (faults before.shard.keeper)) t told) (sym last)
-    (subst (λ a. Calls (IsLegal place.index place.count) refused Answers (tale_of before.shard.held (faults before.shard.keeper)) (tale_of after.shard.held (faults after.shard.keeper)) a) same own))
+pub worked-turn : {K : Type 0} (faults : K → ℕ) (moment caller : ℕ) (job : Job) (place : Placed) (before after : Behind K) (old new : Standing Record Placed) (o : Option Replied) (told : Replied) → IsTied place before
+    → DidWork faults moment caller job before.shard after.shard o → o ≡ Some told → new.found ≡ tale_of before.shard.held (faults before.shard.keeper) → new.seen ≡ tale_of after.shard.held (faults after.shard.keeper)
+    → Follows old.seen new.found → Follows new.found new.seen → new.numbers ≡ old.numbers → new.lock ≡ old.lock
+    → TurnReplies (IsLegal place.index place.count) reply.Refused (λ h t g. IsWorked h moment caller job t g) old new told.reply told.own
+worked-turn faults moment caller job place before after old new o told tied w is found seen begins grows numbers lock =
+    let first = tale_of before.shard.held (faults before.shard.keeper) in
+    let last = tale_of after.shard.held (faults after.shard.keeper) in
+    let comes = subst (λ (x : Replied). CallReplies (IsLegal before.shard.index before.shard.count) reply.Refused (λ h t g. IsWorked h moment caller job t g) first last x.reply x.own) (one-told o w.replied told w.told_is is) w.comes in
+    turn-of reply.Refused (λ h t g. IsWorked h moment caller job t g) place before first last old new told.reply told.own tied comes found seen begins grows numbers lock

@@ -2,20 +2,25 @@
 use Rattle.std.proofs.Common.{◌≡◌, ℕ, Bool, true, false, List, [], ◌∷◌, ◌++◌, Option, Some, None, IfSome, Result, Ok, Err, IfOk, IfErr, refl, ap, sym, ◌∙◌, subst}
 use mathlib.Core.List.{IsPrefix}
 use Rattle.qz_catalog.specs.Holdings.{lean}
-use Rattle.qz_keeper.specs.Lists.{EachMayStand, OneCall}
-use Rattle.qz_keeper.specs.Recording.{HasFailed}
-use Rattle.qz_outside.specs.Causes.{HasRisen}
+use Rattle.qz_catalog_turns.specs.declared.replied.OwnRecord.{OwnRecord}
+use Rattle.qz_catalog_turns.specs.declared.replied.Replied.{Replied}
+use Rattle.qz_catalog_turns.specs.Owning.{CallReplies, OneReply, ReplyEnds, TurnReplies}
+use Rattle.qz_catalog_turns.specs.Turning.{tale_of}
+use Rattle.qz_catalog_turns.proofs.Owning.{Puts, call-replies, mended-reply, one-told, puts-as, reply-means, tales-reply, turn-replies, with-one}
+use Rattle.qz_grading.specs.declared.refusal.Refusal.{Refusal}
+use Rattle.qz_keeper.specs.Lists.{EachMayStand, IsSettled, OneCall}
+use Rattle.qz_keeper.specs.Recording.{GoesOn, HasFailed}
 use Rattle.qz_school.specs.Agreement.{is_start}
 use Rattle.qz_school.proofs.Leaning.{leaning_law}
 use Rattle.qz_school.proofs.Putting.{older_law}
 use Rattle.qz_serial.specs.Calls.{ShardAnswers}
-use Rattle.qz_serial.proofs.Composing.{calls_mean}
+use Rattle.qz_serial.proofs.Composing.{calls_mean, mended_same}
 use Rattle.qz_serial.proofs.Growing.{grown_part}
 use Rattle.qz_serial.proofs.Seats.{mended_grows}
 use Rattle.qz_shard.specs.declared.shard.Older.{Older}
 use Rattle.qz_shard.specs.Holdings.{IsAsked}
 use Rattle.qz_shard.specs.Keeping as part
-use Rattle.qz_solo.proofs.Calls.{call_grows, call_stands, means_there, stand_as, stand_both, stands_mended}
+use Rattle.qz_solo.proofs.Calls.{call_grows, call_stands, stand_as, stand_both, stands_mended}
 use Rattle.qz_solo.proofs.Planning.{planned_means}
 use Rattle.qz_terms.specs.declared.ask.Ask.{Ask}
 use Rattle.qz_terms.specs.declared.people.User.{User}
@@ -23,13 +28,17 @@ use Rattle.qz_terms.specs.declared.plan.Plan.{Plan}
 use Rattle.qz_terms.specs.declared.record.Record.{Record}
 use Rattle.qz_terms.specs.declared.reply.Reply.{Reply}
 use Rattle.qz_terms.specs.declared.reply.Reply.TheVariants as reply
-use Rattle.qz_terms.specs.Answer.{list_after}
+use Rattle.qz_terms.specs.declared.request.Request.{Request}
+use Rattle.qz_terms.specs.Answer.{list_after, moment_of, put_here}
+use Rattle.qz_terms.specs.Cause.{verdict_here}
 use Rattle.qz_terms.specs.Legal.{AllAgree, IsLegal}
-use Rattle.qz_terms.specs.Serial.{Held}
+use Rattle.qz_terms.specs.Serial.{Held, Mended}
+use Rattle.qz_turn.specs.declared.view.Tale.{Tale}
 use Rattle.qz_turn.specs.Passes.{Standing}
+use Rattle.qz_turn.specs.Tales.{Follows}
 use Rattle.qz_turn.specs.Turns.{Joins}
 use Rattle.qz_turn.proofs.Prefixes.{prefix_trans}
-use Rattle.qz_shard_turns.specs.Posing.{CanPose, Comes, IsAnsweredNow, IsPlannedBy, shard_at}
+use Rattle.qz_shard_turns.specs.Posing.{CanPose, Comes, IsAnsweredNow, IsPlannedBy, WasAnswered, shard_at}
 use Rattle.qz_shard_turns.specs.Tying.{Behind, IsTied, Placed}
 use Rattle.qz_shard_turns.proofs.Tying.{agree-on, joined-first, joined-legal, joined-second}
 
@@ -66,12 +75,34 @@ now-means c index count moment user plan ask h t g found p is =
     (record { whole = p.whole; free = p.free; plan_is = p.plan_is; given_is = p.given_is; of_quiz = p.of_quiz; kept = p.kept; here = p.here; newer = is.newer }) is.answered
 
 -- it is the catalogue's answer
-pub answers-catalog : (failed worse : Type 0) (c seen : List Record) (index count moment : ℕ) (user : User) (plan : Plan) (ask : Ask) (old new : Held) (told : Reply) → (failed → worse) → CanPose c seen index count user plan ask moment → IsPrefix seen old.list
-    → OneCall failed reply.Refused (IsAnsweredNow moment user plan ask) old new told → OneCall worse reply.Refused (ShardAnswers c moment user ask) old new told
-answers-catalog failed worse c seen index count moment user plan ask old new told to pose p call =
-    means_there failed worse reply.Refused (IsAnsweredNow moment user plan ask) (ShardAnswers c moment user ask) old new told to
+pub answers-catalog : (failed worse : Type 0) (c seen : List Record) (index count moment : ℕ) (user : User) (plan : Plan) (ask : Ask) (old new : Held) (told : Reply) (left : OwnRecord) → (failed → worse) → CanPose c seen index count user plan ask moment → IsPrefix seen old.list
+    → OneReply failed reply.Refused (IsAnsweredNow moment user plan ask) old new told left → OneReply worse reply.Refused (ShardAnswers c moment user ask) old new told left
+answers-catalog failed worse c seen index count moment user plan ask old new told left to pose p r =
+    reply-means failed worse reply.Refused (IsAnsweredNow moment user plan ask) (ShardAnswers c moment user ask) old new told left to
     (each-later (λ h. (t : Reply) (g : List Record) → IsAnsweredNow moment user plan ask h t g → ShardAnswers c moment user ask h t g) seen old p
-    (λ h q t g is. now-means c index count moment user plan ask h t g pose.known (pose.planned h q) is)) call
+    (λ h q t g is. now-means c index count moment user plan ask h t g pose.known (pose.planned h q) is)) r
+
+-- ---- what became of its own record
+
+-- an answer puts at most one record
+pub now-puts : (moment : ℕ) (user : User) (plan : Plan) (ask : Ask) → Puts (IsAnsweredNow moment user plan ask)
+now-puts moment user plan ask h told g is =
+    let at = moment_of h moment user ask.request in
+    puts-as h (list_after h moment user plan ask) g is.answered.list (with-one (verdict_here h at user plan ask) h (put_here h at user plan ask))
+
+-- behind the mending of the list
+pub answered-after : (s t : Type 0) (m n o : ℕ) (moment : ℕ) (user : User) (plan : Plan) (ask : Ask) (old mended new : Held) (result : Result Replied Older) → GoesOn s t m n → IsSettled old mended
+    → IfOk result (λ told. ReplyEnds (HasFailed t n o) reply.Refused (IsAnsweredNow moment user plan ask) mended new told.reply told.own) → IfOk result (λ told. OneReply (HasFailed s m o) reply.Refused (IsAnsweredNow moment user plan ask) old new told.reply told.own)
+answered-after s t m n o moment user plan ask old mended new (Ok told) goes settled r = mended-reply s t m n o reply.Refused (IsAnsweredNow moment user plan ask) old mended new told.reply told.own goes settled r
+answered-after s t m n o moment user plan ask old mended new (Err late) goes settled r = tt
+
+pub older-after : (plan : Plan) (x : Request) (old mended new : Held) (result : Result Replied Older) → IsSettled old mended → IfErr result (λ o. part.IsOlder plan x mended new o.floor) → IfErr result (λ o. part.IsOlder plan x old new o.floor)
+older-after plan x old mended new (Ok told) settled late = tt
+older-after plan x old mended new (Err o) settled late = record {
+  mends = subst (Mended old) (sym (mended_same mended new late.mends settled.no_doubt)) settled.mends;
+  no_doubt = late.no_doubt;
+  older_is = late.older_is;
+}
 
 -- ---- what it leaves agrees
 
@@ -93,14 +124,14 @@ answer-stands failed c d seen index count moment user plan ask old new told pose
     (stand_both (AllAgree d) (IsPrefix seen) old agree (each-later (IsPrefix seen) seen old p (λ h q. q))) call
 
 -- whatever came of it
-pub left-standing : (failed : Type 0) (c d seen : List Record) (index count moment : ℕ) (user : User) (plan : Plan) (ask : Ask) (old new : Held) (result : Result Reply Older) → CanPose c seen index count user plan ask moment → IsPrefix c d → IsPrefix seen old.list → EachMayStand (AllAgree d) old
-    → IfOk result (λ told. OneCall failed reply.Refused (IsAnsweredNow moment user plan ask) old new told) → IfErr result (λ o. part.IsOlder plan ask.request old new o.floor) → EachMayStand (AllAgree d) new
-left-standing failed c d seen index count moment user plan ask old new (Ok told) pose more p agree call late = answer-stands failed c d seen index count moment user plan ask old new told pose more p agree call
-left-standing failed c d seen index count moment user plan ask old new (Err o) pose more p agree call late = stands_mended (AllAgree d) old new late.mends agree
+pub left-standing : (failed : Type 0) (c d seen : List Record) (index count moment : ℕ) (user : User) (plan : Plan) (ask : Ask) (old new : Held) (result : Result Replied Older) → CanPose c seen index count user plan ask moment → IsPrefix c d → IsPrefix seen old.list → EachMayStand (AllAgree d) old
+    → IfOk result (λ told. OneReply failed reply.Refused (IsAnsweredNow moment user plan ask) old new told.reply told.own) → IfErr result (λ o. part.IsOlder plan ask.request old new o.floor) → EachMayStand (AllAgree d) new
+left-standing failed c d seen index count moment user plan ask old new (Ok told) pose more p agree r late = answer-stands failed c d seen index count moment user plan ask old new told.reply pose more p agree r.call
+left-standing failed c d seen index count moment user plan ask old new (Err o) pose more p agree r late = stands_mended (AllAgree d) old new late.mends agree
 
-pub answer-tied : {K : Type 0} (failed : Type 0) (place : Placed) (before after : Behind K) (note : Standing Record (Unit {0})) (seen : List Record) (moment : ℕ) (user : User) (plan : Plan) (ask : Ask) (result : Result Reply Older) → IsTied place before
+pub answer-tied : {K : Type 0} (failed : Type 0) (place : Placed) (before after : Behind K) (note : Standing Record (Unit {0})) (seen : List Record) (moment : ℕ) (user : User) (plan : Plan) (ask : Ask) (result : Result Replied Older) → IsTied place before
     → Joins before.note note after.note → part.IsSamePart before.shard after.shard → CanPose note.seen.list seen place.index place.count user plan ask moment → IsPrefix seen before.shard.held.list
-    → IfOk result (λ told. OneCall failed reply.Refused (IsAnsweredNow moment user plan ask) before.shard.held after.shard.held told) → IfErr result (λ o. part.IsOlder plan ask.request before.shard.held after.shard.held o.floor) → IsTied place after
+    → IfOk result (λ told. OneReply failed reply.Refused (IsAnsweredNow moment user plan ask) before.shard.held after.shard.held told.reply told.own) → IfErr result (λ o. part.IsOlder plan ask.request before.shard.held after.shard.held o.floor) → IsTied place after
 answer-tied failed place before after note seen moment user plan ask result tied j same pose p call late = record {
   index_is = same.index ∙ tied.index_is;
   count_is = same.count ∙ tied.count_is;
@@ -116,21 +147,50 @@ pub same-legal : {K : Type 0} (before after : part.Keeping K) → part.IsSamePar
 same-legal before after same legal =
     subst (λ (n : ℕ). EachMayStand (IsLegal n before.count) after.held) same.index (subst (λ (n : ℕ). EachMayStand (IsLegal after.index n) after.held) same.count legal)
 
-pub came : {K : Type 0} (sound : K → Type 0) (faults : K → ℕ) (c seen : List Record) (moment : ℕ) (user : User) (plan : Plan) (ask : Ask) (index count : ℕ) (before after : part.Keeping K) (result : Result Reply Older) → CanPose c seen index count user plan ask moment → IsPrefix seen before.held.list
-    → IfOk result (λ told. OneCall (HasFailed (sound before.keeper) (faults before.keeper) (faults after.keeper)) reply.Refused (IsAnsweredNow moment user plan ask) before.held after.held told) → IfErr result (λ o. part.IsOlder plan ask.request before.held after.held o.floor)
+pub came : {K : Type 0} (sound : K → Type 0) (faults : K → ℕ) (c seen : List Record) (moment : ℕ) (user : User) (plan : Plan) (ask : Ask) (index count : ℕ) (before after : part.Keeping K) (result : Result Replied Older) → CanPose c seen index count user plan ask moment → IsPrefix seen before.held.list
+    → IfOk result (λ told. OneReply (HasFailed (sound before.keeper) (faults before.keeper) (faults after.keeper)) reply.Refused (IsAnsweredNow moment user plan ask) before.held after.held told.reply told.own) → IfErr result (λ o. part.IsOlder plan ask.request before.held after.held o.floor)
     → part.IsSamePart before after → EachMayStand (IsLegal before.index before.count) before.held → EachMayStand (IsLegal after.index after.count) after.held → Comes faults c moment user plan ask before after result
-came sound faults c seen moment user plan ask index count before after (Ok told) pose p call late same found left = record {
-  call = answers-catalog (HasFailed (sound before.keeper) (faults before.keeper) (faults after.keeper)) (HasRisen (faults before.keeper) (faults after.keeper)) c seen index count moment user plan ask before.held after.held told (λ f. f.rose) pose p call;
-  found_may = found;
-  seen_may = same-legal before after same left;
-}
-came sound faults c seen moment user plan ask index count before after (Err o) pose p call late same found left = late
+came sound faults c seen moment user plan ask index count before after (Ok told) pose p r late same found left =
+    let failed = HasFailed (sound before.keeper) (faults before.keeper) (faults after.keeper) in
+    call-replies (IsLegal before.index before.count) failed reply.Refused (ShardAnswers c moment user ask) (tale_of before.held (faults before.keeper)) (tale_of after.held (faults after.keeper)) told.reply told.own (λ f. f.rose)
+    (answers-catalog failed failed c seen index count moment user plan ask before.held after.held told.reply told.own (λ f. f) pose p r) found (same-legal before after same left)
+came sound faults c seen moment user plan ask index count before after (Err o) pose p r late same found left = late
 
 grown-prefix : (old new : Held) → Rattle.qz_serial.proofs.Growing.Grows old.list new.list → IsPrefix old.list new.list
 grown-prefix old new g = (g.rest, sym g.grown)
 
 -- the list only grows
-pub came-longer : {K : Type 0} (faults : K → ℕ) (c : List Record) (moment : ℕ) (user : User) (plan : Plan) (ask : Ask) (before after : part.Keeping K) (result : Result Reply Older) → Comes faults c moment user plan ask before after result → IsPrefix before.held.list after.held.list
+pub came-longer : {K : Type 0} (faults : K → ℕ) (c : List Record) (moment : ℕ) (user : User) (plan : Plan) (ask : Ask) (before after : part.Keeping K) (result : Result Replied Older) → Comes faults c moment user plan ask before after result → IsPrefix before.held.list after.held.list
 came-longer faults c moment user plan ask before after (Ok told) is =
-    grown-prefix before.held after.held (call_grows _ reply.Refused (ShardAnswers c moment user ask) before.held after.held told (λ h t g says. let grown = grown_part c h moment user ask in record { rest = grown.rest; grown = says.1 ∙ grown.grown }) is.call)
+    grown-prefix before.held after.held (call_grows _ reply.Refused (ShardAnswers c moment user ask) before.held after.held told.reply (λ h t g says. let grown = grown_part c h moment user ask in record { rest = grown.rest; grown = says.1 ∙ grown.grown }) is.calls.call)
 came-longer faults c moment user plan ask before after (Err o) is = grown-prefix before.held after.held (mended_grows before.held after.held is.mends)
+
+-- ---- a turn
+
+tied-calls : {A K : Type 0} (refused : Refusal → A) (Answers : List Record → A → List Record → Type 0) (place : Placed) (before : Behind K) (first last : Tale Record) (told : A) (left : OwnRecord) → IsTied place before
+    → CallReplies (IsLegal before.shard.index before.shard.count) refused Answers first last told left → CallReplies (IsLegal place.index place.count) refused Answers first last told left
+tied-calls refused Answers place before first last told left tied r =
+    subst (λ (n : ℕ). CallReplies (IsLegal place.index n) refused Answers first last told left) tied.count_is (subst (λ (i : ℕ). CallReplies (IsLegal i before.shard.count) refused Answers first last told left) tied.index_is r)
+
+-- what came of it is told of the turn
+pub turn-of : {A K : Type 0} (refused : Refusal → A) (Answers : List Record → A → List Record → Type 0) (place : Placed) (before : Behind K) (first last : Tale Record) (old new : Standing Record Placed) (told : A) (left : OwnRecord) → IsTied place before
+    → CallReplies (IsLegal before.shard.index before.shard.count) refused Answers first last told left → new.found ≡ first → new.seen ≡ last → Follows old.seen new.found → Follows new.found new.seen → new.numbers ≡ old.numbers → new.lock ≡ old.lock
+    → TurnReplies (IsLegal place.index place.count) refused Answers old new told left
+turn-of refused Answers place before first last old new told left tied r found seen begins grows numbers lock =
+    turn-replies (IsLegal place.index place.count) refused Answers old new told left (tales-reply (IsLegal place.index place.count) refused Answers new.found new.seen first last told left found seen (tied-calls refused Answers place before first last told left tied r)) begins grows numbers lock
+
+turn-told : {K : Type 0} (faults : K → ℕ) (c : List Record) (moment : ℕ) (user : User) (plan : Plan) (ask : Ask) (place : Placed) (before after : Behind K) (old new : Standing Record Placed) (result : Result Replied Older) → IsTied place before
+    → Comes faults c moment user plan ask before.shard after.shard result → new.found ≡ tale_of before.shard.held (faults before.shard.keeper) → new.seen ≡ tale_of after.shard.held (faults after.shard.keeper)
+    → Follows old.seen new.found → Follows new.found new.seen → new.numbers ≡ old.numbers → new.lock ≡ old.lock
+    → IfOk result (λ told. TurnReplies (IsLegal place.index place.count) reply.Refused (ShardAnswers c moment user ask) old new told.reply told.own)
+turn-told faults c moment user plan ask place before after old new (Ok told) tied r found seen begins grows numbers lock =
+    turn-of reply.Refused (ShardAnswers c moment user ask) place before (tale_of before.shard.held (faults before.shard.keeper)) (tale_of after.shard.held (faults after.shard.keeper)) old new told.reply told.own tied r found seen begins grows numbers lock
+turn-told faults c moment user plan ask place before after old new (Err o) tied r found seen begins grows numbers lock = tt
+
+pub answered-turn : {K : Type 0} (faults : K → ℕ) (c d : List Record) (moment : ℕ) (user : User) (plan : Plan) (ask : Ask) (place : Placed) (before after : Behind K) (old new : Standing Record Placed) (o : Option (Result Replied Older)) (result : Result Replied Older) → c ≡ d → IsTied place before
+    → WasAnswered faults c moment user plan ask before after o → o ≡ Some result → new.found ≡ tale_of before.shard.held (faults before.shard.keeper) → new.seen ≡ tale_of after.shard.held (faults after.shard.keeper)
+    → Follows old.seen new.found → Follows new.found new.seen → new.numbers ≡ old.numbers → new.lock ≡ old.lock
+    → IfOk result (λ told. TurnReplies (IsLegal place.index place.count) reply.Refused (ShardAnswers d moment user ask) old new told.reply told.own)
+answered-turn faults c d moment user plan ask place before after old new o result same tied w is found seen begins grows numbers lock =
+    let comes = subst (λ (r : Result Replied Older). Comes faults c moment user plan ask before.shard after.shard r) (one-told o w.result result w.told_is is) w.comes in
+    turn-told faults d moment user plan ask place before after old new result tied (subst (λ (l : List Record). Comes faults l moment user plan ask before.shard after.shard result) same comes) found seen begins grows numbers lock

@@ -2,7 +2,9 @@
 use Rattle.std.specs.Prelude.{◌≡◌, ℕ, true, List, [], Option, Some, None, Result, MatchResult}
 use mathlib.Core.List.{IsPrefix}
 use Rattle.qz_catalog.specs.Holdings.{lean}
-use Rattle.qz_catalog_turns.specs.Turning.{Calls, held_of, tale_of}
+use Rattle.qz_catalog_turns.specs.declared.replied.Replied.{Replied}
+use Rattle.qz_catalog_turns.specs.Owning.{CallReplies}
+use Rattle.qz_catalog_turns.specs.Turning.{held_of, tale_of}
 use Rattle.qz_school.specs.Agreement.{HasQuizReady, is_start}
 use Rattle.qz_serial.specs.Calls.{ShardAnswers}
 use Rattle.qz_shard.specs.declared.shard.Older.{Older}
@@ -56,9 +58,9 @@ pub record IsAnsweredNow (moment : ℕ) (user : User) (plan : Plan) (ask : Ask) 
   pub newer : older h plan ask.request ≡ None
 
 -- a request was answered over the catalogue's list c, or its plan is older than a job that is done in the shard
-abbrev pub Comes : {K : Type 0} → (K → ℕ) → List Record → ℕ → User → Plan → Ask → part.Keeping K → part.Keeping K → Result Reply Older → Type 0
+abbrev pub Comes : {K : Type 0} → (K → ℕ) → List Record → ℕ → User → Plan → Ask → part.Keeping K → part.Keeping K → Result Replied Older → Type 0
 Comes faults c moment user plan ask before after result = MatchResult result
-    (λ told. Calls (IsLegal before.index before.count) reply.Refused (ShardAnswers c moment user ask) (tale_of before.held (faults before.keeper)) (tale_of after.held (faults after.keeper)) told)
+    (λ told. CallReplies (IsLegal before.index before.count) reply.Refused (ShardAnswers c moment user ask) (tale_of before.held (faults before.keeper)) (tale_of after.held (faults after.keeper)) told.reply told.own)
     (λ o. part.IsOlder plan ask.request before.held after.held o.floor)
 
 -- ---- a turn
@@ -76,8 +78,8 @@ pub record IsNoteOf (lock : Lock (Unit {0})) (o : Option (Standing Record (Unit 
   pub bare : note.numbers ≡ []
 
 -- what an errand that asked did to what stands behind the lock, and what it was told
-pub record WasAnswered {K : Type 0} (faults : K → ℕ) (c : List Record) (moment : ℕ) (user : User) (plan : Plan) (ask : Ask) (before after : Behind K) (told : Option (Result Reply Older)) : Type 0 where
-  pub result : Result Reply Older
+pub record WasAnswered {K : Type 0} (faults : K → ℕ) (c : List Record) (moment : ℕ) (user : User) (plan : Plan) (ask : Ask) (before after : Behind K) (told : Option (Result Replied Older)) : Type 0 where
+  pub result : Result Replied Older
   pub told_is : told ≡ Some result
   pub comes : Comes faults c moment user plan ask before.shard after.shard result
 

@@ -1,6 +1,6 @@
 //! What is answered by a shard under a plan that was read before, in one turn.
 
-ghost use Rattle.std.specs.Prelude.{◌≡◌, ◌≢◌, ◌<◌, ◌≤◌, [], Some, true, length, unwrap_or, IfOk, IfErr};
+ghost use Rattle.std.specs.Prelude.{◌≡◌, ◌≢◌, ◌<◌, ◌≤◌, [], Some, None, true, length, unwrap_or, IfOk, IfErr};
 ghost use Rattle.qz_keeper.specs.Lists.{EachMayStand, OneCall};
 ghost use Rattle.qz_keeper.specs.Recording.{GoesOn, HasFailed};
 ghost use Rattle.qz_serial.specs.Calls.{ShardAnswers};
@@ -10,12 +10,12 @@ ghost use Rattle.qz_solo.specs.Planning.{asks_shard};
 ghost use Rattle.qz_terms.specs.declared.reply.Reply.TheVariants as reply;
 ghost use Rattle.qz_terms.specs.Legal.{IsLegal};
 ghost use Rattle.qz_turn.specs.Turns.{UnderKey};
-ghost use Rattle.qz_catalog_turns.specs.Turning.{TurnCalls};
+ghost use Rattle.qz_catalog_turns.specs.Owning.{OneReply, ReplyEnds, TurnReplies};
 ghost use Rattle.qz_shard_turns.specs.Posing.{CanPose, IsAnsweredNow, TurnIsOlder};
 ghost use Rattle.qz_shard_turns.specs.Tying.{IsTiedTo};
 
 use crate::part::Part;
-use qz_catalog_turns::Records;
+use qz_catalog_turns::{OwnRecord, Records, Replied};
 use qz_disks::Keeper;
 use qz_grading::Steps;
 use qz_shard::{Older, Shard};
@@ -37,7 +37,7 @@ fn looks(request: &Request) -> bool
 }
 
 /// The shard's reply to a request under a plan, or that the plan is older than a job that is done there.
-fn answered<K: Keeper, L: Ledger>(
+fn shard_reply<K: Keeper, L: Ledger>(
     blank: Blank,
     shard: &mut Shard<K>,
     alloc: Global,
@@ -69,6 +69,82 @@ fn answered<K: Keeper, L: Ledger>(
     shard.apply(alloc, user, plan, ask, moment, &mut steps)
 }
 
+/// The reply over a list in which none is in doubt, and what became of the record that the request put; or that the plan is older.
+fn applied<K: Keeper, L: Ledger>(
+    blank: Blank,
+    shard: &mut Shard<K>,
+    alloc: Global,
+    user: &User,
+    plan: &Plan,
+    ask: &Ask,
+    moment: u64,
+) -> Result<Replied, Older>
+    requires name { blank.name ≡ L.name }
+    requires parts { blank.parts ≡ L.parts }
+    requires some_part { 0 < blank.parts }
+    requires settled { shard.old.held.doubt ≡ None }
+    requires served { asks_shard ask.now.request ≡ true }
+    requires asked { EachMayStand (λ h. IsAsked h plan.now ask.now moment) shard.old.held }
+    requires here { StartsHere (shard_over shard.old []) user.now plan.now ask.now.request }
+    requires brief { length (unwrap_or ask.now.key []) ≤ 64 }
+    ensures answer { IfOk result (λ told. ReplyEnds (HasFailed (K.sound shard.old.keeper)
+        (K.faults shard.old.keeper) (K.faults shard.new.keeper)) reply.Refused
+        (IsAnsweredNow moment user.now plan.now ask.now) shard.old.held shard.new.held
+        told.reply told.own) }
+    ensures older { IfErr result (λ o. IsOlder plan.now ask.now.request
+        shard.old.held shard.new.held o.floor) }
+    ensures shard { IsSamePart shard.old shard.new }
+    ensures goes_on { GoesOn (K.sound shard.old.keeper) (K.sound shard.new.keeper)
+        (K.faults shard.old.keeper) (K.faults shard.new.keeper) }
+{
+    let found = shard.len();
+    match shard_reply::<K, L>(blank, shard, alloc, user, plan, ask, moment) {
+        Ok(reply) => {
+            let left = shard.len();
+            let own = OwnRecord::of(shard.is_settled(), found, left);
+            Ok(Replied { reply, own })
+        },
+        Err(older) => Err(older),
+    }
+}
+
+/// The list is mended, and then the request is answered under the plan, or the plan is older. Where the list can't be mended nothing is
+/// put.
+fn answered<K: Keeper, L: Ledger>(
+    blank: Blank,
+    shard: &mut Shard<K>,
+    alloc: Global,
+    user: &User,
+    plan: &Plan,
+    ask: &Ask,
+    moment: u64,
+) -> Result<Replied, Older>
+    requires name { blank.name ≡ L.name }
+    requires parts { blank.parts ≡ L.parts }
+    requires some_part { 0 < blank.parts }
+    requires served { asks_shard ask.now.request ≡ true }
+    requires asked { EachMayStand (λ h. IsAsked h plan.now ask.now moment) shard.old.held }
+    requires here { StartsHere (shard_over shard.old []) user.now plan.now ask.now.request }
+    requires brief { length (unwrap_or ask.now.key []) ≤ 64 }
+    ensures answer { IfOk result (λ told. OneReply (HasFailed (K.sound shard.old.keeper)
+        (K.faults shard.old.keeper) (K.faults shard.new.keeper)) reply.Refused
+        (IsAnsweredNow moment user.now plan.now ask.now) shard.old.held shard.new.held
+        told.reply told.own) }
+    ensures older { IfErr result (λ o. IsOlder plan.now ask.now.request
+        shard.old.held shard.new.held o.floor) }
+    ensures shard { IsSamePart shard.old shard.new }
+    ensures goes_on { GoesOn (K.sound shard.old.keeper) (K.sound shard.new.keeper)
+        (K.faults shard.old.keeper) (K.faults shard.new.keeper) }
+{
+    match shard.mend(alloc) {
+        Ok(()) => applied::<K, L>(blank, shard, alloc, user, plan, ask, moment),
+        Err(why) => Ok(Replied {
+            reply: Reply::Refused(why),
+            own: OwnRecord::Absent,
+        }),
+    }
+}
+
 /// A request of a user under a plan, with a note of what its caller has seen of the catalogue, and the reply.
 #[derive(Drop)]
 struct Answering<'r, 'u, 'p, 'k, K: Keeper> {
@@ -79,7 +155,7 @@ struct Answering<'r, 'u, 'p, 'k, K: Keeper> {
     plan: &'p Plan,
     ask: &'k Ask,
     moment: u64,
-    told: Option<Result<Reply, Older>>,
+    told: Option<Result<Replied, Older>>,
 }
 
 impl<'r, 'u, 'p, 'k, K: Keeper> Errand<Part<K>> for Answering<'r, 'u, 'p, 'k, K> {
@@ -117,8 +193,8 @@ impl<'r, 'u, 'p, 'k, K: Keeper> Errand<Part<K>> for Answering<'r, 'u, 'p, 'k, K>
 /// Answers a request to a shard, under the plan that the catalogue gave over what its pass has seen, at this moment by the clock, in seconds
 /// since 1970.
 ///
-/// The reply is the answer over the mended list, which goes on from what the pass has seen of it. A start whose plan is older than a job that
-/// is done in the shard is `Older`, and puts nothing.
+/// The reply is the answer over the mended list, which goes on from what the pass has seen of it, and with it it is told what became of the
+/// request's own record. A start whose plan is older than a job that is done in the shard is `Older`, and puts nothing.
 pub fn answer<K: Keeper, R: Wait>(
     records: &Turns<Records<K>>,
     parts: &Turns<Part<K>>,
@@ -130,7 +206,7 @@ pub fn answer<K: Keeper, R: Wait>(
     plan: &Plan,
     ask: &Ask,
     moment: u64,
-) -> Result<Reply, Older>
+) -> Result<Replied, Older>
     requires seen { seen.old.lock ≡ records.now.lock }
     requires pass { pass.old.lock ≡ parts.now.lock }
     requires number { pass.old.numbers ≢ [] }
@@ -138,8 +214,9 @@ pub fn answer<K: Keeper, R: Wait>(
     requires posed { UnderKey parts.now.lock (λ place. CanPose seen.old.seen.list pass.old.seen.list
         place.index place.count user.now plan.now ask.now moment) }
     ensures answer { UnderKey parts.now.lock (λ place. IfOk result (λ told.
-        TurnCalls (IsLegal place.index place.count) reply.Refused
-        (ShardAnswers seen.old.seen.list moment user.now ask.now) pass.old pass.new told)) }
+        TurnReplies (IsLegal place.index place.count) reply.Refused
+        (ShardAnswers seen.old.seen.list moment user.now ask.now)
+        pass.old pass.new told.reply told.own)) }
     ensures older { IfErr result (λ o. TurnIsOlder plan.now ask.now.request
         pass.old pass.new o.floor) }
     ensures seen { seen.new ≡ seen.old }

@@ -77,4 +77,8 @@ impl<K: Keeper> Told for Part<K> {
     ghost tells = { λ p. tale_of p.shard.held (K.faults p.shard.keeper) };
 
     ghost fits = { λ place p. IsTied place p };
+
+    fn len(&self) -> u64 {
+        self.shard.len()
+    }
 }

@@ -1,8 +1,7 @@
 -- A turn: it comes, an errand goes, and it is given on.
-use Rattle.std.proofs.Common.{◌≡◌, ℕ, List, [], ◌∷◌, Option, Some, refl, ap, sym, ◌∙◌, subst}
+use Rattle.std.proofs.Common.{◌≡◌, ℕ, [], ◌∷◌, Option, Some, ap, sym, ◌∙◌, subst}
 use Rattle.atomic_table.specs.Table.{Me}
 use Rattle.qz_turn.specs.declared.view.Tale.{Tale}
-use Rattle.qz_turn.specs.declared.view.Stage.TheVariants.{Resting, Serving}
 use Rattle.qz_turn.specs.declared.view.View.{View}
 use Rattle.qz_turn.specs.Tales.{Follows}
 use Rattle.qz_turn.specs.Steps.{Comes, Ends, HasServed, IsKeyed, MayEnd, Went, served, serving}

@@ -1,5 +1,5 @@
 -- A pass as contracts see it.
-use Rattle.std.specs.Prelude.{◌≡◌, ℕ, List, [], ◌∷◌, Option, None}
+use Rattle.std.specs.Prelude.{◌≡◌, ℕ, List, [], ◌∷◌, length, Option, None}
 use Rattle.atomic_table.specs.Seated.{TableId}
 use Rattle.atomic_table.specs.declared.badge.Badge.{Badge}
 use Rattle.qz_turn.specs.declared.view.Tale.{Tale}
@@ -38,3 +38,8 @@ module _ {I K : Type 0} where
   pub record IsSeat (b : Badge (View I K)) : Type 0 where
     pub views : b.views ≡ first_view b.views ∷ []
     pub rests : (first_view b.views).stage ≡ Resting
+
+  -- and the list that it has seen has so many items
+  pub record IsMeasured (b : Badge (View I K)) (count : ℕ) : Type 0 where
+    pub seat : IsSeat b
+    pub counts : count ≡ length (standing b).seen.list

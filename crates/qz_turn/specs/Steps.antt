@@ -1,6 +1,6 @@
 -- The kinds of step, and what each does to the view of the seat that makes it: draw, look, serve, split, note, join.
 -- A join is a step and one load more, which compares the two lists.
-use Rattle.std.specs.Prelude.{◌≡◌, ◌≢◌, ℕ, ◌%◌, ◌^◌, ◌⊎◌, [], ◌∷◌, ◌++◌, take, drop, Some}
+use Rattle.std.specs.Prelude.{◌≡◌, ◌≢◌, ℕ, ◌%◌, ◌^◌, ◌⊎◌, [], ◌∷◌, ◌++◌, length, take, drop, Some}
 use mathlib.Core.List.{IsPrefix}
 use Rattle.atomic_table.specs.Table.{Me, Step}
 use Rattle.qz_turn.specs.declared.view.Tale.{Tale}
@@ -90,6 +90,10 @@ module _ {I K S : Type 0} where
     pub key : K
     pub keyed : m.0.key ≡ Some key
     pub fits_key : fits key value
+
+  -- the list of the value that the seat has is so long
+  pub record Measures (tells : S → Tale I) (m : Me S (View I K)) (count : ℕ) : Type 0 where
+    pub counts : (value : S) → m.1 ≡ (0, value) ∷ [] → count ≡ length (tells value).list
 
   -- of what was seen and what the seat beside had seen, one list begins the other
   pub record Compares (m : Me S (View I K)) (m' : Me S (View I K)) : Type 0 where

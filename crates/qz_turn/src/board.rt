@@ -1,9 +1,9 @@
 // The table of a lock, and the steps that its seats make.
-ghost use Rattle.std.specs.Prelude.{◌≡◌, [], ◌∷◌, IfOk, IfErr};
+ghost use Rattle.std.specs.Prelude.{◌≡◌, [], ◌∷◌, IfOk, IfErr, length};
 ghost use Rattle.qz_turn.specs.declared.view.Stage.TheVariants.{Resting};
 ghost use Rattle.qz_turn.specs.Tales.{Follows};
 ghost use Rattle.qz_turn.specs.Rule.{dealer, HasEvery};
-ghost use Rattle.qz_turn.specs.Steps.{IsReady, IsWaiting, Draws, Comes, CanSend, Went, MayEnd, Ends, IsKeyed, HasServed, Compares, dealing, dealt_to, noted, joining};
+ghost use Rattle.qz_turn.specs.Steps.{IsReady, IsWaiting, Draws, Comes, CanSend, Went, MayEnd, Ends, IsKeyed, HasServed, Measures, Compares, dealing, dealt_to, noted, joining};
 
 use crate::room::Room;
 use crate::rule::{About, Compare, Deal, Draw, InTurn, Look, Merge, Note, Serve};
@@ -209,6 +209,17 @@ impl<T: Told> Board<T> {
         errand.go(seat.slot_mut(&self.table.shared, 0));
     }
 
+    // How many items the list of the value has, which stays with the seat.
+    fn measure(&self, seat: &mut Place<T>) -> u64
+        requires own { seat.old.table_id ≡ self.now.table.shared.table_id }
+        requires holds { (value : T) × (seat.old.me.1 ≡ (0, value) ∷ []) }
+        ensures own { seat.new.table_id ≡ seat.old.table_id }
+        ensures same { seat.new.me ≡ seat.old.me }
+        ensures len { Measures T.tells seat.old.me result }
+    {
+        seat.slot_mut(&self.table.shared, 0).len()
+    }
+
     // Gives the value back, and the turn on.
     fn leave(&self, seat: &mut Place<T>)
         requires own { seat.old.table_id ≡ self.now.table.shared.table_id }
@@ -223,17 +234,21 @@ impl<T: Told> Board<T> {
         }
     }
 
-    /// Waits until the turn of the seat has come, sends the errand, and gives the turn on.
-    pub fn serve<E: Errand<T>, R: Wait>(&self, rt: &R, seat: &mut Place<T>, errand: &mut E)
+    /// Waits until the turn of the seat has come, sends the errand, and gives the turn on. Tells how many items the
+    /// list had as the turn ended.
+    pub fn serve<E: Errand<T>, R: Wait>(&self, rt: &R, seat: &mut Place<T>, errand: &mut E) -> u64
         requires own { seat.old.table_id ≡ self.now.table.shared.table_id }
         requires ready { IsReady seat.old.me }
         requires can { IsKeyed (λ key. E.can key seat.old.me.0.seen errand.old) seat.old.me.0 }
         ensures own { seat.new.table_id ≡ seat.old.table_id }
         ensures turn { HasServed T.tells T.fits E.does seat.old.me seat.new.me errand.old errand.new }
+        ensures len { result ≡ length seat.new.me.0.seen.list }
     {
         self.enter(rt, seat);
         self.send(seat, errand);
+        let len = self.measure(seat);
         self.leave(seat);
+        len
     }
 
     /// Cuts off a new seat, with the first number.

@@ -27,6 +27,10 @@ impl Told for Words {
     ghost tells = { λ words. record { list = words.items.items; doubt = None; faults = 0 } };
 
     ghost fits = { λ _ _. Unit {0} };
+
+    fn len(&self) -> u64 {
+        self.items.len() as u64
+    }
 }
 
 // Puts an item at the end, where there is memory, and learns how many there are.
@@ -66,6 +70,10 @@ impl Told for Marks {
     ghost tells = { λ marks. record { list = marks.lengths.items; doubt = None; faults = 0 } };
 
     ghost fits = { λ key marks. (marks.pass.lock ≡ key.lock) × All (λ n. n ≤ length marks.pass.seen.list) marks.lengths.items };
+
+    fn len(&self) -> u64 {
+        self.lengths.len() as u64
+    }
 }
 
 // Puts a length at the end, which its note has seen.
@@ -190,11 +198,12 @@ fn side_by_side<R: Threads + Wait + Sync>(
     one
 }
 
-// Two lists, where each number of the second is a length that the first had when its writer looked.
+// Two lists, where each number of the second is a length that the first had when its writer looked, and how many items
+// the passes have seen of each.
 fn two_lists<R: Threads + Wait + Sync>(
     rt: &R,
     alloc: Global,
-) -> Result<(Vec<u64>, Vec<u64>), NoMemory>
+) -> Result<(Vec<u64>, Vec<u64>, (u64, u64)), NoMemory>
     ensures { IfOk result (λ lists. All (λ n. n ≤ length lists.0.items) lists.1.items) }
 {
     let items = Words {
@@ -220,14 +229,17 @@ fn two_lists<R: Threads + Wait + Sync>(
         unreachable!()
     };
     let (pass, marker) = side_by_side(rt, &words, &marks, (pass, marker), (other, other_marker));
-    Ok(close_both(words, marks, pass, marker))
+    let seen = (pass.len(), marker.len());
+    let (items, lengths) = close_both(words, marks, pass, marker);
+    Ok((items, lengths, seen))
 }
 
 #[test]
 fn marks_name_lengths_of_words(rt: HostRuntime) -> Result<(), Fail> {
-    let (items, lengths) = two_lists(&rt, rt.alloc())?;
+    let (items, lengths, seen) = two_lists(&rt, rt.alloc())?;
     assert!(rt; items.as_slice() == [7, 9].as_slice() || items.as_slice() == [9, 7].as_slice());
     assert!(rt; lengths.as_slice() == [1, 2].as_slice() || lengths.as_slice() == [2, 1].as_slice());
+    assert!(rt; seen == (2, 2));
     Ok(())
 }
 

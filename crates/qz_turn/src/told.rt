@@ -1,4 +1,5 @@
 // The value behind a lock, and the work of one turn.
+ghost use Rattle.std.specs.Prelude.{◌≡◌, length};
 ghost use Rattle.qz_turn.specs.declared.view.Tale.{Tale};
 ghost use Rattle.qz_turn.specs.Tales.{Follows, CanGo, KeepsFit};
 
@@ -13,6 +14,10 @@ pub trait Told {
 
     // What holds of the value, under the lock's key, whenever nobody has the turn.
     ghost fits: { Self.Key → Self → Type 0 };
+
+    /// How many items the list has.
+    fn len(&self) -> u64
+        ensures { result ≡ length (tells self.now).list };
 }
 
 /// The work of one turn.

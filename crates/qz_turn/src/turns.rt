@@ -1,5 +1,5 @@
 // The lock.
-ghost use Rattle.std.specs.Prelude.{◌≡◌, ◌≢◌, ◌<◌, ◌≤◌, [], map, Some, IfOk, IfErr, vec_capacity};
+ghost use Rattle.std.specs.Prelude.{◌≡◌, ◌≢◌, ◌<◌, ◌≤◌, [], length, map, Some, IfOk, IfErr, vec_capacity};
 ghost use Rattle.qz_turn.specs.Tales.{Follows};
 ghost use Rattle.qz_turn.specs.Rule.{below, HasEvery};
 ghost use Rattle.qz_turn.specs.Steps.{MayDeal};
@@ -35,15 +35,17 @@ fn deal_all<T: Told>(
     board: &Board<T>,
     mut seat: Place<T>,
     seats: u32,
+    len: u64,
     mut passes: Vec<Pass<T>>,
 ) -> Vec<Pass<T>>
     requires own { seat.table_id ≡ board.now.table.shared.table_id }
     requires deals { MayDeal seats seat.me }
+    requires len { len ≡ length seat.me.0.seen.list }
     requires room { (passes.items ≡ []) × (seats ≤ vec_capacity passes) }
     ensures { result.items ≡ map (dealt_pass seat.table_id seat.me.0) (below seats) }
 {
     for number in 0..seats {
-        passes.push_reserved(Pass::of(board.deal(&mut seat)));
+        passes.push_reserved(Pass::of(board.deal(&mut seat), len));
     }
     passes
 }
@@ -66,9 +68,10 @@ impl<T: Told> Turns<T> {
         let Ok(passes) = Vec::with_capacity(alloc, seats as usize) else {
             return Err((value, NoMemory));
         };
+        let len = value.len();
         match Board::new(alloc, value, key, seats) {
             Ok((board, seat)) => {
-                let passes = deal_all(&board, seat, seats, passes);
+                let passes = deal_all(&board, seat, seats, len, passes);
                 Ok((Turns { board }, passes))
             }
             Err(value) => Err((value, NoMemory)),
@@ -88,8 +91,9 @@ impl<T: Told> Turns<T> {
         ensures pass { IfOk result (λ made. made.1 ≡ first_pass made.0.lock (T.tells value) seats) }
         ensures refused { IfErr result (λ back. back.0 ≡ value) }
     {
+        let len = value.len();
         match Board::new(alloc, value, key, seats) {
-            Ok((board, seat)) => Ok((Turns { board }, Pass::of(seat))),
+            Ok((board, seat)) => Ok((Turns { board }, Pass::of(seat, len))),
             Err(value) => Err((value, NoMemory)),
         }
     }
@@ -104,7 +108,7 @@ impl<T: Told> Turns<T> {
         let mut seat = mem::replace(&mut pass.badge, Badge::blank()).into_seat();
         let given = self.board.deal(&mut seat);
         pass.badge = seat.into_badge();
-        Pass::of(given)
+        Pass::of(given, pass.len)
     }
 
     /// Waits until the turn of the pass has come, lets the errand go once, and gives the turn on. The errand may rely on what the
@@ -116,7 +120,7 @@ impl<T: Told> Turns<T> {
         ensures { HasTurn T.tells T.fits E.does pass.old pass.new errand.old errand.new }
     {
         let mut seat = mem::replace(&mut pass.badge, Badge::blank()).into_seat();
-        self.board.serve(rt, &mut seat, errand);
+        pass.len = self.board.serve(rt, &mut seat, errand);
         pass.badge = seat.into_badge();
     }
 
@@ -129,7 +133,7 @@ impl<T: Told> Turns<T> {
         let mut seat = mem::replace(&mut pass.badge, Badge::blank()).into_seat();
         let note = self.board.note(&mut seat);
         pass.badge = seat.into_badge();
-        Pass::of(note)
+        Pass::of(note, pass.len)
     }
 
     /// Adds the numbers of the other pass. The pass has then seen the longer of the two lists, of which one begins
@@ -139,6 +143,7 @@ impl<T: Told> Turns<T> {
         requires other { other.lock ≡ self.now.lock }
         ensures { Joins pass.old other pass.new }
     {
+        pass.len = pass.len.max(other.len);
         let mut seat = mem::replace(&mut pass.badge, Badge::blank()).into_seat();
         self.board.join(&mut seat, other.into_seat());
         pass.badge = seat.into_badge();

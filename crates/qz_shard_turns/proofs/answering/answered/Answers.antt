@@ -1,5 +1,20 @@
-use Rattle.qz_shard_turns.proofs.Posing.{answered-ok}
+use Rattle.qz_catalog.proofs.KeptCalls.{settled_by}
+use Rattle.qz_catalog_turns.proofs.Owning.{mended-each, unmended}
+use Rattle.qz_shard_turns.proofs.Posing.{answered-after, older-after}
 use Rattle.qz_shard_turns.proofs.answering.answered.Goals as goal
 
-pub returns-clause-answer : goal.returns-clause-answer
-returns-clause-answer g c = answered-ok _ _ _ _ _ _ _ _ _ c.apply.result c.apply.ensures.answer
+pub applied-requires-clause-settled : goal.applied-requires-clause-settled
+applied-requires-clause-settled g c = (settled_by _ _ c.mend.new.self.held c.in-Ok.ensures.mended).no_doubt
+
+pub applied-requires-clause-asked : goal.applied-requires-clause-asked
+applied-requires-clause-asked g c = mended-each _ _ _ c.mend.new.self.held c.in-Ok.ensures.mended c.requires.asked
+
+pub returns-in-Ok-clause-answer : goal.returns-in-Ok-clause-answer
+returns-in-Ok-clause-answer g c =
+    answered-after _ _ _ _ _ _ _ _ _ _ c.mend.new.self.held c.applied.new.shard.held c.applied.result c.mend.ensures.goes_on (settled_by _ _ _ c.in-Ok.ensures.mended) c.applied.ensures.answer
+
+pub returns-in-Ok-clause-older : goal.returns-in-Ok-clause-older
+returns-in-Ok-clause-older g c = older-after _ _ _ c.mend.new.self.held c.applied.new.shard.held c.applied.result (settled_by _ _ _ c.in-Ok.ensures.mended) c.applied.ensures.older
+
+pub returns-in-Err-clause-answer : goal.returns-in-Err-clause-answer
+returns-in-Err-clause-answer g c = unmended _ _ _ _ c.mend.new.self.held c.in-Err.why c.in-Err.ensures.mended

@@ -22,7 +22,7 @@ returns-clause-done g c =
 pub returns-clause-grows : goal.returns-clause-grows
 returns-clause-grows g c =
     rw (← c.part.view_is) (record {
-      begins = call-grows _ _ _ c.part.inside.shard.held c.worked-told.new.shard.held _ (λ h t l is. (option_to_list (put_by_job h c.args.self.now.moment c.args.self.now.caller c.args.self.now.job.now), sym is.list)) c.worked-told.ensures.answer;
+      begins = call-grows _ _ _ c.part.inside.shard.held c.worked-told.new.shard.held _ (λ h t l is. (option_to_list (put_by_job h c.args.self.now.moment c.args.self.now.caller c.args.self.now.job.now), sym is.list)) c.worked-told.ensures.answer.call;
       faults = c.worked-told.ensures.goes_on.later;
     })
 
@@ -31,6 +31,6 @@ returns-clause-fits g c =
     let noted : c.args.self.now.note ≡ Some c.in-Some.note = sym c.take.ensures.value ∙ c.in-Some.is in
     record {
       still = λ place seen fitted begins can.
-          work-tied _ place (record { shard = c.part.inside.shard; note = c.part.inside.note }) (record { shard = c.worked-told.new.shard; note = c.join.new.pass }) c.in-Some.note _ _ _ c.worked-told.result
-          (subst (IsTied place) (sym c.part.view_is) fitted) c.join.ensures c.worked-told.ensures.shard (rw noted at can.2) c.len-found.ensures.legal c.worked-told.ensures.answer;
+          work-tied _ place (record { shard = c.part.inside.shard; note = c.part.inside.note }) (record { shard = c.worked-told.new.shard; note = c.join.new.pass }) c.in-Some.note _ _ _ c.worked-told.result.reply
+          (subst (IsTied place) (sym c.part.view_is) fitted) c.join.ensures c.worked-told.ensures.shard (rw noted at can.2) c.len-found.ensures.legal c.worked-told.ensures.answer.call;
     }
