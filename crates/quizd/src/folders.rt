@@ -2,11 +2,9 @@
 
 ghost use Rattle.std.specs.Prelude.{◌≡◌, ◌≤◌, length};
 ghost use Rattle.qz_disks.specs.Shelves.{NoneOutIn};
-ghost use Rattle.qz_doors.specs.Answers.{Asks};
-ghost use Rattle.qz_doors.specs.Doors.{ServesDoor};
 ghost use Rattle.qz_ending.specs.Endings.{Ended};
+ghost use Rattle.qz_stations.specs.Stations.{entrance_by, peer_by, serving_by};
 ghost use Rattle.quizd.specs.Folders.{DoorsFolderEnds, ScriptFolderEnds, ServesDoors, ServesFolder};
-ghost use Rattle.qz_visit.specs.Seeing.{IsAskedBeside};
 ghost use Rattle.quizd.specs.Scripts.{script_limit};
 ghost use Rattle.quizd.specs.Serving.{NoDoorFails};
 
@@ -85,12 +83,8 @@ where
     ensures ended { Ended
         (DoorsFolderEnds (record { moment = F.Disk.moment; left_at = F.Disk.left_at; sound = F.Disk.sound; faults = F.Disk.faults })
         folder.now workers
-        (λ door served a b end. ServesDoor (Asks C.tells IsAskedBeside)
-        (λ link. record { left = R.Link.left link; holds = R.Link.holds link; faults = R.Link.faults link })
-        links
-        (record { left = R.left door; returned = R.returned door; returns = R.returns door; out = R.out door; faults = R.faults door })
-        (record { left = R.left served; returned = R.returned served; returns = R.returns served; out = R.out served; faults = R.faults served })
-        a b end)
+        (serving_by C.tells (peer_by R.Link.left R.Link.holds R.Link.faults)
+        (entrance_by R.left R.returned R.returns R.out R.faults) links)
         doors.old.items doors.new.items
         (record { files = F.files shelf.old; faults = F.faults shelf.old })
         (record { files = F.files shelf.new; faults = F.faults shelf.new })

@@ -1,11 +1,9 @@
 //! The command line.
 
+ghost use Rattle.qz_stations.specs.Stations.{entrance_by, peer_by, serving_by};
 ghost use Rattle.quizd.specs.Commands.{UsageWritten, NoneOut, RunEnds, RunsAll, ScriptDoesAll, ScriptEndsIn};
 ghost use Rattle.std.specs.Prelude.{◌≡◌, length};
-ghost use Rattle.qz_doors.specs.Answers.{Asks};
-ghost use Rattle.qz_doors.specs.Doors.{ServesDoor};
 ghost use Rattle.qz_ending.specs.Endings.{Ended};
-ghost use Rattle.qz_visit.specs.Seeing.{IsAskedBeside};
 ghost use Rattle.quizd.specs.Serving.{NoDoorFails};
 
 use crate::built::{built_command, is_memory};
@@ -51,12 +49,8 @@ where
     requires none_out { NoneOut (F.files shelf.old) }
     ensures ended { Ended
         (RunEnds (record { moment = F.Disk.moment; left_at = F.Disk.left_at; sound = F.Disk.sound; faults = F.Disk.faults })
-        (λ links door served a b end. ServesDoor (Asks C.tells IsAskedBeside)
-        (λ link. record { left = R.Link.left link; holds = R.Link.holds link; faults = R.Link.faults link })
-        links
-        (record { left = R.left door; returned = R.returned door; returns = R.returns door; out = R.out door; faults = R.faults door })
-        (record { left = R.left served; returned = R.returned served; returns = R.returns served; out = R.out served; faults = R.faults served })
-        a b end)
+        (serving_by C.tells (peer_by R.Link.left R.Link.holds R.Link.faults)
+        (entrance_by R.left R.returned R.returns R.out R.faults))
         (record { doors = doors.old.items; shelf = shelf.old; told = record { files = F.files shelf.old; faults = F.faults shelf.old } })
         (record { doors = doors.new.items; shelf = shelf.new; told = record { files = F.files shelf.new; faults = F.faults shelf.new } }) words.now
         (record { left = S.left source.old; source_faults = S.faults source.old; holds = O.holds sink.old; sink_faults = O.faults sink.old })

@@ -15,7 +15,7 @@ use Rattle.qz_terms.specs.declared.reply.Reply.{Reply}
 use Rattle.qz_terms.specs.Kept.{is_moment}
 use Rattle.qz_visit.specs.Holding.{GoesOn}
 use Rattle.qz_visit.specs.Seeing.{IsAskedBeside}
-use Rattle.qz_visit.specs.Visits.{Tellings, Visited, Visitor, seen_in}
+use Rattle.qz_visit.specs.Visits.{Asked, Tellings, Visitor, said_by, seen_in}
 use Rattle.qz_visit.proofs.Holding.{goes_asked, goes_on, goes_self}
 use Rattle.qz_visit.proofs.Seeing.{asked_beside}
 use Rattle.qz_wire.specs.Brief.{IsBriefToken}
@@ -29,7 +29,7 @@ may_ask now ask kept can = record { keyed = can.keyed; kept = can.kept; describe
 
 -- what one who visits answers
 abbrev pub Visiting : Visitor → Visitor → ℕ → Ask → Reply → Type 0
-Visiting a b now ask told = (b.school ≡ a.school) × (Visited a.passes b.passes now ask told)
+Visiting a b now ask told = (b.school ≡ a.school) × (Asked a.passes b.passes b.last now ask told)
 
 visit-goes : (a b : Visitor) → Follows Visiting a b → GoesOn a b
 visit-goes a _ (stays _) = goes_self a
@@ -41,7 +41,7 @@ seen_by_clock a = record { desk = seen_in a.desk.passes; clock = a.clock }
 
 asks-beside : {C : Type 0} (tells : C → ℕ → C → Type 0) → Carries (Asks tells Visiting) (Asks tells IsAskedBeside) seen_by_clock
 asks-beside tells = record {
-  each = λ a b what r s. record { moment = s.moment; told = s.told; answered = asked_beside a.desk.passes b.desk.passes _ what r s.answered.1 };
+  each = λ a b what r s. record { moment = s.moment; told = s.told; answered = asked_beside a.desk.passes b.desk.passes _ what (said_by r b.desk.last) s.answered.1.visited };
 }
 
 module _ {L C : Type 0} (tells : C → ℕ → C → Type 0) (peer : L → Peer) (most : ℕ) (old new : Entrance L) (a b : Answerer Visitor C) (end : DoorEnd) (served : ServesDoor (Asks tells Visiting) peer most old new a b end) where

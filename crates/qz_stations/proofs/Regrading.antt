@@ -18,7 +18,7 @@ use Rattle.qz_terms.specs.Serial.{Held}
 use Rattle.qz_turn.specs.declared.view.Tale.{Tale}
 use Rattle.qz_turn.specs.Tales.{Follows}
 use Rattle.qz_visit.specs.Seeing.{FollowAll, FollowEach, IsAskedBeside, more, none}
-use Rattle.qz_visit.specs.Visits.{Rose, Seats, Tellings, Visitor, faults_seen, lists_told, of_catalog, of_shard, seen_by, seen_in}
+use Rattle.qz_visit.specs.Visits.{Rose, Seats, Tellings, Visitor, faults_seen, lists_told, of_catalog, of_shard, said_by, seen_by, seen_in}
 use Rattle.qz_visit.specs.Ways.{Part}
 use Rattle.qz_visit.proofs.Seeing.{asked_beside}
 
@@ -118,12 +118,12 @@ told-seen p = ap (λ (n : ℕ). p.records.seen.faults + n) (sum-seen p.parts)
 
 visit-counts : (a b : Visitor) (now : ℕ) (ask : Ask) (r : Reply) → Visiting a b now ask r → CountsFault (faults_seen a.passes) (faults_seen b.passes) r
 visit-counts a b now ask r answered =
-    let c = beside-counts (seen_in a.passes) (seen_in b.passes) now ask r (asked_beside a.passes b.passes now ask r answered.1) in
+    let c = beside-counts (seen_in a.passes) (seen_in b.passes) now ask r (asked_beside a.passes b.passes now ask (said_by r b.last) answered.1.visited) in
     rw (sym (told-seen a.passes), sym (told-seen b.passes)) c
 
 -- a visit tells a worker of the lists that its passes see, and counts what they have seen fail
 pub visit_serves : ServesWorkers (λ (v : Visitor). lists_told (seen_in v.passes)) (λ (v : Visitor). faults_seen v.passes) Visiting
 visit_serves = record {
-  tells = λ a b now x r may answered. beside-tells (seen_in a.passes) (seen_in b.passes) now x r (asked_beside a.passes b.passes now (worker_asks x) r answered.1);
+  tells = λ a b now x r may answered. beside-tells (seen_in a.passes) (seen_in b.passes) now x r (asked_beside a.passes b.passes now (worker_asks x) (said_by r b.last) answered.1.visited);
   counts = λ a b now x r may answered. visit-counts a b now (worker_asks x) r answered;
 }

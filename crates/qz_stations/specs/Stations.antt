@@ -1,8 +1,11 @@
 -- The doors of a school, served side by side: what each who served one saw of the school, and how serving ended.
-use Rattle.std.specs.Prelude.{◌≡◌, ℕ, ◌+◌, Bool, false, ◌||◌, List, length, drop, slice_get, sum_by, Some}
+use Rattle.std.specs.Prelude.{◌≡◌, ℕ, ◌+◌, Bool, false, ◌||◌, List, length, drop, slice_get, sum_by, Option, Some}
 use Rattle.std.specs.List.{list_any}
 use Rattle.qz_doors.specs.declared.door.DoorEnd.{DoorEnd}
-use Rattle.qz_doors.specs.Answers.{Answerer}
+use Rattle.qz_doors.specs.Answers.{Answerer, Asks}
+use Rattle.qz_doors.specs.Doors.{Entrance, ServesDoor}
+use Rattle.qz_doors.specs.Links.{Peer}
+use Rattle.qz_visit.specs.Seeing.{IsAskedBeside}
 use Rattle.qz_visit.specs.Visits.{Tellings, Visitor}
 
 -- ---- a station
@@ -34,6 +37,18 @@ all_ends ends = record { taken = sum_by (λ e. e.taken) ends; fault = list_any (
 -- What serving a door means: the door, then what answers, of which the lists that it sees are told, before and after, and how it ended.
 abbrev pub Serving : Type 0 → Type 0 → Type 1
 Serving D C = D → D → Answerer Tellings C → Answerer Tellings C → DoorEnd → Type 0
+
+-- a link, by what is told of one
+abbrev pub peer_by : {L : Type 0} → (left holds : L → Option (List ℕ)) → (faults : L → ℕ) → L → Peer
+peer_by left holds faults link = record { left = left link; holds = holds link; faults = faults link }
+
+-- a door, by what is told of one
+abbrev pub entrance_by : {D L : Type 0} → (left returned : D → Option (List L)) → (returns out faults : D → ℕ) → D → Entrance L
+entrance_by left returned returns out faults door = record { left = left door; returned = returned door; returns = returns door; out = out door; faults = faults door }
+
+-- Doors are served, and each request is answered beside others: by what a clock tells, and by what links and doors are.
+abbrev pub serving_by : {D L C : Type 0} → (C → ℕ → C → Type 0) → (L → Peer) → (D → Entrance L) → ℕ → Serving D C
+serving_by tells peer entrance links door served a b end = ServesDoor (Asks tells IsAskedBeside) peer links (entrance door) (entrance served) a b end
 
 -- The door at this place was served by its clock for one who saw this much of the lists before. Of what it saw afterwards this holds.
 pub record ServesAt {D C : Type 0} (serves : Serving D C) (told : Tellings) (Kept : Tellings → Type 0) (old new : List (D × C)) (k : ℕ) (end : DoorEnd) : Type 0 where

@@ -1,16 +1,14 @@
 //! The doors of a school are served side by side.
 
 ghost use Rattle.std.specs.Prelude.{◌≡◌, ◌^◌, ◌<◌, ◌≤◌, length, MatchResult, vec_capacity};
-ghost use Rattle.qz_doors.specs.Answers.{Asks};
-ghost use Rattle.qz_doors.specs.Doors.{ServesDoor};
 ghost use Rattle.qz_turn.specs.Rule.{below};
 ghost use Rattle.qz_visit.specs.Closing.{Closes};
 ghost use Rattle.qz_visit.specs.Holding.{HasSeats, Holds};
 ghost use Rattle.qz_visit.specs.Opening.{told_by};
-ghost use Rattle.qz_visit.specs.Seeing.{FollowAll, IsAskedBeside};
+ghost use Rattle.qz_visit.specs.Seeing.{FollowAll};
 ghost use Rattle.qz_visit.specs.Visits.{seen_in};
 ghost use Rattle.qz_stations.specs.Posts.{AreServed, HoldsEvery, IsServed};
-ghost use Rattle.qz_stations.specs.Stations.{ServesBeside};
+ghost use Rattle.qz_stations.specs.Stations.{ServesBeside, entrance_by, peer_by, serving_by};
 
 use crate::station::Station;
 use crate::turns::{leave, take_up};
@@ -34,12 +32,8 @@ fn serve_each<K: Keeper + Send + Sync, W: Threads + Wait + Sync, R: Door + Send,
 )
 where
     R::Link: Send,
-    ensures { AreServed (λ door served a b end. ServesDoor (Asks C.tells IsAskedBeside)
-        (λ link. record { left = R.Link.left link; holds = R.Link.holds link; faults = R.Link.faults link })
-        links
-        (record { left = R.left door; returned = R.returned door; returns = R.returns door; out = R.out door; faults = R.faults door })
-        (record { left = R.left served; returned = R.returned served; returns = R.returns served; out = R.out served; faults = R.faults served })
-        a b end)
+    ensures { AreServed (serving_by C.tells (peer_by R.Link.left R.Link.holds R.Link.faults)
+        (entrance_by R.left R.returned R.returns R.out R.faults) links)
         stations.old stations.new }
 {
     let threads = stations.len().max(1);
@@ -48,12 +42,8 @@ where
         stations,
         threads,
         &|_: usize, station: &mut Station<K, W, R, C>|
-            ensures { IsServed (λ door served a b end. ServesDoor (Asks C.tells IsAskedBeside)
-                (λ link. record { left = R.Link.left link; holds = R.Link.holds link; faults = R.Link.faults link })
-                links
-                (record { left = R.left door; returned = R.returned door; returns = R.returns door; out = R.out door; faults = R.faults door })
-                (record { left = R.left served; returned = R.returned served; returns = R.returns served; out = R.out served; faults = R.faults served })
-                a b end)
+            ensures { IsServed (serving_by C.tells (peer_by R.Link.left R.Link.holds R.Link.faults)
+                (entrance_by R.left R.returned R.returns R.out R.faults) links)
                 station.entry.now station.exit.now }
         { station.serve(alloc, links) },
     );
@@ -71,20 +61,16 @@ fn serve_first<K: Keeper + Send + Sync, W: Threads + Wait + Sync, R: Door + Send
 ) -> (Passes<K>, Result<DoorEnd, NoMemory>)
 where
     R::Link: Send,
-    requires passes { Holds school.now (below count) passes }
+    requires passes { Holds school.now (below count) passes.seats }
     requires doors { count ≤ length doors.old.items }
     requires seats { HasSeats school.now count }
     requires few { count < 2 ^ 32 }
-    ensures every { HoldsEvery school.now result.0 }
-    ensures follows { FollowAll (seen_in passes) (seen_in result.0) }
+    ensures every { HoldsEvery school.now result.0.seats }
+    ensures follows { FollowAll (seen_in passes.seats) (seen_in result.0.seats) }
     ensures served { MatchResult result.1
-        (ServesBeside (λ door served a b end. ServesDoor (Asks C.tells IsAskedBeside)
-        (λ link. record { left = R.Link.left link; holds = R.Link.holds link; faults = R.Link.faults link })
-        links
-        (record { left = R.left door; returned = R.returned door; returns = R.returns door; out = R.out door; faults = R.faults door })
-        (record { left = R.left served; returned = R.returned served; returns = R.returns served; out = R.out served; faults = R.faults served })
-        a b end)
-        (seen_in passes) (λ seen. FollowAll seen (seen_in result.0)) count doors.old.items doors.new.items)
+        (ServesBeside (serving_by C.tells (peer_by R.Link.left R.Link.holds R.Link.faults)
+        (entrance_by R.left R.returned R.returns R.out R.faults) links)
+        (seen_in passes.seats) (λ seen. FollowAll seen (seen_in result.0.seats)) count doors.old.items doors.new.items)
         (λ _. doors.new.items ≡ doors.old.items) }
 {
     let Ok(mut stations) = Vec::with_capacity(alloc, count) else {
@@ -122,12 +108,8 @@ where
     requires doors { count ≤ length doors.old.items }
     ensures closes { Closes K.faults (told_by K.faults solo) result.0 }
     ensures served { MatchResult result.1
-        (ServesBeside (λ door served a b end. ServesDoor (Asks C.tells IsAskedBeside)
-        (λ link. record { left = R.Link.left link; holds = R.Link.holds link; faults = R.Link.faults link })
-        links
-        (record { left = R.left door; returned = R.returned door; returns = R.returns door; out = R.out door; faults = R.faults door })
-        (record { left = R.left served; returned = R.returned served; returns = R.returns served; out = R.out served; faults = R.faults served })
-        a b end)
+        (ServesBeside (serving_by C.tells (peer_by R.Link.left R.Link.holds R.Link.faults)
+        (entrance_by R.left R.returned R.returns R.out R.faults) links)
         (told_by K.faults solo) (λ seen. Closes K.faults seen result.0) count doors.old.items doors.new.items)
         (λ _. doors.new.items ≡ doors.old.items) }
 {

@@ -1,12 +1,9 @@
 //! A worker's place.
 
 ghost use Rattle.std.specs.Prelude.{◌≡◌};
-ghost use Rattle.qz_doors.specs.Answers.{Asks};
-ghost use Rattle.qz_doors.specs.Doors.{ServesDoor};
 ghost use Rattle.qz_visit.specs.Holding.{GoesOn};
-ghost use Rattle.qz_visit.specs.Seeing.{IsAskedBeside};
 ghost use Rattle.qz_visit.specs.Visits.{seen_in};
-ghost use Rattle.qz_stations.specs.Stations.{no_end};
+ghost use Rattle.qz_stations.specs.Stations.{entrance_by, no_end, peer_by, serving_by};
 
 use crate::ends::no_end;
 use qz_disks::Keeper;
@@ -50,11 +47,9 @@ impl<'s, 'r, K: Keeper, W: Wait, R: Door, C: Clock> Station<'s, 'r, K, W, R, C> 
 
     /// Serves the door until so many links were taken, none comes or the door fails.
     pub(crate) fn serve(&mut self, alloc: Global, links: u32)
-        ensures serves { ServesDoor (Asks C.tells IsAskedBeside)
-            (λ link. record { left = R.Link.left link; holds = R.Link.holds link; faults = R.Link.faults link })
-            links
-            (record { left = R.left self.old.door; returned = R.returned self.old.door; returns = R.returns self.old.door; out = R.out self.old.door; faults = R.faults self.old.door })
-            (record { left = R.left self.new.door; returned = R.returned self.new.door; returns = R.returns self.new.door; out = R.out self.new.door; faults = R.faults self.new.door })
+        ensures serves { serving_by C.tells (peer_by R.Link.left R.Link.holds R.Link.faults)
+            (entrance_by R.left R.returned R.returns R.out R.faults) links
+            self.old.door self.new.door
             (record { desk = seen_in self.old.visit.passes; clock = self.old.clock })
             (record { desk = seen_in self.new.visit.passes; clock = self.new.clock })
             self.new.end }
@@ -72,7 +67,7 @@ impl<'s, 'r, K: Keeper, W: Wait, R: Door, C: Clock> Station<'s, 'r, K, W, R, C> 
     /// The door with its clock, the passes, and how serving ended.
     pub(crate) fn into_parts(self) -> ((R, C), Passes<K>, DoorEnd)
         ensures door { result.0 ≡ (self.entry.door, self.entry.clock) }
-        ensures passes { result.1 ≡ self.entry.visit.passes }
+        ensures passes { result.1.seats ≡ self.entry.visit.passes }
         ensures end { result.2 ≡ self.entry.end }
     {
         let Station {

@@ -27,12 +27,12 @@ pub(crate) fn take_up<'s, 'r, K: Keeper, W: Wait, R: Door, C: Clock>(
     doors: &mut Vec<(R, C)>,
     stations: &mut Vec<Station<'s, 'r, K, W, R, C>>,
 ) -> Result<(), NoMemory>
-    requires passes { Holds school.now (below count) passes.old }
+    requires passes { Holds school.now (below count) passes.old.seats }
     requires doors { count ≤ length doors.old.items }
     requires none { stations.old.items ≡ [] }
     requires room { count ≤ vec_capacity stations.old }
-    ensures taken { TakesUp school.now count (seen_in passes.old) doors.old.items doors.new.items
-        passes.new stations.new.items }
+    ensures taken { TakesUp school.now count (seen_in passes.old.seats)
+        doors.old.items doors.new.items passes.new.seats stations.new.items }
     ensures few { length stations.new.items ≤ count }
     ensures all { IfOk result (λ _. length stations.new.items ≡ count) }
     ensures room { length stations.new.items + vec_len doors.new ≤ vec_capacity doors.new }
@@ -52,11 +52,12 @@ pub(crate) fn leave<K: Keeper, W: Wait, R: Door, C: Clock>(
     mut stations: Vec<Station<K, W, R, C>>,
     doors: &mut Vec<(R, C)>,
 ) -> DoorEnd
-    requires manned { AreManned school.now passes.old stations.items }
+    requires manned { AreManned school.now passes.old.seats stations.items }
     requires room { length stations.items + vec_len doors.old ≤ vec_capacity doors.old }
     ensures doors { doors.new.items ≡ map at_door stations.entry.items ++ doors.old.items }
     ensures end { result ≡ all_ends (map (λ p. p.end) stations.entry.items) }
-    ensures passes { TakesIn school.now passes.old passes.new stations.entry.items }
+    ensures passes { TakesIn school.now passes.old.seats passes.new.seats
+        stations.entry.items }
 {
     let mut end = no_end();
     while let Some(station) = stations.pop() {

@@ -4,6 +4,9 @@ use Rattle.std.specs.Prelude.{is_some, slice_get, slice_set}
 use Rattle.std.proofs.lemmas.List.{length-set}
 use mathlib.Core.List.{IsPrefix}
 use Rattle.qz_catalog.specs.Keeping as records
+use Rattle.qz_catalog_turns.specs.declared.replied.OwnRecord.TheVariants as own
+use Rattle.qz_catalog_turns.specs.declared.replied.Replied.{Replied}
+use Rattle.qz_catalog_turns.specs.Owning.{Leaves, TurnReplies, absent}
 use Rattle.qz_catalog_turns.specs.Turning.{TurnCalls, held_of}
 use Rattle.qz_grading.specs.declared.refusal.Refusal.{Refusal}
 use Rattle.qz_grading.specs.declared.refusal.Refusal.TheVariants as refusal
@@ -35,10 +38,11 @@ use Rattle.qz_terms.specs.SchoolAnswer.{first_refusal, part_of, refusal_among}
 use Rattle.qz_terms.specs.Serial.{Held, Mended, stays}
 use Rattle.qz_turn.specs.declared.view.Tale.{Tale}
 use Rattle.qz_visit.specs.Tokens.{IsKnownTo}
-use Rattle.qz_visit.specs.Visits.{IsFoundBy, Visited}
+use Rattle.qz_visit.specs.Visits.{IsFoundBy, Visited, at_part, refusing}
 use Rattle.qz_visit.specs.Ways as way
-use Rattle.qz_visit.specs.Ways.{Answered, CameTo, IsKnownBy, IsMended, Part, Seen, Untold}
-use Rattle.qz_visit.proofs.Passing.{Either, count_helds, found_rested, found_sees, found_turned, held_there, helds, lists, seats, sees_self, visited_both, visited_records, visited_still}
+use Rattle.qz_visit.specs.Ways.{Answered, CameTo, Part, Seen, refused_with}
+use Rattle.qz_visit.proofs.Owning.{as_seen, call_again, ends_again, ends_mend, found_mended, found_settled, leaves_grow, look_again, with_held}
+use Rattle.qz_visit.proofs.Passing.{Either, asked_mean, by_catalog, count_helds, found_looked, found_rested, found_sees, found_turned, held_there, helds, lists, seats, sees_self, visited_both, visited_records, visited_still}
 
 -- ---- what is asked
 
@@ -84,6 +88,13 @@ untold_split failed Says old new r (looked settled says) = inl (settled, says)
 untold_split failed Says old new r (unread why mends doubt is) = inr (unread why mends doubt (ap (λ (z : Refusal). let e : Result (Unit {0}) Refusal = Err z in e) (err-is r refusal.KeepFault is)))
 untold_split failed Says old new r (unlooked mends is) = inr (unlooked mends (ap (λ (z : Refusal). let e : Result (Unit {0}) Refusal = Err z in e) (err-is r refusal.Memory is)))
 
+-- a look that told nothing, from the mended list on
+pub lost_mend : (failed : Type 0) (old new : Held) (r : Refusal) → LookEnds failed (λ r. Err r) (λ (_ : List Record) (_ : Result (Unit {0}) Refusal). ⊥) old new (Err r) → Mended old new
+lost_mend failed old new r ends = ends_mend failed (λ r. Err r) (λ (_ : List Record) (_ : Result (Unit {0}) Refusal). ⊥) old new (Err r) ends
+
+pub lost_again : (failed : Type 0) (old new : Held) (r : Refusal) → LookEnds failed (λ r. Err r) (λ (_ : List Record) (_ : Result (Unit {0}) Refusal). ⊥) old new (Err r) → LookEnds failed (λ r. Err r) (λ (_ : List Record) (_ : Result (Unit {0}) Refusal). ⊥) new new (Err r)
+lost_again failed old new r ends = ends_again failed (λ r. Err r) (λ (_ : List Record) (_ : Result (Unit {0}) Refusal). ⊥) old new (Err r) ends
+
 -- ---- the catalogue
 
 lost-token : (failed : Type 0) (h m : Held) (hs : List Held) (now : ℕ) (ask : Ask) (token : List ℕ) (r : Refusal) → IsAskable (lists h hs) ask → ask.caller ≡ caller.Token token
@@ -94,10 +105,12 @@ lost-token failed h m hs now ask token r can by ends =
 
 -- it didn't tell whose the token is
 pub user_untold : (so sn : Seen) (ps : List Part) (now : ℕ) (ask : Ask) (token : List ℕ) (r : Refusal) → 0 < length ps → MayBeAsked ask now → ask.caller ≡ caller.Token token
-    → TurnCalls IsLegalCatalog (λ r. Err r) (Looks (records.TellsUser token)) so sn (Err r) → Visited (seats so ps) (seats sn ps) now ask (reply.Refused r)
+    → TurnCalls IsLegalCatalog (λ r. Err r) (Looks (records.TellsUser token)) so sn (Err r) → Visited (seats so ps) (seats sn ps) now ask (refusing r)
 user_untold so sn ps now ask token r some may by t =
-    visited_records so sn ps sn.found now ask (reply.Refused r) (found_turned IsLegalCatalog (λ r. Err r) (Looks (records.TellsUser token)) so sn (Err r) t)
-    ((tokens_law (HasRisen sn.found.faults sn.seen.faults)).user (lists (held_of sn.found) (helds ps)) (held_of sn.seen) now ask token (Err r) (askable (held_of sn.found) (helds ps) (length ps) now ask some (count_helds ps) may) by t.calls.call)
+    let failed = HasRisen sn.found.faults sn.seen.faults in
+    visited_records so sn ps (as_seen sn) now ask (refused_with r) (found_looked IsLegalCatalog (λ r. Err r) (records.TellsUser token) so sn (Err r) t) (absent (held_of sn.seen))
+    ((tokens_law failed).user (lists (held_of sn.seen) (helds ps)) (held_of sn.seen) now ask token (Err r) (askable (held_of sn.seen) (helds ps) (length ps) now ask some (count_helds ps) may) by
+    (look_again failed (λ r. Err r) (records.TellsUser token) (held_of sn.found) (held_of sn.seen) (Err r) t.calls.call))
 
 -- it did
 pub user_known : (so sn : Seen) (ps : List Part) (now : ℕ) (ask : Ask) (token : List ℕ) (user : User) → 0 < length ps → MayBeAsked ask now → ask.caller ≡ caller.Token token
@@ -130,13 +143,17 @@ records-split so sn ps now ask user told some may k of_catalog p (lost r ends is
     (lost_as failed reply.Refused (λ r. Err r) (held_of sn.found) (held_of sn.seen) r (reply_is r) ends))
 
 -- what goes to the catalogue it answered
-pub records_visited : (so sn : Seen) (ps : List Part) (now : ℕ) (ask : Ask) (user : User) (told : Reply) → 0 < length ps → MayBeAsked ask now → IsKnownTo so ask user → asks_catalog ask.request ≡ true
-    → TurnCalls IsLegalCatalog reply.Refused (records.IsTold now user ask) so sn told → Visited (seats so ps) (seats sn ps) now ask told
+pub records_visited : (so sn : Seen) (ps : List Part) (now : ℕ) (ask : Ask) (user : User) (told : Replied) → 0 < length ps → MayBeAsked ask now → IsKnownTo so ask user → asks_catalog ask.request ≡ true
+    → TurnReplies IsLegalCatalog reply.Refused (records.IsTold now user ask) so sn told.reply told.own → Visited (seats so ps) (seats sn ps) now ask (by_catalog told)
 records_visited so sn ps now ask user told some may k of_catalog t =
     let failed = HasRisen sn.found.faults sn.seen.faults in
-    let call = (calls_mean failed failed reply.Refused (records.IsTold now user ask) (CatalogAnswers now user ask)).each (held_of sn.found) (held_of sn.seen) told (λ why. why) (λ h x g is. (is.reply, is.list)) t.calls.call in
-    visited_records so sn ps sn.found now ask told (found_turned IsLegalCatalog reply.Refused (records.IsTold now user ask) so sn told t)
-    (records-split so sn ps now ask user told some may k of_catalog t.begins.begins (split failed reply.Refused (CatalogAnswers now user ask) (held_of sn.found) (held_of sn.seen) told call))
+    let m = t.turn.calls.call.mended in
+    let says = records.IsTold now user ask in
+    let whole = call_again failed reply.Refused says (held_of sn.found) (held_of sn.seen) told.reply t.turn.calls.call in
+    let call = (calls_mean failed failed reply.Refused says (CatalogAnswers now user ask)).each m (held_of sn.seen) told.reply (λ why. why) (λ h x g is. (is.reply, is.list)) whole in
+    let found = found_mended so sn m (found_turned IsLegalCatalog reply.Refused says so sn told.reply t.turn) t.turn.calls.call.mends (leaves_grow m (held_of sn.seen) told.own t.leaves) in
+    visited_records so sn ps (with_held sn m) now ask told found t.leaves
+    (records-split so (record sn { found = with_held sn m }) ps now ask user told.reply some may k of_catalog found.begins.begins (split failed reply.Refused (CatalogAnswers now user ask) m (held_of sn.seen) told.reply call))
 
 -- ---- a refusal before another turn is taken
 
@@ -147,14 +164,14 @@ pub among_none : (c : List Record) (n : ℕ) (user : User) (x : Request) → fir
 among_none c n user x first there = rw (first, there) refl
 
 pub among_visited : (s : Seen) (ps : List Part) (now : ℕ) (ask : Ask) (user : User) (r : Refusal) → 0 < length ps → MayBeAsked ask now → IsKnownTo s ask user → asks_catalog ask.request ≡ false → refusal_among s.seen.list (length ps) user ask.request ≡ Some r
-    → Visited (seats s ps) (seats s ps) now ask (reply.Refused r)
+    → Visited (seats s ps) (seats s ps) now ask (refusing r)
 among_visited s ps now ask user r some may k other among =
     visited_still s ps now ask (reply.Refused r)
     ((tokens_law ⊥).refused (lists (held_of s.seen) (helds ps)) (held_of s.seen) now ask user r (askable (held_of s.seen) (helds ps) (length ps) now ask some (count_helds ps) may) (still_known s (helds ps) ask user k) other
     (subst (λ (n : ℕ). refusal_among s.seen.list n user ask.request ≡ Some r) (sym (count_helds ps)) among))
 
 pub forbidden_visited : (s : Seen) (ps : List Part) (now : ℕ) (ask : Ask) (user : User) (r : Refusal) → 0 < length ps → MayBeAsked ask now → IsKnownTo s ask user → asks_catalog ask.request ≡ false → forbidden user ask.request ≡ Some r
-    → Visited (seats s ps) (seats s ps) now ask (reply.Refused r)
+    → Visited (seats s ps) (seats s ps) now ask (refusing r)
 forbidden_visited s ps now ask user r some may k other is = among_visited s ps now ask user r some may k other (among-first s.seen.list (length ps) user ask.request r (forbidden_first s.seen.list user ask r is))
 
 -- ---- one shard
@@ -185,59 +202,63 @@ part-token failed h m hs k now old held new ask user told can known goes at call
     ((tokens_law failed).shard (lists h (slice_set hs k held)) m held new k now ask user told can known goes (set_get hs k old held at) call)
 
 -- the shard answered, under what was found of the catalogue
-pub part_visited : (so sn : Seen) (ps : List Part) (k : ℕ) (po pn : Part) (found : Tale Record) (now : ℕ) (ask : Ask) (user : User) (told : Reply) → 0 < length ps → slice_get ps k ≡ Some po → MayBeAsked ask now → IsKnownTo so ask user → GoesTo (length ps) user ask.request k
-    → IsFoundBy so sn found → IsSettled (held_of found) (held_of sn.seen) → user_of sn.seen.list ask.caller ≡ Some user → first_refusal sn.seen.list user ask.request ≡ None → IsFoundBy po pn pn.found → Answered sn.seen.list now ask user pn told
-    → Visited (seats so ps) (seats sn (slice_set ps k pn)) now ask told
-part_visited so sn ps k po pn found now ask user told some at may known g first settled user_found free second is =
+pub part_visited : (so sn : Seen) (ps : List Part) (k : ℕ) (po pn : Part) (found : Tale Record) (now : ℕ) (ask : Ask) (user : User) (told : Replied) → 0 < length ps → slice_get ps k ≡ Some po → MayBeAsked ask now → IsKnownTo so ask user → GoesTo (length ps) user ask.request k
+    → IsFoundBy so sn found → Leaves (held_of found) (held_of sn.seen) own.Absent → IsSettled (held_of found) (held_of sn.seen) → user_of sn.seen.list ask.caller ≡ Some user → first_refusal sn.seen.list user ask.request ≡ None → IsFoundBy po pn pn.found → Answered sn.seen.list now ask user pn told
+    → Visited (seats so ps) (seats sn (slice_set ps k pn)) now ask (at_part k told)
+part_visited so sn ps k po pn found now ask user told some at may known g first left settled user_found free second is =
+    let m = is.call.mended in
     let failed = HasRisen pn.found.faults pn.seen.faults in
-    let worse = Either found sn pn.found pn in
+    let worse = Either found sn (with_held pn m) pn in
     let says = ShardAnswers sn.seen.list now user ask in
-    visited_both so sn ps k po pn found pn.found now ask told at first second
-    (part-token worse (held_of found) (held_of sn.seen) (helds ps) k now (held_of po.seen) (held_of pn.found) (held_of pn.seen) ask user told
-    (askable (held_of found) (slice_set (helds ps) k (held_of pn.found)) (length ps) now ask some (count_set ps k (held_of pn.found)) may)
-    (record { token = known.token; caller_is = known.caller_is; settled = settled; found = user_found }) (going sn.seen.list ps k (held_of pn.found) ask user user_found free g) (held_there ps k po at)
-    ((calls_mean failed worse reply.Refused says says).each (held_of pn.found) (held_of pn.seen) told (λ why. inr why) (λ h t l x. x) is.call))
+    visited_both so sn ps k po pn found (with_held pn m) now ask told at first (found_mended po pn m second is.call.mends (leaves_grow m (held_of pn.seen) told.own is.leaves)) left is.leaves
+    (part-token worse (held_of found) (held_of sn.seen) (helds ps) k now (held_of po.seen) m (held_of pn.seen) ask user told.reply
+    (askable (held_of found) (slice_set (helds ps) k m) (length ps) now ask some (count_set ps k m) may)
+    (record { token = known.token; caller_is = known.caller_is; settled = settled; found = user_found }) (going sn.seen.list ps k m ask user user_found free g) (held_there ps k po at)
+    ((calls_mean failed worse reply.Refused says says).each m (held_of pn.seen) told.reply (λ why. inr why) (λ h t l x. x) (call_again failed reply.Refused says (held_of pn.found) (held_of pn.seen) told.reply is.call)))
+
+-- the list is as it was mended
+pub settled_self : (h : Held) → h.doubt ≡ None → IsSettled h h
+settled_self h clear = record { mends = stays h; no_doubt = clear }
 
 -- a request of a user that goes to one shard
-pub came_visited : (so sn : Seen) (ps : List Part) (k : ℕ) (po pn : Part) (now : ℕ) (ask : Ask) (user : User) (told : Reply) → 0 < length ps → slice_get ps k ≡ Some po → MayBeAsked ask now → IsKnownTo so ask user → GoesTo (length ps) user ask.request k
-    → CameTo so sn po pn now ask user told → Visited (seats so ps) (seats sn (slice_set ps k pn)) now ask told
-came_visited so sn ps k po pn now ask user told some at may known g (way.answered first settled user_found free second is) = part_visited so sn ps k po pn sn.found now ask user told some at may known g first settled user_found free second is
+pub came_visited : (so sn : Seen) (ps : List Part) (k : ℕ) (po pn : Part) (now : ℕ) (ask : Ask) (user : User) (told : Replied) → 0 < length ps → slice_get ps k ≡ Some po → MayBeAsked ask now → IsKnownTo so ask user → GoesTo (length ps) user ask.request k
+    → CameTo so sn po pn now ask user told → Visited (seats so ps) (seats sn (slice_set ps k pn)) now ask (at_part k told)
+came_visited so sn ps k po pn now ask user told some at may known g (way.answered first settled user_found free second is) =
+    part_visited so sn ps k po pn (as_seen sn) now ask user told some at may known g (found_settled so sn first settled.mends) (absent (held_of sn.seen)) (settled_self (held_of sn.seen) settled.no_doubt) user_found free second is
 came_visited so sn ps k po pn now ask user told some at may known g (way.answered_alone same free second is) =
-    let settled : IsSettled (held_of so.seen) (held_of so.seen) = record { mends = stays (held_of so.seen); no_doubt = known.known.no_doubt } in
     let other : Answered so.seen.list now ask user pn told = subst (λ (s : Seen). Answered s.seen.list now ask user pn told) same is in
     let clear : first_refusal so.seen.list user ask.request ≡ None = subst (λ (s : Seen). first_refusal s.seen.list user ask.request ≡ None) same free in
-    subst (λ (s : Seen). Visited (seats so ps) (seats s (slice_set ps k pn)) now ask told) (sym same)
-    (part_visited so so ps k po pn so.seen now ask user told some at may known g (found_rested so so (sees_self so)) settled known.known.found clear second other)
+    subst (λ (s : Seen). Visited (seats so ps) (seats s (slice_set ps k pn)) now ask (at_part k told)) (sym same)
+    (part_visited so so ps k po pn so.seen now ask user told some at may known g (found_rested so so (sees_self so)) (absent (held_of so.seen)) (settled_self (held_of so.seen) known.known.no_doubt) known.known.found clear second other)
 came_visited so sn ps k po pn now ask user told some at may known g (way.refused r first settled user_found refuses second is) =
-    let failed = Either sn.found sn pn.seen pn in
+    let failed = Either (as_seen sn) sn pn.seen pn in
     let hs = slice_set (helds ps) k (held_of pn.seen) in
     let long = count_set ps k (held_of pn.seen) in
-    subst (λ (t : Reply). Visited (seats so ps) (seats sn (slice_set ps k pn)) now ask t) (sym is)
-    (visited_both so sn ps k po pn sn.found pn.seen now ask (reply.Refused r) at first second
-    ((tokens_law failed).refused (lists (held_of sn.found) hs) (held_of sn.seen) now ask user r (askable (held_of sn.found) hs (length ps) now ask some long may)
-    (record { token = known.token; caller_is = known.caller_is; settled = settled; found = user_found }) (goes-other ask.request g.goes) (among-first sn.seen.list (length hs) user ask.request r refuses)))
+    subst (λ (t : Replied). Visited (seats so ps) (seats sn (slice_set ps k pn)) now ask (at_part k t)) (sym is)
+    (visited_both so sn ps k po pn (as_seen sn) pn.seen now ask (refused_with r) at (found_settled so sn first settled.mends) second (absent (held_of sn.seen)) (absent (held_of pn.seen))
+    ((tokens_law failed).refused (lists (held_of sn.seen) hs) (held_of sn.seen) now ask user r (askable (held_of sn.seen) hs (length ps) now ask some long may)
+    (record { token = known.token; caller_is = known.caller_is; settled = settled_self (held_of sn.seen) settled.no_doubt; found = user_found }) (goes-other ask.request g.goes) (among-first sn.seen.list (length hs) user ask.request r refuses)))
 came_visited so sn ps k po pn now ask user told some at may known g (way.untold r first ends second is) =
     let failed = HasRisen sn.found.faults sn.seen.faults in
-    let worse = Either sn.found sn pn.seen pn in
+    let worse = Either (as_seen sn) sn pn.seen pn in
     let hs = slice_set (helds ps) k (held_of pn.seen) in
-    let a = lists (held_of sn.found) hs in
-    let b = lists (held_of sn.seen) hs in
-    subst (λ (t : Reply). Visited (seats so ps) (seats sn (slice_set ps k pn)) now ask t) (sym is)
-    (visited_both so sn ps k po pn sn.found pn.seen now ask (reply.Refused r) at first second
-    (Rattle.qz_visit.proofs.Passing.asked_mean failed worse a b now ask (reply.Refused r) (λ why. inl why)
-    (lost-token failed (held_of sn.found) (held_of sn.seen) hs now ask known.token r (askable (held_of sn.found) hs (length ps) now ask some (count_set ps k (held_of pn.seen)) may) known.caller_is ends)))
+    let a = lists (held_of sn.seen) hs in
+    subst (λ (t : Replied). Visited (seats so ps) (seats sn (slice_set ps k pn)) now ask (at_part k t)) (sym is)
+    (visited_both so sn ps k po pn (as_seen sn) pn.seen now ask (refused_with r) at (found_settled so sn first (lost_mend failed (held_of sn.found) (held_of sn.seen) r ends)) second (absent (held_of sn.seen)) (absent (held_of pn.seen))
+    (asked_mean failed worse a a now ask (reply.Refused r) (λ why. inl why)
+    (lost-token failed (held_of sn.seen) (held_of sn.seen) hs now ask known.token r (askable (held_of sn.seen) hs (length ps) now ask some (count_set ps k (held_of pn.seen)) may) known.caller_is (lost_again failed (held_of sn.found) (held_of sn.seen) r ends))))
 
 -- a look at the catalogue that didn't tell what was looked for, in a request that goes to shards
 pub unlooked_visited : (so sn : Seen) (ps : List Part) (now : ℕ) (ask : Ask) (user : User) (r : Refusal) → 0 < length ps → MayBeAsked ask now → IsKnownTo so ask user → asks_catalog ask.request ≡ false → IsFoundBy so sn sn.found
     → (IsSettled (held_of sn.found) (held_of sn.seen) × (refusal_among sn.seen.list (length ps) user ask.request ≡ Some r)) ⊎ LookEnds (HasRisen sn.found.faults sn.seen.faults) (λ r. Err r) (λ (_ : List Record) (_ : Result (Unit {0}) Refusal). ⊥) (held_of sn.found) (held_of sn.seen) (Err r)
-    → Visited (seats so ps) (seats sn ps) now ask (reply.Refused r)
+    → Visited (seats so ps) (seats sn ps) now ask (refusing r)
 unlooked_visited so sn ps now ask user r some may k other first (inl both) =
     let failed = HasRisen sn.found.faults sn.seen.faults in
     let found = user_on so.seen.list sn.seen.list ask.caller user (found_sees so sn sn.found first).begins.begins k.known.found in
-    visited_records so sn ps sn.found now ask (reply.Refused r) first
-    ((tokens_law failed).refused (lists (held_of sn.found) (helds ps)) (held_of sn.seen) now ask user r (askable (held_of sn.found) (helds ps) (length ps) now ask some (count_helds ps) may)
-    (record { token = k.token; caller_is = k.caller_is; settled = both.0; found = found }) other (subst (λ (n : ℕ). refusal_among sn.seen.list n user ask.request ≡ Some r) (sym (count_helds ps)) both.1))
+    visited_records so sn ps (as_seen sn) now ask (refused_with r) (found_settled so sn first both.0.mends) (absent (held_of sn.seen))
+    ((tokens_law failed).refused (lists (held_of sn.seen) (helds ps)) (held_of sn.seen) now ask user r (askable (held_of sn.seen) (helds ps) (length ps) now ask some (count_helds ps) may)
+    (record { token = k.token; caller_is = k.caller_is; settled = settled_self (held_of sn.seen) both.0.no_doubt; found = found }) other (subst (λ (n : ℕ). refusal_among sn.seen.list n user ask.request ≡ Some r) (sym (count_helds ps)) both.1))
 unlooked_visited so sn ps now ask user r some may k other first (inr ends) =
     let failed = HasRisen sn.found.faults sn.seen.faults in
-    visited_records so sn ps sn.found now ask (reply.Refused r) first
-    (lost-token failed (held_of sn.found) (held_of sn.seen) (helds ps) now ask k.token r (askable (held_of sn.found) (helds ps) (length ps) now ask some (count_helds ps) may) k.caller_is ends)
+    visited_records so sn ps (as_seen sn) now ask (refused_with r) (found_settled so sn first (lost_mend failed (held_of sn.found) (held_of sn.seen) r ends)) (absent (held_of sn.seen))
+    (lost-token failed (held_of sn.seen) (held_of sn.seen) (helds ps) now ask k.token r (askable (held_of sn.seen) (helds ps) (length ps) now ask some (count_helds ps) may) k.caller_is (lost_again failed (held_of sn.found) (held_of sn.seen) r ends))

@@ -1,14 +1,16 @@
 -- What a request of a user at one shard came to, from what its turns came to.
 use Rattle.std.proofs.Common.{◌≡◌, ◌⊎◌, inl, inr, ℕ, ◌%◌, Bool, true, false, List, ◌∷◌, [], Some, None, Result, Ok, Err, MatchResult, refl, sym, ap, ◌∙◌, subst, eq-eqb}
 use Rattle.qz_catalog.specs.Keeping.{TellsJob, TellsPlan}
+use Rattle.qz_catalog_turns.specs.declared.replied.Replied.{Replied}
+use Rattle.qz_catalog_turns.specs.Owning.{Leaves, absent}
 use Rattle.qz_catalog_turns.specs.Turning.{TurnCalls, held_of}
 use Rattle.qz_grading.specs.declared.refusal.AttemptId.{AttemptId}
 use Rattle.qz_grading.specs.declared.refusal.Refusal.{Refusal}
 use Rattle.qz_grading.specs.Behaviours.{first_some}
-use Rattle.qz_keeper.specs.Lists.{IsSettled, Looks, OneCall}
+use Rattle.qz_keeper.specs.Lists.{CallEnds, IsSettled, Looks, OneCall}
 use Rattle.qz_outside.specs.Causes.{HasRisen}
 use Rattle.qz_serial.specs.Calls.{LookEnds, ShardAnswers}
-use Rattle.qz_serial.proofs.Composing.{calls_mean, look_ends, looks_are_calls}
+use Rattle.qz_serial.proofs.Composing.{ends_mean, look_ends}
 use Rattle.qz_serial.proofs.Workers.{err-is}
 use Rattle.qz_shard.specs.Holdings.{Holding}
 use Rattle.qz_shard.specs.Keeping.{TellsQuiz}
@@ -33,25 +35,40 @@ use Rattle.qz_terms.specs.Legal.{AllAgree, is_here}
 use Rattle.qz_terms.specs.SchoolAnswer.{part_of}
 use Rattle.qz_visit.specs.Visits.{IsFoundBy}
 use Rattle.qz_visit.specs.Ways as way
-use Rattle.qz_visit.specs.Ways.{Answered, CameTo, Comes, IsKnownBy, Part, Planned, Seen, Stepped, Tried}
+use Rattle.qz_visit.specs.Ways.{Answered, CameTo, Comes, IsKnownBy, Part, Planned, Seen, Stepped, Tried, refused_with}
 use Rattle.qz_visit.proofs.Asking.{untold_split, user_on}
-use Rattle.qz_visit.proofs.Passing.{found_after, found_rested, found_sees, found_turned, sees_self}
+use Rattle.qz_visit.proofs.Owning.{ends_mend, look_is_call}
+use Rattle.qz_visit.proofs.Passing.{found_after, found_rested, found_sees, found_turned, put_none, sees_self}
 
 -- a user who was seen is seen still
 seen-user : (so sn : Seen) (ask : Ask) (user : User) → SeesMore so sn → catalog.user_of so.seen.list ask.caller ≡ Some user → catalog.user_of sn.seen.list ask.caller ≡ Some user
 seen-user so sn ask user sees found = user_on so.seen.list sn.seen.list ask.caller user sees.begins.begins found
+
+-- a look at the shard that is its answer, and puts nothing
+look-answered : {A : Type 0} (c : List Record) (pn : Part) (now : ℕ) (ask : Ask) (user : User) (refused : Refusal → A) (Says : List Record → A → Type 0) (told : A) (said : Reply) → LookEnds (HasRisen pn.found.faults pn.seen.faults) refused Says (held_of pn.found) (held_of pn.seen) told
+    → (Says pn.seen.list told → ShardAnswers c now user ask pn.seen.list said pn.seen.list) → ((r : Refusal) → told ≡ refused r → said ≡ reply.Refused r) → Answered c now ask user pn (put_none said)
+look-answered c pn now ask user refused Says told said ends means same =
+    let failed = HasRisen pn.found.faults pn.seen.faults in
+    record {
+      call = record {
+        mended = held_of pn.seen;
+        mends = ends_mend failed refused Says (held_of pn.found) (held_of pn.seen) told ends;
+        ends = look_is_call failed refused Says reply.Refused (ShardAnswers c now user ask) (held_of pn.found) (held_of pn.seen) told said ends means same;
+      };
+      leaves = absent (held_of pn.seen);
+    }
 
 -- ---- under the plan of a quiz that the request names
 
 planless-quiz : (so sn : Seen) (po pn : Part) (now : ℕ) (ask : Ask) (user : User) (quiz owner : ℕ) (whole : Bool) (r : Refusal) → catalog.user_of sn.seen.list ask.caller ≡ Some user → forbidden user ask.request ≡ None → NamesQuiz user ask.request quiz owner whole
     → IsFoundBy so sn sn.found → IsFoundBy po pn pn.seen
     → (IsSettled (held_of sn.found) (held_of sn.seen) × (first_some (missing_quiz sn.seen.list quiz ∷ missing_user sn.seen.list owner ∷ []) ≡ Some r)) ⊎ LookEnds (HasRisen sn.found.faults sn.seen.faults) (λ r. Err r) (λ (_ : List Record) (_ : Result (Unit {0}) Refusal). ⊥) (held_of sn.found) (held_of sn.seen) (Err r)
-    → CameTo so sn po pn now ask user (reply.Refused r)
+    → CameTo so sn po pn now ask user (refused_with r)
 planless-quiz so sn po pn now ask user quiz owner whole r found may names first second (inl both) =
     way.refused r first both.0 found (refused_quiz sn.seen.list ask.caller user ask.request quiz owner whole r found may names both.1) second refl
 planless-quiz so sn po pn now ask user quiz owner whole r found may names first second (inr ends) = way.untold r first ends second refl
 
-pub quiz_came : (so sn : Seen) (po pn : Part) (now : ℕ) (ask : Ask) (user : User) (quiz owner : ℕ) (whole : Bool) (told : Reply) → IsKnownBy so ask user → forbidden user ask.request ≡ None → NamesQuiz user ask.request quiz owner whole
+pub quiz_came : (so sn : Seen) (po pn : Part) (now : ℕ) (ask : Ask) (user : User) (quiz owner : ℕ) (whole : Bool) (told : Replied) → IsKnownBy so ask user → forbidden user ask.request ≡ None → NamesQuiz user ask.request quiz owner whole
     → Planned so sn po pn now ask user quiz owner whole told → CameTo so sn po pn now ask user told
 quiz_came so sn po pn now ask user quiz owner whole told known may names (way.under p first mended plan second is) =
     let found = seen-user so sn ask user (found_sees so sn sn.found first) known.found in
@@ -67,15 +84,13 @@ abbrev over : List Record → Holding
 over h = record { index = 0; count = 0; records = h }
 
 unfound-answer : (c : List Record) (pn : Part) (now : ℕ) (ask : Ask) (user : User) (attempt : AttemptId) (r : Refusal) → forbidden user ask.request ≡ None → attempt_named ask.request ≡ Some attempt
-    → OneCall (HasRisen pn.found.faults pn.seen.faults) (λ r. Err r) (Looks (TellsQuiz attempt)) (held_of pn.found) (held_of pn.seen) (Err r) → Answered c now ask user pn (reply.Refused r)
+    → OneCall (HasRisen pn.found.faults pn.seen.faults) (λ r. Err r) (Looks (TellsQuiz attempt)) (held_of pn.found) (held_of pn.seen) (Err r) → Answered c now ask user pn (refused_with r)
 unfound-answer c pn now ask user attempt r may named call =
     let failed = HasRisen pn.found.faults pn.seen.faults in
     let ends = look_ends failed (λ r. Err r) (TellsQuiz attempt) (held_of pn.found) (held_of pn.seen) (Err r) call in
-    record {
-      call = (looks_are_calls failed (λ r. Err r) (TellsQuiz attempt) reply.Refused (ShardAnswers c now user ask)).alone (held_of pn.found) (held_of pn.seen) (Err r) (reply.Refused r) ends
-          (λ says. subst (λ (x : Refusal). ShardAnswers c now user ask pn.seen.list (reply.Refused x) pn.seen.list) (sym says.1) (absent_means c (over pn.seen.list) now user ask attempt may named says.0))
-          (λ x is. ap reply.Refused (err-is r x is));
-    }
+    look-answered c pn now ask user (λ r. Err r) (TellsQuiz attempt) (Err r) (reply.Refused r) ends
+    (λ says. subst (λ (x : Refusal). ShardAnswers c now user ask pn.seen.list (reply.Refused x) pn.seen.list) (sym says.1) (absent_means c (over pn.seen.list) now user ask attempt may named says.0))
+    (λ x is. ap reply.Refused (err-is r x is))
 
 -- a catalogue with which the shard agrees has the quiz and the user of an attempt
 pub no_missing : {A : Type 0} (sm sn : Seen) (pm : Part) (attempt : AttemptId) (q : ℕ) (r : Refusal) → SeesMore sm sn → AllAgree sm.seen.list pm.seen.list → history.quiz pm.seen.list attempt ≡ Some q
@@ -84,7 +99,7 @@ no_missing sm sn pm attempt q r sees agree of_quiz first =
     let none : None ≡ Some r = sym (plan_there sn.seen.list pm.seen.list attempt q (agree-on sm.seen.list sn.seen.list pm.seen.list sees.begins.begins agree) of_quiz) ∙ first in
     absurd cc
 
-attempt-planned : (so sm sn : Seen) (po pm pn : Part) (now : ℕ) (ask : Ask) (user : User) (attempt : AttemptId) (q : ℕ) (told : Reply) → catalog.user_of so.seen.list ask.caller ≡ Some user → forbidden user ask.request ≡ None → attempt_named ask.request ≡ Some attempt
+attempt-planned : (so sm sn : Seen) (po pm pn : Part) (now : ℕ) (ask : Ask) (user : User) (attempt : AttemptId) (q : ℕ) (told : Replied) → catalog.user_of so.seen.list ask.caller ≡ Some user → forbidden user ask.request ≡ None → attempt_named ask.request ≡ Some attempt
     → SeesMore so sm → SeesMore po pm → history.quiz pm.seen.list attempt ≡ Some q → AllAgree sm.seen.list pm.seen.list → Planned sm sn pm pn now ask user q attempt.user false told → CameTo so sn po pn now ask user told
 attempt-planned so sm sn po pm pn now ask user attempt q told known may named sees looks of_quiz agree (way.under p first mended plan second is) =
     let whole = found_after so sm sn sn.found sees first in
@@ -96,7 +111,7 @@ attempt-planned so sm sn po pm pn now ask user attempt q told known may named se
       | inr ends ↦ way.untold r (found_after so sm sn sn.found sees first) ends (found_after po pm pn pn.seen looks second) refl
     ])
 
-pub attempt_came : (so sn : Seen) (po pn : Part) (now : ℕ) (ask : Ask) (user : User) (attempt : AttemptId) (told : Reply) → catalog.user_of so.seen.list ask.caller ≡ Some user → forbidden user ask.request ≡ None → attempt_named ask.request ≡ Some attempt
+pub attempt_came : (so sn : Seen) (po pn : Part) (now : ℕ) (ask : Ask) (user : User) (attempt : AttemptId) (told : Replied) → catalog.user_of so.seen.list ask.caller ≡ Some user → forbidden user ask.request ≡ None → attempt_named ask.request ≡ Some attempt
     → Tried so sn po pn now ask user attempt told → CameTo so sn po pn now ask user told
 attempt_came so sn po pn now ask user attempt told known may named (way.unfound r same second call is) =
     way.answered_alone same (named_free sn.seen.list (over pn.seen.list) user ask.request attempt may named) second (subst (Answered sn.seen.list now ask user pn) (sym is) (unfound-answer sn.seen.list pn now ask user attempt r may named call))
@@ -106,35 +121,41 @@ attempt_came so sn po pn now ask user attempt told known may named (way.of_quiz 
 -- ---- the attempts that go on
 
 pub live_came : (P : List Record → Type 0) (so : Seen) (po pn : Part) (now : ℕ) (ask : Ask) (user : User) (shard : ℕ) (attempt : AttemptId) (told : Reply) → ask.request ≡ request.Live shard attempt → forbidden user ask.request ≡ None
-    → TurnCalls P reply.Refused (Looks (λ h t. t ≡ live_answer h attempt)) po pn told → CameTo so so po pn now ask user told
+    → TurnCalls P reply.Refused (Looks (λ h t. t ≡ live_answer h attempt)) po pn told → CameTo so so po pn now ask user (put_none told)
 live_came P so po pn now ask user shard attempt told is may t =
     let failed = HasRisen pn.found.faults pn.seen.faults in
+    let says = λ (h : List Record) (t : Reply). t ≡ live_answer h attempt in
     let free : forbidden user (request.Live shard attempt) ≡ None = rw is at may in
-    way.answered_alone refl (rw (is, free) refl) (found_turned P reply.Refused (Looks (λ h t. t ≡ live_answer h attempt)) po pn told t)
-    (record {
-      call = (calls_mean failed failed reply.Refused (Looks (λ h t. t ≡ live_answer h attempt)) (ShardAnswers so.seen.list now user ask)).each (held_of pn.found) (held_of pn.seen) told (λ why. why)
-          (λ h t l says. (says.0 ∙ rw (is, free) refl, says.1 ∙ rw (is, free) refl)) t.calls.call;
-    })
+    let ends = look_ends failed reply.Refused says (held_of pn.found) (held_of pn.seen) told t.calls.call in
+    way.answered_alone refl (rw (is, free) refl) (found_turned P reply.Refused (Looks says) po pn told t)
+    (look-answered so.seen.list pn now ask user reply.Refused says told told ends (λ said. (said ∙ rw (is, free) refl, rw (is, free) refl)) (λ r same. same))
 
 -- ---- a step of a job
 
-pub step_answer : (c : List Record) (pn : Part) (now : ℕ) (ask : Ask) (user : User) (number shard : ℕ) (job : _) (told : Reply) → ask.request ≡ request.Work number shard → forbidden user ask.request ≡ None → catalog.job c number ≡ Some job
-    → OneCall (HasRisen pn.found.faults pn.seen.faults) reply.Refused (λ h t g. IsWorked h now user.number job t g) (held_of pn.found) (held_of pn.seen) told → Answered c now ask user pn told
-step_answer c pn now ask user number shard job told is may there call =
+-- what the shard does, from its mended list on
+pub step_ends : (c : List Record) (pn : Part) (now : ℕ) (ask : Ask) (user : User) (number shard : ℕ) (job : _) (told : Replied) → ask.request ≡ request.Work number shard → forbidden user ask.request ≡ None → catalog.job c number ≡ Some job
+    → (call : OneCall (HasRisen pn.found.faults pn.seen.faults) reply.Refused (λ h t g. IsWorked h now user.number job t g) (held_of pn.found) (held_of pn.seen) told.reply)
+    → CallEnds (HasRisen pn.found.faults pn.seen.faults) reply.Refused (ShardAnswers c now user ask) call.mended (held_of pn.seen) told.reply
+step_ends c pn now ask user number shard job told is may there call =
     let failed = HasRisen pn.found.faults pn.seen.faults in
     let free : forbidden user (request.Work number shard) ≡ None = rw is at may in
     let present = job_present c number shard job there in
-    record {
-      call = (calls_mean failed failed reply.Refused (λ h t g. IsWorked h now user.number job t g) (ShardAnswers c now user ask)).each (held_of pn.found) (held_of pn.seen) told (λ why. why)
-          (λ h t l says. (says.reply ∙ sym (rw (is, free, present, there) refl), says.list ∙ sym (rw (is, free, present, there) refl))) call;
-    }
+    ends_mean failed failed reply.Refused (λ h t g. IsWorked h now user.number job t g) (ShardAnswers c now user ask) call.mended (held_of pn.seen) told.reply (λ why. why)
+    (λ t l says. (says.reply ∙ sym (rw (is, free, present, there) refl), says.list ∙ sym (rw (is, free, present, there) refl))) call.ends
 
-pub step_came : (so sn : Seen) (po pn : Part) (now : ℕ) (ask : Ask) (user : User) (number shard : ℕ) (told : Reply) → IsKnownBy so ask user → forbidden user ask.request ≡ None → ask.request ≡ request.Work number shard
+step-answer : (c : List Record) (pn : Part) (now : ℕ) (ask : Ask) (user : User) (number shard : ℕ) (job : _) (told : Replied) → ask.request ≡ request.Work number shard → forbidden user ask.request ≡ None → catalog.job c number ≡ Some job
+    → (call : OneCall (HasRisen pn.found.faults pn.seen.faults) reply.Refused (λ h t g. IsWorked h now user.number job t g) (held_of pn.found) (held_of pn.seen) told.reply) → Leaves call.mended (held_of pn.seen) told.own → Answered c now ask user pn told
+step-answer c pn now ask user number shard job told is may there call leaves = record {
+  call = record { mended = call.mended; mends = call.mends; ends = step_ends c pn now ask user number shard job told is may there call };
+  leaves = leaves;
+}
+
+pub step_came : (so sn : Seen) (po pn : Part) (now : ℕ) (ask : Ask) (user : User) (number shard : ℕ) (told : Replied) → IsKnownBy so ask user → forbidden user ask.request ≡ None → ask.request ≡ request.Work number shard
     → Stepped so sn po pn now ask user number told → CameTo so sn po pn now ask user told
-step_came so sn po pn now ask user number shard told known may is (way.taken job first mended there second call) =
+step_came so sn po pn now ask user number shard told known may is (way.taken job first mended there second call leaves) =
     let free : forbidden user (request.Work number shard) ≡ None = rw is at may in
     let present = job_present sn.seen.list number shard job there.job_is in
-    way.answered first mended (seen-user so sn ask user (found_sees so sn sn.found first) known.found) (rw (is, free, present) refl) second (step_answer sn.seen.list pn now ask user number shard job told is may there.job_is call)
+    way.answered first mended (seen-user so sn ask user (found_sees so sn sn.found first) known.found) (rw (is, free, present) refl) second (step-answer sn.seen.list pn now ask user number shard job told is may there.job_is call leaves)
 step_came so sn po pn now ask user number shard told known may is (way.jobless r first untold legal same said) =
     let free : forbidden user (request.Work number shard) ≡ None = rw is at may in
     let rested = subst (λ (p : Part). IsFoundBy po p p.seen) (sym same) (found_rested po po (sees_self po)) in
@@ -148,20 +169,20 @@ step_came so sn po pn now ask user number shard told known may is (way.jobless r
 
 -- ---- of results
 
-pub quiz_comes : (so sn : Seen) (po pn : Part) (now : ℕ) (ask : Ask) (user : User) (quiz owner : ℕ) (whole : Bool) (result : Result Reply Refusal) → IsKnownBy so ask user → forbidden user ask.request ≡ None → NamesQuiz user ask.request quiz owner whole
-    → MatchResult result (Planned so sn po pn now ask user quiz owner whole) (λ r. Planned so sn po pn now ask user quiz owner whole (reply.Refused r)) → Comes so sn po pn now ask user result
+pub quiz_comes : (so sn : Seen) (po pn : Part) (now : ℕ) (ask : Ask) (user : User) (quiz owner : ℕ) (whole : Bool) (result : Result Replied Refusal) → IsKnownBy so ask user → forbidden user ask.request ≡ None → NamesQuiz user ask.request quiz owner whole
+    → MatchResult result (Planned so sn po pn now ask user quiz owner whole) (λ r. Planned so sn po pn now ask user quiz owner whole (refused_with r)) → Comes so sn po pn now ask user result
 quiz_comes so sn po pn now ask user quiz owner whole (Ok told) known may names planned = quiz_came so sn po pn now ask user quiz owner whole told known may names planned
-quiz_comes so sn po pn now ask user quiz owner whole (Err r) known may names planned = quiz_came so sn po pn now ask user quiz owner whole (reply.Refused r) known may names planned
+quiz_comes so sn po pn now ask user quiz owner whole (Err r) known may names planned = quiz_came so sn po pn now ask user quiz owner whole (refused_with r) known may names planned
 
-pub attempt_comes : (so sn : Seen) (po pn : Part) (now : ℕ) (ask : Ask) (user : User) (attempt : AttemptId) (result : Result Reply Refusal) → catalog.user_of so.seen.list ask.caller ≡ Some user → forbidden user ask.request ≡ None → attempt_named ask.request ≡ Some attempt
-    → MatchResult result (Tried so sn po pn now ask user attempt) (λ r. Tried so sn po pn now ask user attempt (reply.Refused r)) → Comes so sn po pn now ask user result
+pub attempt_comes : (so sn : Seen) (po pn : Part) (now : ℕ) (ask : Ask) (user : User) (attempt : AttemptId) (result : Result Replied Refusal) → catalog.user_of so.seen.list ask.caller ≡ Some user → forbidden user ask.request ≡ None → attempt_named ask.request ≡ Some attempt
+    → MatchResult result (Tried so sn po pn now ask user attempt) (λ r. Tried so sn po pn now ask user attempt (refused_with r)) → Comes so sn po pn now ask user result
 attempt_comes so sn po pn now ask user attempt (Ok told) known may named tried = attempt_came so sn po pn now ask user attempt told known may named tried
-attempt_comes so sn po pn now ask user attempt (Err r) known may named tried = attempt_came so sn po pn now ask user attempt (reply.Refused r) known may named tried
+attempt_comes so sn po pn now ask user attempt (Err r) known may named tried = attempt_came so sn po pn now ask user attempt (refused_with r) known may named tried
 
-pub step_comes : (so sn : Seen) (po pn : Part) (now : ℕ) (ask : Ask) (user : User) (number shard : ℕ) (result : Result Reply Refusal) → IsKnownBy so ask user → forbidden user ask.request ≡ None → ask.request ≡ request.Work number shard
-    → MatchResult result (Stepped so sn po pn now ask user number) (λ r. Stepped so sn po pn now ask user number (reply.Refused r)) → Comes so sn po pn now ask user result
+pub step_comes : (so sn : Seen) (po pn : Part) (now : ℕ) (ask : Ask) (user : User) (number shard : ℕ) (result : Result Replied Refusal) → IsKnownBy so ask user → forbidden user ask.request ≡ None → ask.request ≡ request.Work number shard
+    → MatchResult result (Stepped so sn po pn now ask user number) (λ r. Stepped so sn po pn now ask user number (refused_with r)) → Comes so sn po pn now ask user result
 step_comes so sn po pn now ask user number shard (Ok told) known may is stepped = step_came so sn po pn now ask user number shard told known may is stepped
-step_comes so sn po pn now ask user number shard (Err r) known may is stepped = step_came so sn po pn now ask user number shard (reply.Refused r) known may is stepped
+step_comes so sn po pn now ask user number shard (Err r) known may is stepped = step_came so sn po pn now ask user number shard (refused_with r) known may is stepped
 
 -- the user whose plan is asked for belongs to the shard
 pub quiz_here : (user : User) (x : Request) (quiz owner index count : ℕ) (whole : Bool) → NamesQuiz user x quiz owner whole → part_of count user x ≡ index → is_here index count owner ≡ true

@@ -1,5 +1,5 @@
 -- Passes of a school from its opening to its closing.
-use Rattle.std.proofs.Common.{◌≡◌, ◌≢◌, ℕ, zero, suc, ◌<◌, ◌≤◌, List, [], ◌∷◌, ◌++◌, Option, Some, None, length, map, refl, sym, ap, ◌∙◌, subst, arith}
+use Rattle.std.proofs.Common.{◌≡◌, ◌≢◌, ℕ, zero, suc, ◌<◌, List, [], ◌∷◌, ◌++◌, Some, length, map, refl, sym, ap, ◌∙◌, subst, arith}
 use Rattle.std.specs.Prelude.{drop, slice_get, take}
 use Rattle.std.proofs.lemmas.List.{length-map}
 use Rattle.std.proofs.lemmas.Option.{slice_get_within}
@@ -16,7 +16,9 @@ use Rattle.qz_turn.specs.Rule.{HasEvery, below}
 use Rattle.qz_turn.specs.Turns.{left_of, split_off}
 use Rattle.qz_visit.specs.Closing.{ArePasses, HasFounding, HaveEvery, JoinsAll}
 use Rattle.qz_visit.specs.Opening.{Opens, Splits}
-use Rattle.qz_visit.specs.Visits.{AreFoundBy, AreOf, Locks, Seats, Visited, Visitor, more, none}
+use Rattle.qz_visit.specs.declared.last.Last.{Last}
+use Rattle.qz_visit.specs.declared.last.Said.{Said}
+use Rattle.qz_visit.specs.Visits.{AreFoundBy, AreOf, Asked, Locks, Seats, Visited, Visitor, more, none, said_by}
 use Rattle.qz_visit.specs.Ways.{Part}
 use Rattle.qz_visit.proofs.Closed.{founded_on}
 use Rattle.qz_visit.proofs.Opened.{many_opened}
@@ -90,7 +92,7 @@ found-there _ _ _ zero p q (more old new found os ns fs one rest) at there =
     subst (λ (x : Part). SeesMore x q) first (subst (SeesMore old) second (found_sees old new found one))
 found-there _ _ _ (suc k) p q (more old new found os ns fs one rest) at there = found-there os ns fs k p q rest at there
 
-pub visit_sees : (old new : Seats) (now : ℕ) (ask : Ask) (told : Reply) → Visited old new now ask told → SeeMore old new
+pub visit_sees : (old new : Seats) (now : ℕ) (ask : Ask) (told : Said) → Visited old new now ask told → SeeMore old new
 visit_sees old new now ask told v = record {
   records = found_sees old.records new.records v.found.records v.records;
   count = count-found old.parts new.parts v.found.parts v.parts;
@@ -119,8 +121,8 @@ goes_self v = record { school = refl; passes = more_self v.passes }
 pub goes_on : (a b c : Visitor) → GoesOn a b → GoesOn b c → GoesOn a c
 goes_on a b c one other = record { school = other.school ∙ one.school; passes = more_on a.passes b.passes c.passes one.passes other.passes }
 
-pub goes_asked : (a b : Visitor) (now : ℕ) (ask : Ask) (told : Reply) → (b.school ≡ a.school) × (Visited a.passes b.passes now ask told) → GoesOn a b
-goes_asked a b now ask told both = record { school = both.0; passes = visit_sees a.passes b.passes now ask told both.1 }
+pub goes_asked : (a b : Visitor) (now : ℕ) (ask : Ask) (told : Reply) → (b.school ≡ a.school) × (Asked a.passes b.passes b.last now ask told) → GoesOn a b
+goes_asked a b now ask told both = record { school = both.0; passes = visit_sees a.passes b.passes now ask (said_by told b.last) both.1.visited }
 
 pub holds_on : (s : Locks) (ns : List ℕ) (p q : Seats) → Holds s ns p → SeeMore p q → Holds s ns q
 holds_on s ns p q h m = record {
@@ -135,13 +137,13 @@ holds_on s ns p q h m = record {
   founded = founded_on p.records.seen.list q.records.seen.list (length s.parts) m.records.begins.begins h.founded;
 }
 
-pub holds_gone : (s : Locks) (a b : Visitor) (p q : Seats) → a ≡ record { school = s; passes = p } → GoesOn a b → q ≡ b.passes → (ns : List ℕ) → Holds s ns p → Holds s ns q
-holds_gone s a b p q begins goes ends ns h =
+pub holds_gone : (s : Locks) (a b : Visitor) (p q : Seats) (l : Last) → a ≡ record { school = s; passes = p; last = l } → GoesOn a b → q ≡ b.passes → (ns : List ℕ) → Holds s ns p → Holds s ns q
+holds_gone s a b p q l begins goes ends ns h =
     let first : a.passes ≡ p = ap (λ (v : Visitor). v.passes) begins in
     subst (Holds s ns) (sym ends) (holds_on s ns p b.passes h (subst (λ (x : Seats). SeeMore x b.passes) first goes.passes))
 
-pub own_gone : (s : Locks) (a b : Visitor) (p q : Seats) → a ≡ record { school = s; passes = p } → GoesOn a b → AreOf b.school q → AreOf s q
-own_gone s a b p q begins goes own = subst (λ (x : Locks). AreOf x q) (goes.school ∙ ap (λ (v : Visitor). v.school) begins) own
+pub own_gone : (s : Locks) (a b : Visitor) (p q : Seats) (l : Last) → a ≡ record { school = s; passes = p; last = l } → GoesOn a b → AreOf b.school q → AreOf s q
+own_gone s a b p q l begins goes own = subst (λ (x : Locks). AreOf x q) (goes.school ∙ ap (λ (v : Visitor). v.school) begins) own
 
 -- ---- joining and closing
 

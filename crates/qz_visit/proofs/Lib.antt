@@ -1,9 +1,11 @@
+pub mod Owning
 pub mod Passing
 pub mod Asking
 pub mod Planning
 pub mod Coming
 pub mod Turning
 pub mod Working
+pub mod Counting
 pub mod Reporting
 pub mod Standing
 pub mod Closed

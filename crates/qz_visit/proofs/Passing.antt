@@ -1,23 +1,30 @@
 -- What requests do to passes, and the lists that these tell.
-use Rattle.std.proofs.Common.{◌≡◌, ◌⊎◌, inl, inr, ℕ, zero, suc, List, [], ◌∷◌, Some, length, map, refl, sym, ap, ◌∙◌, subst}
+use Rattle.std.proofs.Common.{◌≡◌, ◌⊎◌, inl, inr, ℕ, zero, suc, List, [], ◌∷◌, Some, None, length, map, refl, sym, ap, ◌∙◌, subst}
 use Rattle.std.specs.Prelude.{slice_get, slice_set}
 use Rattle.std.proofs.lemmas.List.{length-map, map-set}
 use Rattle.std.proofs.lemmas.Option.{slice_get-map}
+use Rattle.qz_catalog_turns.specs.declared.replied.OwnRecord.TheVariants as own
+use Rattle.qz_catalog_turns.specs.declared.replied.Replied.{Replied}
+use Rattle.qz_catalog_turns.specs.Owning.{Leaves, absent}
 use Rattle.qz_catalog_turns.specs.Turning.{TurnCalls, held_of}
 use Rattle.qz_grading.specs.declared.refusal.Refusal.{Refusal}
+use Rattle.qz_keeper.specs.Lists.{Looks}
 use Rattle.qz_outside.specs.Causes.{HasRisen}
 use Rattle.qz_serial.specs.Once.{AskedOnce}
+use Rattle.qz_serial.proofs.Composing.{look_ends}
 use Rattle.qz_serial.proofs.Seats.{set_get}
 use Rattle.qz_shard_turns.specs.Tying.{SeesMore}
 use Rattle.qz_terms.specs.declared.ask.Ask.{Ask}
 use Rattle.qz_terms.specs.declared.record.Record.{Record}
 use Rattle.qz_terms.specs.declared.reply.Reply.{Reply}
-use Rattle.qz_terms.specs.Serial.{Held, Lists}
+use Rattle.qz_terms.specs.Serial.{Held, Lists, stays}
 use Rattle.qz_turn.specs.declared.view.Tale.{Tale}
 use Rattle.qz_turn.specs.Passes.{Standing}
 use Rattle.qz_turn.proofs.Prefixes.{follows_self, follows_trans}
-use Rattle.qz_visit.specs.Visits.{AreFoundBy, IsFoundBy, Rose, Seats, Tellings, Visited, lists_told, more, none, of_catalog, of_shard, seen_by}
+use Rattle.qz_visit.specs.declared.last.Said.{Said}
+use Rattle.qz_visit.specs.Visits.{AreFoundBy, IsFoundBy, Rose, Seats, Tellings, Visited, at_part, lists_told, more, none, of_catalog, of_shard, seen_by}
 use Rattle.qz_visit.specs.Ways.{Part, Seen}
+use Rattle.qz_visit.proofs.Owning.{as_seen, ends_mend, found_settled, leaves_none, leaves_there}
 
 -- ---- one pass
 
@@ -47,7 +54,12 @@ pub found_sees : {K : Type 0} (a b : Standing Record K) (t : Tale Record) → Is
 found_sees a b t is = record { begins = follows_trans a.seen t b.seen is.begins is.grows; numbers = is.numbers; lock = is.lock }
 
 pub found_turned : {A K : Type 0} (P : List Record → Type 0) (refused : Refusal → A) (Answers : List Record → A → List Record → Type 0) (old new : Standing Record K) (told : A) → TurnCalls P refused Answers old new told → IsFoundBy old new new.found
-found_turned P refused Answers old new told t = record { begins = t.begins; grows = t.grows; last = inl refl; numbers = t.numbers; lock = t.lock }
+found_turned P refused Answers old new told t = record { begins = t.begins; grows = t.grows; last = inl (stays (held_of new.found), refl); numbers = t.numbers; lock = t.lock }
+
+pub found_looked : {A K : Type 0} (P : List Record → Type 0) (refused : Refusal → A) (Says : List Record → A → Type 0) (old new : Standing Record K) (told : A) → TurnCalls P refused (Looks Says) old new told → IsFoundBy old new (as_seen new)
+found_looked P refused Says old new told t =
+    let failed = HasRisen new.found.faults new.seen.faults in
+    found_settled old new (found_turned P refused (Looks Says) old new told t) (ends_mend failed refused Says (held_of new.found) (held_of new.seen) told (look_ends failed refused Says (held_of new.found) (held_of new.seen) told t.calls.call))
 
 pub turn_sees : {A K : Type 0} (P : List Record → Type 0) (refused : Refusal → A) (Answers : List Record → A → List Record → Type 0) (old new : Standing Record K) (told : A) → TurnCalls P refused Answers old new told → SeesMore old new
 turn_sees P refused Answers old new told t = found_sees old new new.found (found_turned P refused Answers old new told t)
@@ -95,27 +107,36 @@ lists h hs = record { records = h; parts = hs }
 
 -- ---- what a request came to
 
+-- what is said without a record
+abbrev pub put_none : Reply → Replied
+put_none told = record { reply = told; own = own.Absent }
+
+-- what the catalogue said
+abbrev pub by_catalog : Replied → Said
+by_catalog told = record { reply = told.reply; list = None; own = told.own }
+
 pub asked_mean : (failed worse : Type 0) (a b : Lists) (now : ℕ) (ask : Ask) (told : Reply) → (failed → worse) → AskedOnce failed a b now ask told → AskedOnce worse a b now ask told
 asked_mean failed worse a b now ask told to once = record { asks = once.asks; cause = λ is. to (once.cause is); stands = once.stands; stays = once.stays; again = once.again }
 
 -- at the catalogue alone
-pub visited_records : (so sn : Seen) (ps : List Part) (found : Tale Record) (now : ℕ) (ask : Ask) (told : Reply) → IsFoundBy so sn found
-    → AskedOnce (HasRisen found.faults sn.seen.faults) (lists (held_of found) (helds ps)) (lists (held_of sn.seen) (helds ps)) now ask told → Visited (seats so ps) (seats sn ps) now ask told
-visited_records so sn ps found now ask told is once =
+pub visited_records : (so sn : Seen) (ps : List Part) (found : Tale Record) (now : ℕ) (ask : Ask) (told : Replied) → IsFoundBy so sn found → Leaves (held_of found) (held_of sn.seen) told.own
+    → AskedOnce (HasRisen found.faults sn.seen.faults) (lists (held_of found) (helds ps)) (lists (held_of sn.seen) (helds ps)) now ask told.reply → Visited (seats so ps) (seats sn ps) now ask (by_catalog told)
+visited_records so sn ps found now ask told is leaves once =
     let f : Tellings = record { records = found; parts = seen_by ps } in
     let g : Tellings = record { records = sn.seen; parts = seen_by ps } in
     record {
       found = f;
       records = is;
       parts = all_rested ps;
-      once = asked_mean (HasRisen found.faults sn.seen.faults) (Rose f g) (lists (held_of found) (helds ps)) (lists (held_of sn.seen) (helds ps)) now ask told (λ why. of_catalog why) once;
+      once = asked_mean (HasRisen found.faults sn.seen.faults) (Rose f g) (lists (held_of found) (helds ps)) (lists (held_of sn.seen) (helds ps)) now ask told.reply (λ why. of_catalog why) once;
+      owns = record { records = leaves; parts = λ k x y one other. leaves_none (seen_by ps) k x y one other };
     }
 
 -- whatever it read, it left
-pub visited_still : (s : Seen) (ps : List Part) (now : ℕ) (ask : Ask) (told : Reply) → AskedOnce ⊥ (lists (held_of s.seen) (helds ps)) (lists (held_of s.seen) (helds ps)) now ask told → Visited (seats s ps) (seats s ps) now ask told
+pub visited_still : (s : Seen) (ps : List Part) (now : ℕ) (ask : Ask) (told : Reply) → AskedOnce ⊥ (lists (held_of s.seen) (helds ps)) (lists (held_of s.seen) (helds ps)) now ask told → Visited (seats s ps) (seats s ps) now ask (by_catalog (put_none told))
 visited_still s ps now ask told once =
     let a = lists (held_of s.seen) (helds ps) in
-    visited_records s s ps s.seen now ask told (found_rested s s (sees_self s)) (asked_mean ⊥ (HasRisen s.seen.faults s.seen.faults) a a now ask told (λ why. absurd why) once)
+    visited_records s s ps s.seen now ask (put_none told) (found_rested s s (sees_self s)) (absent (held_of s.seen)) (asked_mean ⊥ (HasRisen s.seen.faults s.seen.faults) a a now ask told (λ why. absurd why) once)
 
 -- a keeper failed, that of the catalogue or that of the shard
 abbrev pub Either : Tale Record → Seen → Tale Record → Part → Type 0
@@ -129,18 +150,24 @@ rose-either sn ps k po pn found there at (inr why) =
     of_shard k there pn.seen (set_get (seen_by ps) k po.seen there own) (rw (seen_set ps k pn) (set_get (seen_by ps) k po.seen pn.seen own)) why
 
 -- at the catalogue and at one shard
-pub visited_both : (so sn : Seen) (ps : List Part) (k : ℕ) (po pn : Part) (found there : Tale Record) (now : ℕ) (ask : Ask) (told : Reply) → slice_get ps k ≡ Some po → IsFoundBy so sn found → IsFoundBy po pn there
-    → AskedOnce (Either found sn there pn) (lists (held_of found) (slice_set (helds ps) k (held_of there))) (lists (held_of sn.seen) (slice_set (helds ps) k (held_of pn.seen))) now ask told
-    → Visited (seats so ps) (seats sn (slice_set ps k pn)) now ask told
-visited_both so sn ps k po pn found there now ask told at first second once =
+pub visited_both : (so sn : Seen) (ps : List Part) (k : ℕ) (po pn : Part) (found there : Tale Record) (now : ℕ) (ask : Ask) (told : Replied) → slice_get ps k ≡ Some po → IsFoundBy so sn found → IsFoundBy po pn there
+    → Leaves (held_of found) (held_of sn.seen) own.Absent → Leaves (held_of there) (held_of pn.seen) told.own
+    → AskedOnce (Either found sn there pn) (lists (held_of found) (slice_set (helds ps) k (held_of there))) (lists (held_of sn.seen) (slice_set (helds ps) k (held_of pn.seen))) now ask told.reply
+    → Visited (seats so ps) (seats sn (slice_set ps k pn)) now ask (at_part k told)
+visited_both so sn ps k po pn found there now ask told at first second none_left leaves once =
     let f : Tellings = record { records = found; parts = slice_set (seen_by ps) k there } in
     let g : Tellings = record { records = sn.seen; parts = seen_by (slice_set ps k pn) } in
     let worse = Rose f g in
-    let left = subst (λ (hs : List Held). AskedOnce (Either found sn there pn) (lists (held_of found) hs) (lists (held_of sn.seen) (slice_set (helds ps) k (held_of pn.seen))) now ask told) (sym (told_set (seen_by ps) k there)) once in
-    let both = subst (λ (hs : List Held). AskedOnce (Either found sn there pn) (lists_told f) (lists (held_of sn.seen) hs) now ask told) (sym (helds_set ps k pn)) left in
+    let left = subst (λ (hs : List Held). AskedOnce (Either found sn there pn) (lists (held_of found) hs) (lists (held_of sn.seen) (slice_set (helds ps) k (held_of pn.seen))) now ask told.reply) (sym (told_set (seen_by ps) k there)) once in
+    let both = subst (λ (hs : List Held). AskedOnce (Either found sn there pn) (lists_told f) (lists (held_of sn.seen) hs) now ask told.reply) (sym (helds_set ps k pn)) left in
     record {
       found = f;
       records = first;
       parts = one_found ps k po pn there at second;
-      once = asked_mean (Either found sn there pn) worse (lists_told f) (lists_told g) now ask told (rose-either sn ps k po pn found there at) both;
+      once = asked_mean (Either found sn there pn) worse (lists_told f) (lists_told g) now ask told.reply (rose-either sn ps k po pn found there at) both;
+      owns = record {
+        records = none_left;
+        parts = λ j x y one other.
+            leaves_there (seen_by ps) k j po.seen there pn.seen x y told.own (seen_there ps k po at) leaves one (subst (λ (ts : List (Tale Record)). slice_get ts j ≡ Some y) (seen_set ps k pn) other);
+      };
     }

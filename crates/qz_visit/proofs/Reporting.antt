@@ -4,7 +4,9 @@ use Rattle.std.specs.List.{AllZip}
 use Rattle.std.specs.Prelude.{ℤ, flat_map, slice_get, slice_set}
 use Rattle.std.proofs.lemmas.List.{length-map, length-set, map-set, take_all}
 use Rattle.std.proofs.lemmas.Option.{slice_get-map, slice_get_within}
+use Rattle.qz_catalog_turns.specs.declared.replied.OwnRecord.TheVariants as own
 use Rattle.qz_catalog_turns.specs.Headings.{IsHeading, TellsHeading}
+use Rattle.qz_catalog_turns.specs.Owning.{Leaves, absent}
 use Rattle.qz_catalog_turns.specs.Turning.{TurnCalls, held_of}
 use Rattle.qz_catalog_turns.specs.declared.questions.Heading.{Heading}
 use Rattle.qz_grading.specs.declared.refusal.Refusal.{Refusal}
@@ -38,11 +40,12 @@ use Rattle.qz_terms.specs.Serial.{Held, Mended, lists_of, stays}
 use Rattle.qz_turn.specs.declared.view.Tale.{Tale}
 use Rattle.qz_visit.specs.Reports.{PartsRead, RowsAre, RowsStop, short, untold}
 use Rattle.qz_visit.specs.Tokens.{IsKnownTo}
-use Rattle.qz_visit.specs.Visits.{AreFoundBy, IsFoundBy, Rose, Tellings, Visited, lists_told, more, none, of_shard, seen_by}
+use Rattle.qz_visit.specs.Visits.{AreFoundBy, IsFoundBy, Rose, Tellings, Visited, lists_told, more, none, of_shard, refusing, seen_by}
 use Rattle.qz_visit.specs.Ways.{Part, Seen}
-use Rattle.qz_visit.proofs.Asking.{askable, user_on, untold_split}
+use Rattle.qz_visit.proofs.Asking.{askable, settled_self, user_on, untold_split}
 use Rattle.qz_visit.proofs.Asking as asking
-use Rattle.qz_visit.proofs.Passing.{all_rested, asked_mean, count_helds, found_after, found_sees, found_turned, helds, helds_set, lists, seats, seen_set, seen_there, visited_records}
+use Rattle.qz_visit.proofs.Owning.{as_seen, ends_mend, found_settled, look_again}
+use Rattle.qz_visit.proofs.Passing.{all_rested, asked_mean, by_catalog, count_helds, found_after, found_looked, found_sees, found_turned, helds, helds_set, lists, put_none, seats, seen_set, seen_there}
 
 -- ---- one shard more
 
@@ -81,7 +84,7 @@ mended-set i old parts x read = record {
     apart i k within same = absurd (omega (arith, within, same))
 
 pub read_none : (ps : List Part) → PartsRead 0 ps ps (seen_by ps)
-read_none ps = record { are = all_rested ps; mended = (reports_law ⊥).begin (helds ps); legal = λ k p within at. absurd (omega (arith, within)) }
+read_none ps = record { are = all_rested ps; same = refl; mended = (reports_law ⊥).begin (helds ps); legal = λ k p within at. absurd (omega (arith, within)) }
 
 told-there : (ts : List (Tale Record)) (k : ℕ) (t : Tale Record) → map held_of (slice_set ts k t) ≡ slice_set (map held_of ts) k (held_of t)
 told-there ts k t = map-set held_of ts k t
@@ -89,9 +92,13 @@ told-there ts k t = map-set held_of ts k t
 helds-there : (ps : List Part) (k : ℕ) (p : Part) → slice_get ps k ≡ Some p → slice_get (helds ps) k ≡ Some (held_of p.seen)
 helds-there ps k p is = Rattle.qz_visit.proofs.Passing.held_there ps k p is
 
--- where it was found so, and mended since
-mended-to : (i : ℕ) (mid : List Part) (found : List (Tale Record)) (po pn : Part) → MendedUpTo i (map held_of found) (helds mid) → MendedUpTo i (map held_of (slice_set found i pn.found)) (slice_set (helds mid) i (held_of pn.found))
-mended-to i mid found po pn read = subst (λ (hs : List Held). MendedUpTo i hs (slice_set (helds mid) i (held_of pn.found))) (sym (told-there found i pn.found)) (mended-set i (map held_of found) (helds mid) (held_of pn.found) read)
+-- where it was found so
+mended-to : (i : ℕ) (mid : List Part) (found : List (Tale Record)) (t : Tale Record) → MendedUpTo i (map held_of found) (helds mid) → MendedUpTo i (map held_of (slice_set found i t)) (slice_set (helds mid) i (held_of t))
+mended-to i mid found t read = subst (λ (hs : List Held). MendedUpTo i hs (slice_set (helds mid) i (held_of t))) (sym (told-there found i t)) (mended-set i (map held_of found) (helds mid) (held_of t) read)
+
+-- and stays so
+same-set : (i : ℕ) (mid : List Part) (found : List (Tale Record)) (pn : Part) → map held_of found ≡ helds mid → map held_of (slice_set found i (as_seen pn)) ≡ helds (slice_set mid i pn)
+same-set i mid found pn same = told-there found i (as_seen pn) ∙ (ap (λ (hs : List Held). slice_set hs i (held_of pn.seen)) same ∙ sym (helds_set mid i pn))
 
 legal-at : (i k : ℕ) (mid : List Part) (pn p : Part) → ((j : ℕ) (q : Part) → j < i → slice_get mid j ≡ Some q → IsLegal j (length mid) q.seen.list) → IsLegal i (length mid) pn.seen.list → k < i + 1 → slice_get (slice_set mid i pn) k ≡ Some p → IsLegal k (length mid) p.seen.list
 legal-at i k mid pn p before here within at = elim (get_set mid i k pn p at) [
@@ -113,15 +120,16 @@ legal-at i k mid pn p before here within at = elim (get_set mid i k pn p at) [
 
 -- the rows of one shard more
 pub read_more : (i quiz : ℕ) (policy : Policy) (old mid : List Part) (found : List (Tale Record)) (po pn : Part) (n : ℕ) (rows : List (ℕ × Option ℤ)) → PartsRead i old mid found → slice_get mid i ≡ Some po → n ≡ length mid
-    → TurnCalls (IsLegal i n) (λ r. Err r) (Looks (TellsRows quiz policy)) po pn (Ok rows) → PartsRead (i + 1) old (slice_set mid i pn) (slice_set found i pn.found)
+    → TurnCalls (IsLegal i n) (λ r. Err r) (Looks (TellsRows quiz policy)) po pn (Ok rows) → PartsRead (i + 1) old (slice_set mid i pn) (slice_set found i (as_seen pn))
 read_more i quiz policy old mid found po pn n rows read at long t =
     let told = look_told (HasRisen pn.found.faults pn.seen.faults) (TellsRows quiz policy) (held_of pn.found) (held_of pn.seen) rows t.calls.call in
-    let next = one_more i (map held_of (slice_set found i pn.found)) (slice_set (helds mid) i (held_of pn.found)) (held_of pn.found) (held_of pn.seen) (mended-to i mid found po pn read.mended)
-    (set_get (helds mid) i (held_of po.seen) (held_of pn.found) (helds-there mid i po at)) told.0 in
+    let next = one_more i (map held_of (slice_set found i (as_seen pn))) (slice_set (helds mid) i (held_of pn.seen)) (held_of pn.seen) (held_of pn.seen) (mended-to i mid found (as_seen pn) read.mended)
+    (set_get (helds mid) i (held_of po.seen) (held_of pn.seen) (helds-there mid i po at)) (settled_self (held_of pn.seen) told.0.no_doubt) in
     let legal : IsLegal i (length mid) pn.seen.list = subst (λ (m : ℕ). IsLegal i m pn.seen.list) long t.calls.seen_may.without in
     record {
-      are = found-set old mid found i po pn pn.found read.are at (found_turned (IsLegal i n) (λ r. Err r) (Looks (TellsRows quiz policy)) po pn (Ok rows) t);
-      mended = subst (MendedUpTo (i + 1) (map held_of (slice_set found i pn.found))) (set_twice (helds mid) i (held_of pn.found) (held_of pn.seen) ∙ sym (helds_set mid i pn)) next;
+      are = found-set old mid found i po pn (as_seen pn) read.are at (found_looked (IsLegal i n) (λ r. Err r) (TellsRows quiz policy) po pn (Ok rows) t);
+      same = same-set i mid found pn read.same;
+      mended = subst (MendedUpTo (i + 1) (map held_of (slice_set found i (as_seen pn)))) (set_twice (helds mid) i (held_of pn.seen) (held_of pn.seen) ∙ sym (helds_set mid i pn)) next;
       legal = λ k p within there. subst (λ (m : ℕ). IsLegal k m p.seen.list) (sym (length-set mid i pn)) (legal-at i k mid pn p read.legal legal within there);
     }
 
@@ -164,9 +172,9 @@ pub count_found : (os ns : List Part) (fs : List (Tale Record)) → AreFoundBy o
 count_found _ _ _ none = refl
 count_found _ _ _ (more o n f os ns fs one rest) = ap suc (count_found os ns fs rest)
 
-count-told : (os ns : List Part) (fs : List (Tale Record)) → AreFoundBy os ns fs → length fs ≡ length os
-count-told _ _ _ none = refl
-count-told _ _ _ (more o n f os ns fs one rest) = ap suc (count-told os ns fs rest)
+pub count_told : (os ns : List Part) (fs : List (Tale Record)) → AreFoundBy os ns fs → length fs ≡ length os
+count_told _ _ _ none = refl
+count_told _ _ _ (more o n f os ns fs one rest) = ap suc (count_told os ns fs rest)
 
 pub count_lists : (ps : List Part) → length (lists_of (helds ps)) ≡ length ps
 count_lists ps = length-map (helds ps) (λ (h : Held). h.list) ∙ count_helds ps
@@ -193,48 +201,72 @@ pub record Reports (so sn : Seen) (ps : List Part) (ask : Ask) (now : ℕ) (user
   pub mended : IsSettled (held_of sn.found) (held_of sn.seen)
   pub there : missing_quiz sn.seen.list quiz ≡ None
 
-reporting : (so sn : Seen) (ps ns : List Part) (fs : List (Tale Record)) (ask : Ask) (now : ℕ) (user : User) (quiz : ℕ) → Reports so sn ps ask now user quiz → AreFoundBy ps ns fs → IsReporting (lists (held_of sn.found) (map held_of fs)) (held_of sn.seen) ask user quiz
+reporting : (so sn : Seen) (ps ns : List Part) (fs : List (Tale Record)) (ask : Ask) (now : ℕ) (user : User) (quiz : ℕ) → Reports so sn ps ask now user quiz → AreFoundBy ps ns fs → IsReporting (lists (held_of sn.seen) (map held_of fs)) (held_of sn.seen) ask user quiz
 reporting so sn ps ns fs ask now user quiz w are =
     let free : forbidden user (request.Report quiz) ≡ None = rw w.request_is at w.allowed in
     let there = w.there in
-    let long : length (map held_of fs) ≡ length ps = length-map fs held_of ∙ count-told ps ns fs are in
+    let long : length (map held_of fs) ≡ length ps = length-map fs held_of ∙ count_told ps ns fs are in
     record {
-      askable = askable (held_of sn.found) (map held_of fs) (length ps) now ask w.some long w.may;
-      known = record { token = w.known.token; caller_is = w.known.caller_is; settled = w.mended; found = user_on so.seen.list sn.seen.list ask.caller user (found_sees so sn sn.found w.found).begins.begins w.known.known.found };
+      askable = askable (held_of sn.seen) (map held_of fs) (length ps) now ask w.some long w.may;
+      known = record {
+        token = w.known.token;
+        caller_is = w.known.caller_is;
+        settled = settled_self (held_of sn.seen) w.mended.no_doubt;
+        found = user_on so.seen.list sn.seen.list ask.caller user (found_sees so sn sn.found w.found).begins.begins w.known.known.found;
+      };
       request_is = w.request_is;
       among = rw (w.request_is, free, there) refl;
     }
 
-visited-all : (failed : Type 0) (so sn : Seen) (ps ns : List Part) (fs : List (Tale Record)) (now : ℕ) (ask : Ask) (told : Reply) → IsFoundBy so sn sn.found → AreFoundBy ps ns fs
-    → let f : Tellings = record { records = sn.found; parts = fs } in let g : Tellings = record { records = sn.seen; parts = seen_by ns } in
-    (failed → Rose f g) → AskedOnce failed (lists (held_of sn.found) (map held_of fs)) (lists (held_of sn.seen) (helds ns)) now ask told → Visited (seats so ps) (seats sn ns) now ask told
-visited-all failed so sn ps ns fs now ask told first are to once =
-    let f : Tellings = record { records = sn.found; parts = fs } in
+-- each list stays as it was found
+left-same : (fs ts : List (Tale Record)) (k : ℕ) (f s : Tale Record) → map held_of fs ≡ map held_of ts → slice_get fs k ≡ Some f → slice_get ts k ≡ Some s → Leaves (held_of f) (held_of s) own.Absent
+left-same fs ts k f s same one other =
+    let first : slice_get (map held_of fs) k ≡ Some (held_of f) = slice_get-map held_of fs k ∙ rw one refl in
+    let second : slice_get (map held_of ts) k ≡ Some (held_of s) = slice_get-map held_of ts k ∙ rw other refl in
+    let both : Some (held_of f) ≡ Some (held_of s) = sym first ∙ (ap (λ (hs : List Held). slice_get hs k) same ∙ second) in
+    subst (λ (h : Held). Leaves (held_of f) h own.Absent) (some-held (held_of f) (held_of s) both) (absent (held_of f))
+  where
+    some-held : (a b : Held) → Some a ≡ Some b → a ≡ b
+    some-held a b e = cc
+
+visited-all : (failed : Type 0) (so sn : Seen) (ps ns : List Part) (fs : List (Tale Record)) (now : ℕ) (ask : Ask) (told : Reply) → IsFoundBy so sn (as_seen sn) → AreFoundBy ps ns fs → map held_of fs ≡ helds ns
+    → let f : Tellings = record { records = as_seen sn; parts = fs } in let g : Tellings = record { records = sn.seen; parts = seen_by ns } in
+    (failed → Rose f g) → AskedOnce failed (lists (held_of sn.seen) (map held_of fs)) (lists (held_of sn.seen) (helds ns)) now ask told → Visited (seats so ps) (seats sn ns) now ask (by_catalog (put_none told))
+visited-all failed so sn ps ns fs now ask told first are same to once =
+    let f : Tellings = record { records = as_seen sn; parts = fs } in
     let g : Tellings = record { records = sn.seen; parts = seen_by ns } in
-    record { found = f; records = first; parts = are; once = asked_mean failed (Rose f g) (lists_told f) (lists_told g) now ask told to once }
+    record {
+      found = f;
+      records = first;
+      parts = are;
+      once = asked_mean failed (Rose f g) (lists_told f) (lists_told g) now ask told to once;
+      owns = record { records = absent (held_of sn.seen); parts = λ k x y one other. left-same fs (seen_by ns) k x y same one other };
+    }
 
 -- memory was wanting behind some shards
-pub wants_report : (so sn : Seen) (ps ns : List Part) (fs : List (Tale Record)) (i now : ℕ) (ask : Ask) (user : User) (quiz : ℕ) → Reports so sn ps ask now user quiz → PartsRead i ps ns fs → Visited (seats so ps) (seats sn ns) now ask (reply.Refused refusal.Memory)
+pub wants_report : (so sn : Seen) (ps ns : List Part) (fs : List (Tale Record)) (i now : ℕ) (ask : Ask) (user : User) (quiz : ℕ) → Reports so sn ps ask now user quiz → PartsRead i ps ns fs → Visited (seats so ps) (seats sn ns) now ask (refusing refusal.Memory)
 wants_report so sn ps ns fs i now ask user quiz w read =
-    visited-all ⊥ so sn ps ns fs now ask (reply.Refused refusal.Memory) w.found read.are (λ no. absurd no)
-    ((reports_law ⊥).wanting (lists (held_of sn.found) (map held_of fs)) (held_of sn.seen) (helds ns) i now ask user quiz (reporting so sn ps ns fs ask now user quiz w read.are) read.mended)
+    visited-all ⊥ so sn ps ns fs now ask (reply.Refused refusal.Memory) (found_settled so sn w.found w.mended.mends) read.are read.same (λ no. absurd no)
+    ((reports_law ⊥).wanting (lists (held_of sn.seen) (map held_of fs)) (held_of sn.seen) (helds ns) i now ask user quiz (reporting so sn ps ns fs ask now user quiz w read.are) read.mended)
 
 -- a shard didn't tell its rows
-pub stopped_report : (so sn : Seen) (ps ns : List Part) (now : ℕ) (ask : Ask) (user : User) (quiz : ℕ) (policy : Policy) (r : Refusal) → Reports so sn ps ask now user quiz → RowsStop quiz policy ps ns r → Visited (seats so ps) (seats sn ns) now ask (reply.Refused r)
+pub stopped_report : (so sn : Seen) (ps ns : List Part) (now : ℕ) (ask : Ask) (user : User) (quiz : ℕ) (policy : Policy) (r : Refusal) → Reports so sn ps ask now user quiz → RowsStop quiz policy ps ns r → Visited (seats so ps) (seats sn ns) now ask (refusing r)
 stopped_report so sn ps ns now ask user quiz policy r w (short i fs read memory) = rw memory (wants_report so sn ps ns fs i now ask user quiz w read)
 stopped_report so sn ps ns now ask user quiz policy r w (untold i mid fs po pn read at is call same) =
     let failed = HasRisen pn.found.faults pn.seen.faults in
-    let found = slice_set fs i pn.found in
-    let are = found-set ps mid fs i po pn pn.found read.are at is in
-    let a = lists (held_of sn.found) (map held_of found) in
-    let parts = slice_set (helds mid) i (held_of pn.found) in
-    let once = (reports_law failed).rows a (held_of sn.seen) (held_of pn.found) (held_of pn.seen) parts i now ask user quiz (rows_in quiz policy) (Err r) (reporting so sn ps (slice_set mid i pn) found ask now user quiz w are)
-    (mended-to i mid fs po pn read.mended) (set_get (helds mid) i (held_of po.seen) (held_of pn.found) (helds-there mid i po at)) call in
-    let left = subst (λ (hs : List Held). AskedOnce failed a (lists (held_of sn.seen) hs) now ask (reply.Refused r)) (set_twice (helds mid) i (held_of pn.found) (held_of pn.seen) ∙ sym (helds_set mid i pn)) once in
+    let says = TellsRows quiz policy in
+    let found = slice_set fs i (as_seen pn) in
+    let ends = look_ends failed (λ r. Err r) says (held_of pn.found) (held_of pn.seen) (Err r) call in
+    let are = found-set ps mid fs i po pn (as_seen pn) read.are at (found_settled po pn is (ends_mend failed (λ r. Err r) says (held_of pn.found) (held_of pn.seen) (Err r) ends)) in
+    let a = lists (held_of sn.seen) (map held_of found) in
+    let parts = slice_set (helds mid) i (held_of pn.seen) in
+    let once = (reports_law failed).rows a (held_of sn.seen) (held_of pn.seen) (held_of pn.seen) parts i now ask user quiz (rows_in quiz policy) (Err r) (reporting so sn ps (slice_set mid i pn) found ask now user quiz w are)
+    (mended-to i mid fs (as_seen pn) read.mended) (set_get (helds mid) i (held_of po.seen) (held_of pn.seen) (helds-there mid i po at)) (look_again failed (λ r. Err r) says (held_of pn.found) (held_of pn.seen) (Err r) call) in
+    let left = subst (λ (hs : List Held). AskedOnce failed a (lists (held_of sn.seen) hs) now ask (reply.Refused r)) (set_twice (helds mid) i (held_of pn.seen) (held_of pn.seen) ∙ sym (helds_set mid i pn)) once in
     let old = tale-there fs i ps mid po read.are at in
-    subst (λ (l : List Part). Visited (seats so ps) (seats sn l) now ask (reply.Refused r)) (sym same)
-    (visited-all failed so sn ps (slice_set mid i pn) found now ask (reply.Refused r) w.found are
-    (λ why. of_shard i pn.found pn.seen (set_get fs i old.0 pn.found old.1) (rw (seen_set mid i pn) (set_get (seen_by mid) i po.seen pn.seen (seen_there mid i po at))) why) left)
+    subst (λ (l : List Part). Visited (seats so ps) (seats sn l) now ask (refusing r)) (sym same)
+    (visited-all failed so sn ps (slice_set mid i pn) found now ask (reply.Refused r) (found_settled so sn w.found w.mended.mends) are (same-set i mid fs pn read.same)
+    (λ why. of_shard i (as_seen pn) pn.seen (set_get fs i old.0 (as_seen pn) old.1) (rw (seen_set mid i pn) (set_get (seen_by mid) i po.seen pn.seen (seen_there mid i po at))) why) left)
   where
     tale-there : (fs : List (Tale Record)) (k : ℕ) (os ns : List Part) (n : Part) → AreFoundBy os ns fs → slice_get ns k ≡ Some n → (t : Tale Record) × (slice_get fs k ≡ Some t)
     tale-there _ k _ _ n none at = absurd cc
@@ -256,14 +288,14 @@ each-legal quiz policy ps ns all are = record {
     part-by (p ∷ ns) (suc k) l at = part-by ns k l at
 
 pub told_report : (so sn : Seen) (ps ns : List Part) (now : ℕ) (ask : Ask) (user : User) (quiz : ℕ) (heading : Heading) (all : List (ℕ × Option ℤ)) (rows : List Row) → Reports so sn ps ask now user quiz → IsHeading sn.seen.list quiz heading → RowsAre quiz heading.policy ps ns all
-    → rows ≡ map (named_row heading.names) (rows_in_order all) → Visited (seats so ps) (seats sn ns) now ask (reply.Ok heading.place (done.Report rows))
+    → rows ≡ map (named_row heading.names) (rows_in_order all) → Visited (seats so ps) (seats sn ns) now ask (by_catalog (put_none (reply.Ok heading.place (done.Report rows))))
 told_report so sn ps ns now ask user quiz heading all rows w h are rows_are =
     let told = reply.Ok heading.place (done.Report rows) in
     let fs = are.found in
-    let long : length (map held_of fs) ≡ length ps = length-map fs held_of ∙ count-told ps ns fs are.read.are in
+    let long : length (map held_of fs) ≡ length ps = length-map fs held_of ∙ count_told ps ns fs are.read.are in
     let answer = report_done sn.seen.list (lists_of (helds ns)) quiz heading.policy heading.place rows heading.names all (rows_in_order all) (each-legal quiz heading.policy ps ns all are) h.policy.policy_is h.place h.names are.rows_are refl rows_are in
-    visited-all ⊥ so sn ps ns fs now ask told w.found are.read.are (λ no. absurd no)
-    ((reports_law ⊥).told (lists (held_of sn.found) (map held_of fs)) (held_of sn.seen) (helds ns) now ask user quiz told (reporting so sn ps ns fs ask now user quiz w are.read.are)
+    visited-all ⊥ so sn ps ns fs now ask told (found_settled so sn w.found w.mended.mends) are.read.are are.read.same (λ no. absurd no)
+    ((reports_law ⊥).told (lists (held_of sn.seen) (map held_of fs)) (held_of sn.seen) (helds ns) now ask user quiz told (reporting so sn ps ns fs ask now user quiz w are.read.are)
     (subst (λ (n : ℕ). MendedUpTo n (map held_of fs) (helds ns)) (sym long) are.read.mended) answer)
 
 -- ---- the catalogue didn't tell what a report says besides its rows
@@ -274,7 +306,7 @@ missing-among c n user ask quiz r is may missing =
     rw (is, free, missing) refl
 
 pub headless_report : (so sn : Seen) (ps : List Part) (now : ℕ) (ask : Ask) (user : User) (quiz : ℕ) (r : Refusal) → 0 < length ps → MayBeAsked ask now → IsKnownTo so ask user → ask.request ≡ request.Report quiz → forbidden user ask.request ≡ None
-    → TurnCalls IsLegalCatalog (λ r. Err r) (Looks (TellsHeading quiz)) so sn (Err r) → Visited (seats so ps) (seats sn ps) now ask (reply.Refused r)
+    → TurnCalls IsLegalCatalog (λ r. Err r) (Looks (TellsHeading quiz)) so sn (Err r) → Visited (seats so ps) (seats sn ps) now ask (refusing r)
 headless_report so sn ps now ask user quiz r some may known is allowed t =
     let failed = HasRisen sn.found.faults sn.seen.faults in
     let first = found_turned IsLegalCatalog (λ r. Err r) (Looks (TellsHeading quiz)) so sn (Err r) t in

@@ -1,5 +1,5 @@
 -- What is seen of a school's lists goes on.
-use Rattle.std.proofs.Common.{◌≡◌, ℕ, zero, suc, ◌+◌, List, [], ◌∷◌, Some, length, map, max, refl, sym, ap, ◌∙◌, subst, arith}
+use Rattle.std.proofs.Common.{◌≡◌, ℕ, zero, suc, ◌+◌, List, [], ◌∷◌, Some, length, map, max, refl, ap, ◌∙◌, arith}
 use Rattle.std.specs.Prelude.{slice_get}
 use Rattle.std.proofs.lemmas.Option.{slice_get_within}
 use Rattle.qz_catalog_turns.specs.Turning.{tale_of}
@@ -9,7 +9,6 @@ use Rattle.qz_shard_turns.proofs.Tying.{joined-first, joined-second}
 use Rattle.qz_solo.specs.Solos.{School}
 use Rattle.qz_terms.specs.declared.ask.Ask.{Ask}
 use Rattle.qz_terms.specs.declared.record.Record.{Record}
-use Rattle.qz_terms.specs.declared.reply.Reply.{Reply}
 use Rattle.qz_turn.specs.declared.view.Tale.{Tale}
 use Rattle.qz_turn.specs.Passes.{Standing}
 use Rattle.qz_turn.specs.Tales.{Follows}
@@ -19,6 +18,7 @@ use Rattle.qz_visit.specs.Closing.{AllJoin, AreClosed, Closes, IsClosed, JoinsAl
 use Rattle.qz_visit.specs.Closing as closing
 use Rattle.qz_visit.specs.Opening.{Splits}
 use Rattle.qz_visit.specs.Seeing.{FollowAll, FollowEach, IsAskedBeside, more, none}
+use Rattle.qz_visit.specs.declared.last.Said.{Said}
 use Rattle.qz_visit.specs.Visits.{AreFoundBy, Seats, Tellings, Visited, seen_by, seen_in}
 use Rattle.qz_visit.specs.Visits as visits
 use Rattle.qz_visit.specs.Ways.{Part}
@@ -53,7 +53,7 @@ found_grows _ _ _ visits.none = none
 found_grows _ _ _ (visits.more old new found os ns fs one rest) = more found new.seen fs (seen_by ns) one.grows (found_grows os ns fs rest)
 
 -- what its passes see tells it
-pub asked_beside : (old new : Seats) (now : ℕ) (ask : Ask) (told : Reply) → Visited old new now ask told → IsAskedBeside (seen_in old) (seen_in new) now ask told
+pub asked_beside : (old new : Seats) (now : ℕ) (ask : Ask) (told : Said) → Visited old new now ask told → IsAskedBeside (seen_in old) (seen_in new) now ask told.reply
 asked_beside old new now ask told v = record {
   found = v.found;
   begins = record { records = v.records.begins; parts = found_begins old.parts new.parts v.found.parts v.parts };

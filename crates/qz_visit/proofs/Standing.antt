@@ -5,6 +5,7 @@ use Rattle.std.proofs.lemmas.List.{length-set}
 use Rattle.std.proofs.lemmas.Option.{slice_get_read}
 use Rattle.qz_grading.specs.declared.refusal.AttemptId.{AttemptId}
 use Rattle.qz_catalog.specs.Keeping.{TellsJob}
+use Rattle.qz_catalog_turns.specs.declared.replied.Replied.{Replied}
 use Rattle.qz_catalog_turns.specs.Turning.{TurnCalls, held_of}
 use Rattle.qz_grading.specs.declared.refusal.Refusal.{Refusal}
 use Rattle.qz_grading.specs.declared.refusal.Refusal.TheVariants as refusal
@@ -21,8 +22,6 @@ use Rattle.qz_solo.proofs.Steps.{job_absent, live_nowhere, work_nowhere}
 use Rattle.qz_terms.specs.declared.people.User.{User}
 use Rattle.qz_terms.specs.declared.plan.Job.{Job}
 use Rattle.qz_terms.specs.declared.record.Record.{Record}
-use Rattle.qz_terms.specs.declared.reply.Reply.{Reply}
-use Rattle.qz_terms.specs.declared.reply.Reply.TheVariants as reply
 use Rattle.qz_terms.specs.declared.request.Request.{Request}
 use Rattle.qz_terms.specs.declared.request.Request.TheVariants as request
 use Rattle.qz_terms.specs.Catalog.{worker}
@@ -34,8 +33,9 @@ use Rattle.qz_turn.specs.Passes.{Lock, Standing}
 use Rattle.qz_turn.specs.Turns.{Locked, UnderKey}
 use Rattle.qz_visit.specs.Reports.{AreAt}
 use Rattle.qz_visit.specs.Tokens.{IsBeyond, IsKnownTo, going, step}
-use Rattle.qz_visit.specs.Visits.{AreFoundBy, AreOf, IsOf, IsPlaced, IsSchool, Locks, Seats, Visited, Visits, more, none}
-use Rattle.qz_visit.specs.Ways.{AreTied, Comes, Part, Seen, Stepped, Tried}
+use Rattle.qz_visit.specs.declared.last.Said.{Said}
+use Rattle.qz_visit.specs.Visits.{AreFoundBy, AreOf, IsOf, IsPlaced, IsSchool, Locks, Seats, Visited, Visits, at_part, more, none, refusing}
+use Rattle.qz_visit.specs.Ways.{AreTied, Comes, Part, Seen, Stepped, Tried, refused_with, replied_of}
 use Rattle.qz_visit.proofs.Asking.{GoesTo, among_visited, came_visited, unlooked_visited, untold_split}
 use Rattle.qz_visit.proofs.Passing.{found_after, found_turned, seats}
 use Rattle.qz_visit.proofs.Reporting.{count_found}
@@ -76,25 +76,25 @@ all_at r ls s ps school own = record {
 
 -- ---- results
 
-pub comes_visits : (so sn : Seen) (ps : List Part) (k : ℕ) (po pn : Part) (now : ℕ) (ask : Ask) (user : User) (result : Result Reply Refusal) → 0 < length ps → slice_get ps k ≡ Some po → MayBeAsked ask now → IsKnownTo so ask user → GoesTo (length ps) user ask.request k
-    → Comes so sn po pn now ask user result → Visits (seats so ps) (seats sn (slice_set ps k pn)) now ask result
-comes_visits so sn ps k po pn now ask user (Ok told) some at may known goes came = came_visited so sn ps k po pn now ask user told some at may known goes came
-comes_visits so sn ps k po pn now ask user (Err r) some at may known goes came = came_visited so sn ps k po pn now ask user (reply.Refused r) some at may known goes came
+pub comes_visited : (so sn : Seen) (ps : List Part) (k : ℕ) (po pn : Part) (now : ℕ) (ask : Ask) (user : User) (result : Result Replied Refusal) → 0 < length ps → slice_get ps k ≡ Some po → MayBeAsked ask now → IsKnownTo so ask user → GoesTo (length ps) user ask.request k
+    → Comes so sn po pn now ask user result → Visited (seats so ps) (seats sn (slice_set ps k pn)) now ask (at_part k (replied_of result))
+comes_visited so sn ps k po pn now ask user (Ok told) some at may known goes came = came_visited so sn ps k po pn now ask user told some at may known goes came
+comes_visited so sn ps k po pn now ask user (Err r) some at may known goes came = came_visited so sn ps k po pn now ask user (refused_with r) some at may known goes came
 
-pub work_visits : (so sn : Seen) (ps : List Part) (k : ℕ) (po pn : Part) (now : ℕ) (ask : Ask) (user : User) (number : ℕ) (result : Result Reply Refusal) → user ≡ worker → slice_get ps k ≡ Some po → Works ps ask now (request.Work number k)
-    → MatchResult result (Stepped so sn po pn now ask user number) (λ r. Stepped so sn po pn now ask user number (reply.Refused r)) → Visits (seats so ps) (seats sn (slice_set ps k pn)) now ask result
+pub work_visits : (so sn : Seen) (ps : List Part) (k : ℕ) (po pn : Part) (now : ℕ) (ask : Ask) (user : User) (number : ℕ) (result : Result Replied Refusal) → user ≡ worker → slice_get ps k ≡ Some po → Works ps ask now (request.Work number k)
+    → MatchResult result (Stepped so sn po pn now ask user number) (λ r. Stepped so sn po pn now ask user number (refused_with r)) → Visited (seats so ps) (seats sn (slice_set ps k pn)) now ask (at_part k (replied_of result))
 work_visits so sn ps k po pn now ask user number (Ok told) who at w stepped = work_visited so sn ps k po pn now ask number told at w (subst (λ (u : User). Stepped so sn po pn now ask u number told) who stepped)
-work_visits so sn ps k po pn now ask user number (Err r) who at w stepped = work_visited so sn ps k po pn now ask number (reply.Refused r) at w (subst (λ (u : User). Stepped so sn po pn now ask u number (reply.Refused r)) who stepped)
+work_visits so sn ps k po pn now ask user number (Err r) who at w stepped = work_visited so sn ps k po pn now ask number (refused_with r) at w (subst (λ (u : User). Stepped so sn po pn now ask u number (refused_with r)) who stepped)
 
-pub settle_visits : (so sn : Seen) (ps : List Part) (k : ℕ) (po pn : Part) (now : ℕ) (ask : Ask) (user : User) (attempt : AttemptId) (result : Result Reply Refusal) → user ≡ worker → Settles ps ask now attempt k po
-    → MatchResult result (Tried so sn po pn now ask user attempt) (λ r. Tried so sn po pn now ask user attempt (reply.Refused r)) → Visits (seats so ps) (seats sn (slice_set ps k pn)) now ask result
+pub settle_visits : (so sn : Seen) (ps : List Part) (k : ℕ) (po pn : Part) (now : ℕ) (ask : Ask) (user : User) (attempt : AttemptId) (result : Result Replied Refusal) → user ≡ worker → Settles ps ask now attempt k po
+    → MatchResult result (Tried so sn po pn now ask user attempt) (λ r. Tried so sn po pn now ask user attempt (refused_with r)) → Visited (seats so ps) (seats sn (slice_set ps k pn)) now ask (at_part k (replied_of result))
 settle_visits so sn ps k po pn now ask user attempt (Ok told) who w tried = settle_visited so sn ps k po pn now ask attempt told w (subst (λ (u : User). Tried so sn po pn now ask u attempt told) who tried)
-settle_visits so sn ps k po pn now ask user attempt (Err r) who w tried = settle_visited so sn ps k po pn now ask attempt (reply.Refused r) w (subst (λ (u : User). Tried so sn po pn now ask u attempt (reply.Refused r)) who tried)
+settle_visits so sn ps k po pn now ask user attempt (Err r) who w tried = settle_visited so sn ps k po pn now ask attempt (refused_with r) w (subst (λ (u : User). Tried so sn po pn now ask u attempt (refused_with r)) who tried)
 
 -- behind a turn at the catalogue
-pub visits_then : (so sm : Seen) (ps : List Part) (new : Seats) (now : ℕ) (ask : Ask) (result : Result Reply Refusal) → SeesMore so sm → Visits (seats sm ps) new now ask result → Visits (seats so ps) new now ask result
-visits_then so sm ps new now ask (Ok told) sees v = record { found = v.found; records = found_after so sm new.records v.found.records sees v.records; parts = v.parts; once = v.once }
-visits_then so sm ps new now ask (Err r) sees v = record { found = v.found; records = found_after so sm new.records v.found.records sees v.records; parts = v.parts; once = v.once }
+pub visits_then : (so sm : Seen) (ps : List Part) (new : Seats) (now : ℕ) (ask : Ask) (result : Result Said Refusal) → SeesMore so sm → Visits (seats sm ps) new now ask result → Visits (seats so ps) new now ask result
+visits_then so sm ps new now ask (Ok told) sees v = record { found = v.found; records = found_after so sm new.records v.found.records sees v.records; parts = v.parts; once = v.once; owns = v.owns }
+visits_then so sm ps new now ask (Err r) sees v = record { found = v.found; records = found_after so sm new.records v.found.records sees v.records; parts = v.parts; once = v.once; owns = v.owns }
 
 -- ---- a shard that isn't there
 
@@ -110,14 +110,14 @@ beyond_step n x job shard is beyond = beyond-by n x job shard is beyond
 
 -- the attempts that go on there
 pub going_visited : (s : Seen) (ps : List Part) (now : ℕ) (ask : Ask) (user : User) → 0 < length ps → MayBeAsked ask now → IsKnownTo s ask user → forbidden user ask.request ≡ None → IsBeyond (length ps) ask.request → ((job shard : ℕ) → ask.request ≡ request.Work job shard → ⊥)
-    → Visited (seats s ps) (seats s ps) now ask (reply.Refused (refusal.Unknown thing.Shard))
+    → Visited (seats s ps) (seats s ps) now ask (refusing (refusal.Unknown thing.Shard))
 going_visited s ps now ask user some may known free (going shard attempt live past) other =
     among_visited s ps now ask user (refusal.Unknown thing.Shard) some may known (rw live refl) (live_nowhere s.seen.list (length ps) ask user shard attempt live free past)
 going_visited s ps now ask user some may known free (step job shard work past) other = absurd (other job shard work)
 
 -- steps there
 pub step_untold : (so sn : Seen) (ps : List Part) (now : ℕ) (ask : Ask) (user : User) (number shard : ℕ) (r : Refusal) → 0 < length ps → MayBeAsked ask now → IsKnownTo so ask user → forbidden user ask.request ≡ None → ask.request ≡ request.Work number shard
-    → TurnCalls IsLegalCatalog (λ r. Err r) (Looks (TellsJob number)) so sn (Err r) → Visited (seats so ps) (seats sn ps) now ask (reply.Refused r)
+    → TurnCalls IsLegalCatalog (λ r. Err r) (Looks (TellsJob number)) so sn (Err r) → Visited (seats so ps) (seats sn ps) now ask (refusing r)
 step_untold so sn ps now ask user number shard r some may known allowed is t =
     let failed = HasRisen sn.found.faults sn.seen.faults in
     let free : forbidden user (request.Work number shard) ≡ None = rw is at allowed in
@@ -131,7 +131,7 @@ step_untold so sn ps now ask user number shard r some may known allowed is t =
     ])
 
 pub step_visited : (so sn : Seen) (ps : List Part) (now : ℕ) (ask : Ask) (user : User) (number shard : ℕ) (job : Job) → 0 < length ps → MayBeAsked ask now → IsKnownTo so ask user → forbidden user ask.request ≡ None → ask.request ≡ request.Work number shard → length ps ≤ shard
-    → TurnCalls IsLegalCatalog (λ r. Err r) (Looks (TellsJob number)) so sn (Ok job) → Visited (seats so ps) (seats sn ps) now ask (reply.Refused (refusal.Unknown thing.Shard))
+    → TurnCalls IsLegalCatalog (λ r. Err r) (Looks (TellsJob number)) so sn (Ok job) → Visited (seats so ps) (seats sn ps) now ask (refusing (refusal.Unknown thing.Shard))
 step_visited so sn ps now ask user number shard job some may known allowed is past t =
     let told = look_told (HasRisen sn.found.faults sn.seen.faults) (TellsJob number) (held_of sn.found) (held_of sn.seen) job t.calls.call in
     unlooked_visited so sn ps now ask user (refusal.Unknown thing.Shard) some may known (rw is refl) (found_turned IsLegalCatalog (λ r. Err r) (Looks (TellsJob number)) so sn (Ok job) t)
@@ -169,7 +169,7 @@ found-there _ _ _ (suc k) n (more o x f os ns fs one rest) at = found-there os n
 of-still : {K : Type 0} (lock : Lock K) (old new : Standing Record K) → IsOf lock old → new.numbers ≡ old.numbers → new.lock ≡ old.lock → IsOf lock new
 of-still lock old new own numbers lock_is = record { own = lock_is ∙ own.own; numbered = λ none. own.numbered (sym numbers ∙ none) }
 
-pub still_of : (s : Locks) (old new : Seats) (now : ℕ) (ask : Ask) (told : Reply) → AreOf s old → Visited old new now ask told → AreOf s new
+pub still_of : (s : Locks) (old new : Seats) (now : ℕ) (ask : Ask) (told : Said) → AreOf s old → Visited old new now ask told → AreOf s new
 still_of s old new now ask told own v = record {
   records = of-still s.records.lock old.records new.records own.records v.records.numbers v.records.lock;
   count = count_found old.parts new.parts v.found.parts v.parts ∙ own.count;

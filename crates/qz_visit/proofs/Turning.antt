@@ -1,6 +1,8 @@
 -- What the turns of one request at the catalogue and at one shard came to, put together.
 use Rattle.std.proofs.Common.{◌≡◌, ℕ, Bool, List, Option, None, Some, Result, Ok, Err, MatchResult, false, length, refl, sym, ap, ◌∙◌, subst}
 use Rattle.qz_catalog.specs.Keeping.{TellsJob, TellsPlan}
+use Rattle.qz_catalog_turns.specs.declared.replied.Replied.{Replied}
+use Rattle.qz_catalog_turns.specs.Owning.{TurnReplies}
 use Rattle.qz_catalog_turns.specs.Turning.{TurnCalls, held_of}
 use Rattle.qz_grading.specs.declared.refusal.AttemptId.{AttemptId}
 use Rattle.qz_grading.specs.declared.refusal.Refusal.{Refusal}
@@ -20,7 +22,6 @@ use Rattle.qz_terms.specs.declared.plan.Job.{Job}
 use Rattle.qz_terms.specs.declared.plan.Plan.{Plan}
 use Rattle.qz_terms.specs.declared.record.Record.{Record}
 use Rattle.qz_terms.specs.declared.reply.Done.TheVariants as done
-use Rattle.qz_terms.specs.declared.reply.Reply.{Reply}
 use Rattle.qz_terms.specs.declared.reply.Reply.TheVariants as reply
 use Rattle.qz_terms.specs.Answer.{live_answer}
 use Rattle.qz_terms.specs.History as history
@@ -28,7 +29,7 @@ use Rattle.qz_terms.specs.History.{live_after}
 use Rattle.qz_terms.specs.Legal.{AllAgree, IsLegalCatalog}
 use Rattle.qz_turn.specs.Passes.{Lock, Standing}
 use Rattle.qz_visit.specs.Ways as way
-use Rattle.qz_visit.specs.Ways.{AreTied, MayPlan, Part, Planned, Seen, Stepped, Tried}
+use Rattle.qz_visit.specs.Ways.{AreTied, MayPlan, Part, Planned, Seen, Stepped, Tried, refused_with}
 use Rattle.qz_visit.proofs.Passing.{found_after, found_rested, found_turned, sees_on, turn_sees}
 use Rattle.qz_visit.proofs.Planning.{can_pose}
 
@@ -36,19 +37,19 @@ use Rattle.qz_visit.proofs.Planning.{can_pose}
 
 -- the catalogue gave none
 pub planned_none : (so s sn : Seen) (po p : Part) (now : ℕ) (ask : Ask) (user : User) (quiz owner : ℕ) (whole : Bool) (r : Refusal) → SeesMore so s → SeesMore po p → (po.seen.doubt ≡ None → p.seen.doubt ≡ None)
-    → TurnCalls IsLegalCatalog (λ r. Err r) (Looks (TellsPlan quiz owner whole)) s sn (Err r) → Planned so sn po p now ask user quiz owner whole (reply.Refused r)
+    → TurnCalls IsLegalCatalog (λ r. Err r) (Looks (TellsPlan quiz owner whole)) s sn (Err r) → Planned so sn po p now ask user quiz owner whole (refused_with r)
 planned_none so s sn po p now ask user quiz owner whole r sees looks clear t =
     way.planless r (found_after so s sn sn.found sees (found_turned IsLegalCatalog (λ r. Err r) (Looks (TellsPlan quiz owner whole)) s sn (Err r) t))
     (look_ends (HasRisen sn.found.faults sn.seen.faults) (λ r. Err r) (TellsPlan quiz owner whole) (held_of sn.found) (held_of sn.seen) (Err r) t.calls.call) (found_rested po p looks) clear refl
 
 -- it gave one, and the shard answers under it
-pub planned_told : (P : List Record → Type 0) (so s m sn : Seen) (po p pn : Part) (now : ℕ) (ask : Ask) (user : User) (quiz owner : ℕ) (whole : Bool) (plan : Plan) (told : Reply) → SeesMore so s → SeesMore po p
-    → TurnCalls IsLegalCatalog (λ r. Err r) (Looks (TellsPlan quiz owner whole)) s m (Ok plan) → sn ≡ m → TurnCalls P reply.Refused (ShardAnswers m.seen.list now user ask) p pn told → Planned so sn po pn now ask user quiz owner whole told
+pub planned_told : (P : List Record → Type 0) (so s m sn : Seen) (po p pn : Part) (now : ℕ) (ask : Ask) (user : User) (quiz owner : ℕ) (whole : Bool) (plan : Plan) (told : Replied) → SeesMore so s → SeesMore po p
+    → TurnCalls IsLegalCatalog (λ r. Err r) (Looks (TellsPlan quiz owner whole)) s m (Ok plan) → sn ≡ m → TurnReplies P reply.Refused (ShardAnswers m.seen.list now user ask) p pn told.reply told.own → Planned so sn po pn now ask user quiz owner whole told
 planned_told P so s m sn po p pn now ask user quiz owner whole plan told sees looks t same a =
     let gave = look_told (HasRisen m.found.faults m.seen.faults) (TellsPlan quiz owner whole) (held_of m.found) (held_of m.seen) plan t.calls.call in
     subst (λ (x : Seen). Planned so x po pn now ask user quiz owner whole told) (sym same)
     (way.under plan (found_after so s m m.found sees (found_turned IsLegalCatalog (λ r. Err r) (Looks (TellsPlan quiz owner whole)) s m (Ok plan) t)) gave.0 gave.1
-    (found_after po p pn pn.found looks (found_turned P reply.Refused (ShardAnswers m.seen.list now user ask) p pn told a)) (record { call = a.calls.call }))
+    (found_after po p pn pn.found looks (found_turned P reply.Refused (ShardAnswers m.seen.list now user ask) p pn told.reply a.turn)) (record { call = a.turn.calls.call; leaves = a.leaves }))
 
 pub planned_pose : (so s m : Seen) (po p : Part) (index count : ℕ) (now : ℕ) (ask : Ask) (user : User) (quiz owner : ℕ) (whole : Bool) (plan : Plan) → SeesMore so s → SeesMore po p → MayPlan so.seen.list po.seen.list index count user quiz owner whole ask now
     → TurnCalls IsLegalCatalog (λ r. Err r) (Looks (TellsPlan quiz owner whole)) s m (Ok plan) → CanPose m.seen.list p.seen.list index count user plan ask now
@@ -59,17 +60,17 @@ planned_pose so s m po p index count now ask user quiz owner whole plan sees loo
 
 -- ---- a step of a job
 
-pub stepped_none : (so sn : Seen) (po : Part) (now : ℕ) (ask : Ask) (user : User) (number : ℕ) (r : Refusal) → TurnCalls IsLegalCatalog (λ r. Err r) (Looks (TellsJob number)) so sn (Err r) → Stepped so sn po po now ask user number (reply.Refused r)
+pub stepped_none : (so sn : Seen) (po : Part) (now : ℕ) (ask : Ask) (user : User) (number : ℕ) (r : Refusal) → TurnCalls IsLegalCatalog (λ r. Err r) (Looks (TellsJob number)) so sn (Err r) → Stepped so sn po po now ask user number (refused_with r)
 stepped_none so sn po now ask user number r t =
     way.jobless r (found_turned IsLegalCatalog (λ r. Err r) (Looks (TellsJob number)) so sn (Err r) t)
     (look_ends (HasRisen sn.found.faults sn.seen.faults) (λ r. Err r) (TellsJob number) (held_of sn.found) (held_of sn.seen) (Err r) t.calls.call) t.calls.seen_may.without refl refl
 
-pub stepped_told : (P : List Record → Type 0) (so m sn : Seen) (po pn : Part) (now : ℕ) (ask : Ask) (user : User) (number : ℕ) (job : Job) (told : Reply) → TurnCalls IsLegalCatalog (λ r. Err r) (Looks (TellsJob number)) so m (Ok job) → sn ≡ m
-    → TurnCalls P reply.Refused (λ h t g. IsWorked h now user.number job t g) po pn told → Stepped so sn po pn now ask user number told
+pub stepped_told : (P : List Record → Type 0) (so m sn : Seen) (po pn : Part) (now : ℕ) (ask : Ask) (user : User) (number : ℕ) (job : Job) (told : Replied) → TurnCalls IsLegalCatalog (λ r. Err r) (Looks (TellsJob number)) so m (Ok job) → sn ≡ m
+    → TurnReplies P reply.Refused (λ h t g. IsWorked h now user.number job t g) po pn told.reply told.own → Stepped so sn po pn now ask user number told
 stepped_told P so m sn po pn now ask user number job told t same w =
     let gave = look_told (HasRisen m.found.faults m.seen.faults) (TellsJob number) (held_of m.found) (held_of m.seen) job t.calls.call in
     subst (λ (x : Seen). Stepped so x po pn now ask user number told) (sym same)
-    (way.taken job (found_turned IsLegalCatalog (λ r. Err r) (Looks (TellsJob number)) so m (Ok job) t) gave.0 gave.1 (found_turned P reply.Refused (λ h t g. IsWorked h now user.number job t g) po pn told w) w.calls.call)
+    (way.taken job (found_turned IsLegalCatalog (λ r. Err r) (Looks (TellsJob number)) so m (Ok job) t) gave.0 gave.1 (found_turned P reply.Refused (λ h t g. IsWorked h now user.number job t g) po pn told.reply w.turn) w.turn.calls.call w.leaves)
 
 -- ---- the attempts that go on
 
@@ -123,12 +124,12 @@ tied_on records parts s m p n tied sees looks = record {
   tie = tied.tie;
 }
 
-pub tried_none : (P : List Record → Type 0) (so sn : Seen) (po pn : Part) (now : ℕ) (ask : Ask) (user : User) (attempt : AttemptId) (r : Refusal) → sn ≡ so → TurnCalls P (λ r. Err r) (Looks (TellsQuiz attempt)) po pn (Err r) → Tried so sn po pn now ask user attempt (reply.Refused r)
+pub tried_none : (P : List Record → Type 0) (so sn : Seen) (po pn : Part) (now : ℕ) (ask : Ask) (user : User) (attempt : AttemptId) (r : Refusal) → sn ≡ so → TurnCalls P (λ r. Err r) (Looks (TellsQuiz attempt)) po pn (Err r) → Tried so sn po pn now ask user attempt (refused_with r)
 tried_none P so sn po pn now ask user attempt r same t = way.unfound r same (found_turned P (λ r. Err r) (Looks (TellsQuiz attempt)) po pn (Err r) t) t.calls.call refl
 
 -- the shard told its quiz
-pub tried_told : (P : List Record → Type 0) (so sm sn : Seen) (po pm pn : Part) (now : ℕ) (ask : Ask) (user : User) (attempt : AttemptId) (q : ℕ) (result : Result Reply Refusal) → SeesMore so sm → TurnCalls P (λ r. Err r) (Looks (TellsQuiz attempt)) po pm (Ok q) → AllAgree sm.seen.list pm.seen.list
-    → MatchResult result (Planned sm sn pm pn now ask user q attempt.user false) (λ r. Planned sm sn pm pn now ask user q attempt.user false (reply.Refused r)) → MatchResult result (Tried so sn po pn now ask user attempt) (λ r. Tried so sn po pn now ask user attempt (reply.Refused r))
+pub tried_told : (P : List Record → Type 0) (so sm sn : Seen) (po pm pn : Part) (now : ℕ) (ask : Ask) (user : User) (attempt : AttemptId) (q : ℕ) (result : Result Replied Refusal) → SeesMore so sm → TurnCalls P (λ r. Err r) (Looks (TellsQuiz attempt)) po pm (Ok q) → AllAgree sm.seen.list pm.seen.list
+    → MatchResult result (Planned sm sn pm pn now ask user q attempt.user false) (λ r. Planned sm sn pm pn now ask user q attempt.user false (refused_with r)) → MatchResult result (Tried so sn po pn now ask user attempt) (λ r. Tried so sn po pn now ask user attempt (refused_with r))
 tried_told P so sm sn po pm pn now ask user attempt q (Ok told) sees t agree planned =
     let gave = look_told (HasRisen pm.found.faults pm.seen.faults) (TellsQuiz attempt) (held_of pm.found) (held_of pm.seen) q t.calls.call in
     way.of_quiz q sm pm sees (turn_sees P (λ r. Err r) (Looks (TellsQuiz attempt)) po pm (Ok q) t) gave.1 gave.0.no_doubt agree planned

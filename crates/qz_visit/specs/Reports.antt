@@ -24,9 +24,11 @@ pub record AreAt (locks : List (Locked Placed)) (passes : List Part) : Type 0 wh
   pub own : (k : ℕ) (l : Locked Placed) (p : Part) → slice_get locks k ≡ Some l → slice_get passes k ≡ Some p → IsOf l.lock p
   pub placed : (k : ℕ) (l : Locked Placed) → slice_get locks k ≡ Some l → (place : Placed) × (l.lock.key ≡ Some place) × (place.index ≡ k) × (place.count ≡ length locks)
 
--- The first so many shards were mended and read, in order, and their lists are legal; of the others the passes see what they saw.
+-- The first so many shards were mended and read, in order, and their lists are legal; of the others the passes see what they saw. All lists
+-- stay as they were found, once they were mended.
 pub record PartsRead (count : ℕ) (old new : List Part) (found : List (Tale Record)) : Type 0 where
   pub are : AreFoundBy old new found
+  pub same : map held_of found ≡ map held_of (seen_by new)
   pub mended : MendedUpTo count (map held_of found) (map held_of (seen_by new))
   pub legal : (k : ℕ) (p : Part) → k < count → slice_get new k ≡ Some p → IsLegal k (length new) p.seen.list
 

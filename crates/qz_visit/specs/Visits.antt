@@ -1,5 +1,9 @@
 -- A school behind locks as one who asks it sees it: a pass of each lock, what a request found of each list, and what it came to.
-use Rattle.std.specs.Prelude.{◌≡◌, ◌≢◌, ◌⊎◌, ℕ, ◌+◌, ◌<◌, List, [], ◌∷◌, length, map, slice_get, sum_by, Some, Result, MatchResult}
+use Rattle.std.specs.Prelude.{◌≡◌, ◌≢◌, ◌⊎◌, ℕ, ◌+◌, ◌-◌, ◌<◌, ◌≤◌, Bool, true, false, List, [], ◌∷◌, length, map, slice_get, sum_by, Option, None, Some, Result, MatchResult}
+use Rattle.qz_catalog_turns.specs.declared.replied.OwnRecord.{OwnRecord}
+use Rattle.qz_catalog_turns.specs.declared.replied.OwnRecord.TheVariants as own
+use Rattle.qz_catalog_turns.specs.declared.replied.Replied.{Replied}
+use Rattle.qz_catalog_turns.specs.Owning.{Leaves}
 use Rattle.qz_catalog_turns.specs.Turning.{held_of}
 use Rattle.qz_grading.specs.declared.refusal.Refusal.{Refusal}
 use Rattle.qz_outside.specs.Causes.{HasRisen}
@@ -9,11 +13,13 @@ use Rattle.qz_terms.specs.declared.ask.Ask.{Ask}
 use Rattle.qz_terms.specs.declared.record.Record.{Record}
 use Rattle.qz_terms.specs.declared.reply.Reply.{Reply}
 use Rattle.qz_terms.specs.declared.reply.Reply.TheVariants as reply
-use Rattle.qz_terms.specs.Serial.{Lists}
+use Rattle.qz_terms.specs.Serial.{Lists, Mended, is_catalog, is_part}
 use Rattle.qz_turn.specs.declared.view.Tale.{Tale}
 use Rattle.qz_turn.specs.Passes.{Lock, Standing}
 use Rattle.qz_turn.specs.Tales.{Follows}
 use Rattle.qz_turn.specs.Turns.{Locked}
+use Rattle.qz_visit.specs.declared.last.Last.{Last}
+use Rattle.qz_visit.specs.declared.last.Said.{Said}
 
 -- ---- its locks
 
@@ -30,9 +36,10 @@ pub record IsPlaced (records : Lock (Unit {0})) (count k : ℕ) (parts : Lock Pl
   pub index_is : place.index ≡ k
   pub count_is : place.count ≡ count
 
--- there is a shard, and each shard's lock is that of its place
+-- there is a shard, there are 64 at most, and each shard's lock is that of its place
 pub record IsSchool (records : Locked (Unit {0})) (parts : List (Locked Placed)) : Type 0 where
   pub some : 0 < length parts
+  pub few : length parts ≤ 64
   pub placed : (k : ℕ) (l : Locked Placed) → slice_get parts k ≡ Some l → IsPlaced records.lock (length parts) k l.lock
 
 -- ---- its passes
@@ -71,12 +78,16 @@ seen_in p = record { records = p.records.seen; parts = seen_by p.parts }
 
 -- ---- a request
 
+-- what was found, once it was mended; the count of faults is that which was found
+abbrev pub IsMendedTo : Tale Record → Tale Record → Type 0
+IsMendedTo found mended = Mended (held_of found) (held_of mended) × (mended.faults ≡ found.faults)
+
 -- What a request found of a list goes on from what its pass had seen, and what the pass sees now goes on from that. It is what the
--- pass's last turn there found, or all that it sees now.
+-- pass's last turn there found, once it was mended, or all that it sees now.
 pub record IsFoundBy {K : Type 0} (old new : Standing Record K) (found : Tale Record) : Type 0 where
   pub begins : Follows old.seen found
   pub grows : Follows found new.seen
-  pub last : (found ≡ new.found) ⊎ (found ≡ new.seen)
+  pub last : IsMendedTo new.found found ⊎ (found ≡ new.seen)
   pub numbers : new.numbers ≡ old.numbers
   pub lock : new.lock ≡ old.lock
 
@@ -90,24 +101,90 @@ pub data Rose (found seen : Tellings) : Type 0 where
   of_catalog : HasRisen found.records.faults seen.records.faults → Rose found seen
   of_shard : (k : ℕ) (f s : Tale Record) → slice_get found.parts k ≡ Some f → slice_get seen.parts k ≡ Some s → HasRisen f.faults s.faults → Rose found seen
 
+-- the record that a request put, at the list where it went; at no other list it has one
+abbrev pub own_if : Bool → OwnRecord → OwnRecord
+own_if true o = o
+own_if false o = own.Absent
+
+-- Between the lists that a request found and those that its passes see stands its own record, or is in doubt, at the list of this shard (none: of
+-- the catalogue), as is said. All else is as it was found.
+pub record Owns (found seen : Tellings) (part : Option ℕ) (o : OwnRecord) : Type 0 where
+  pub records : Leaves (held_of found.records) (held_of seen.records) (own_if (is_catalog part) o)
+  pub parts : (k : ℕ) (f s : Tale Record) → slice_get found.parts k ≡ Some f → slice_get seen.parts k ≡ Some s → Leaves (held_of f) (held_of s) (own_if (is_part k part) o)
+
 -- A request of one who holds these passes. Over the lists that it found it comes to what it may come to, and leaves those that its passes see.
 -- A keeper is said to have failed only where the count of a list rose while the request was at it.
-pub record Visited (old new : Seats) (now : ℕ) (ask : Ask) (told : Reply) : Type 0 where
+pub record Visited (old new : Seats) (now : ℕ) (ask : Ask) (told : Said) : Type 0 where
   pub found : Tellings
   pub records : IsFoundBy old.records new.records found.records
   pub parts : AreFoundBy old.parts new.parts found.parts
-  pub once : AskedOnce (Rose found (seen_in new)) (lists_told found) (lists_told (seen_in new)) now ask told
+  pub once : AskedOnce (Rose found (seen_in new)) (lists_told found) (lists_told (seen_in new)) now ask told.reply
+  pub owns : Owns found (seen_in new) told.list told.own
+
+-- what was said by the shard at this place
+abbrev pub at_part : ℕ → Replied → Said
+at_part k told = record { reply = told.reply; list = Some k; own = told.own }
+
+-- a refusal that no shard gave
+abbrev pub refusing : Refusal → Said
+refusing r = record { reply = reply.Refused r; list = None; own = own.Absent }
 
 -- of an answer whose error is a refusal
-abbrev pub Visits : Seats → Seats → ℕ → Ask → Result Reply Refusal → Type 0
-Visits old new now ask result = MatchResult result (Visited old new now ask) (λ r. Visited old new now ask (reply.Refused r))
+abbrev pub Visits : Seats → Seats → ℕ → Ask → Result Said Refusal → Type 0
+Visits old new now ask result = MatchResult result (Visited old new now ask) (λ r. Visited old new now ask (refusing r))
+
+-- ---- what is kept of a request
+
+-- how many records these lists have, one after the other
+pub record AreCounted (tales : List (Tale Record)) (counts : List ℕ) : Type 0 where
+  pub many : length counts ≡ length tales
+  pub each : (k : ℕ) (t : Tale Record) → slice_get tales k ≡ Some t → slice_get counts k ≡ Some (length t.list)
+
+-- how many records a list has without a request's own
+abbrev pub without_own : OwnRecord → ℕ → ℕ
+without_own own.Stands n = n - 1
+without_own own.InDoubt n = n
+without_own own.Absent n = n
+
+-- how many records these lists have without that of a request at the list of this shard
+pub record AreLeft (o : OwnRecord) (part : Option ℕ) (tales : List (Tale Record)) (counts : List ℕ) : Type 0 where
+  pub many : length counts ≡ length tales
+  pub each : (k : ℕ) (t : Tale Record) → slice_get tales k ≡ Some t → slice_get counts k ≡ Some (without_own (own_if (is_part k part) o) (length t.list))
+
+-- the record put stands, or is in doubt
+abbrev pub own_kept : Bool → Bool → OwnRecord
+own_kept true doubt = own.Stands
+own_kept false true = own.InDoubt
+own_kept false false = own.Absent
+
+abbrev pub said_by : Reply → Last → Said
+said_by told last = record { reply = told; list = last.list; own = own_kept last.put last.doubt }
+
+-- A request, as `Visited` tells, and what is kept of it: how long the lists are that it found, and what became of its own record.
+pub record Asked (old new : Seats) (last : Last) (now : ℕ) (ask : Ask) (told : Reply) : Type 0 where
+  pub visited : Visited old new now ask (said_by told last)
+  pub catalog : last.catalog ≡ length visited.found.records.list
+  pub parts : AreCounted visited.found.parts last.parts
+
+-- nothing was asked yet
+pub record IsUnasked (p : Seats) (last : Last) : Type 0 where
+  pub catalog : last.catalog ≡ length p.records.seen.list
+  pub parts : AreCounted (seen_by p.parts) last.parts
+  pub list : last.list ≡ None
+  pub own : own_kept last.put last.doubt ≡ own.Absent
+
+-- passes of a school, and what is kept of their last request
+pub record Holder : Type 0 where
+  pub seats : Seats
+  pub last : Last
 
 -- ---- one who asks
 
--- a school, and the passes of one who asks it
+-- a school, the passes of one who asks it, and what is kept of the last request
 pub record Visitor : Type 0 where
   pub school : Locks
   pub passes : Seats
+  pub last : Last
 
 -- how often the keepers of the lists had failed, in all, when the passes last saw them
 abbrev pub faults_seen : Seats → ℕ

@@ -1,7 +1,10 @@
 -- What requests come to at the catalogue and at one shard, as the two passes that took the turns tell: `so` and `po` before, `sn` and `pn` after.
-use Rattle.std.specs.Prelude.{◌≡◌, ℕ, Bool, true, false, List, None, Some, Result, Err, MatchResult}
+use Rattle.std.specs.Prelude.{◌≡◌, ℕ, Bool, true, false, List, None, Some, Result, Ok, Err, MatchResult}
 use mathlib.Core.List.{IsPrefix}
 use Rattle.qz_catalog.specs.Keeping.{IsJob, IsPlan, TellsJob, TellsPlan}
+use Rattle.qz_catalog_turns.specs.declared.replied.OwnRecord.TheVariants as own
+use Rattle.qz_catalog_turns.specs.declared.replied.Replied.{Replied}
+use Rattle.qz_catalog_turns.specs.Owning.{Leaves}
 use Rattle.qz_catalog_turns.specs.Turning.{held_of}
 use Rattle.qz_grading.specs.declared.refusal.AttemptId.{AttemptId}
 use Rattle.qz_grading.specs.declared.refusal.Refusal.{Refusal}
@@ -19,7 +22,6 @@ use Rattle.qz_terms.specs.declared.people.User.{User}
 use Rattle.qz_terms.specs.declared.plan.Job.{Job}
 use Rattle.qz_terms.specs.declared.plan.Plan.{Plan}
 use Rattle.qz_terms.specs.declared.record.Record.{Record}
-use Rattle.qz_terms.specs.declared.reply.Reply.{Reply}
 use Rattle.qz_terms.specs.declared.reply.Reply.TheVariants as reply
 use Rattle.qz_terms.specs.Catalog.{user_of}
 use Rattle.qz_terms.specs.History as history
@@ -62,9 +64,18 @@ pub record MayPlan (c seen : List Record) (index count : ℕ) (user : User) (qui
 
 -- ---- what came of it
 
--- a call that the shard answers, in its pass's last turn
-pub record Answered (c : List Record) (now : ℕ) (ask : Ask) (user : User) (pn : Part) (told : Reply) : Type 0 where
-  pub call : OneCall (HasRisen pn.found.faults pn.seen.faults) reply.Refused (ShardAnswers c now user ask) (held_of pn.found) (held_of pn.seen) told
+-- a refusal, which puts no record
+abbrev pub refused_with : Refusal → Replied
+refused_with r = record { reply = reply.Refused r; own = own.Absent }
+
+abbrev pub replied_of : Result Replied Refusal → Replied
+replied_of (Ok told) = told
+replied_of (Err r) = refused_with r
+
+-- a call that the shard answers, in its pass's last turn, and the record of its own that it leaves
+pub record Answered (c : List Record) (now : ℕ) (ask : Ask) (user : User) (pn : Part) (told : Replied) : Type 0 where
+  pub call : OneCall (HasRisen pn.found.faults pn.seen.faults) reply.Refused (ShardAnswers c now user ask) (held_of pn.found) (held_of pn.seen) told.reply
+  pub leaves : Leaves call.mended (held_of pn.seen) told.own
 
 -- the catalogue, in its pass's last turn, was mended
 abbrev pub IsMended : Seen → Type 0
@@ -75,34 +86,34 @@ abbrev pub Untold : {A : Type 0} → (List Record → Result A Refusal → Type 
 Untold Says sn r = LookEnds (HasRisen sn.found.faults sn.seen.faults) (λ r. Err r) Says (held_of sn.found) (held_of sn.seen) (Err r)
 
 -- A request under the plan of a quiz for a user: the catalogue gave the plan and the shard answered, or the catalogue gave none.
-pub data Planned (so sn : Seen) (po pn : Part) (now : ℕ) (ask : Ask) (user : User) (quiz owner : ℕ) (whole : Bool) (told : Reply) : Type 0 where
+pub data Planned (so sn : Seen) (po pn : Part) (now : ℕ) (ask : Ask) (user : User) (quiz owner : ℕ) (whole : Bool) (told : Replied) : Type 0 where
   under : (p : Plan) → IsFoundBy so sn sn.found → IsMended sn → IsPlan sn.seen.list quiz owner whole p → IsFoundBy po pn pn.found → Answered sn.seen.list now ask user pn told → Planned so sn po pn now ask user quiz owner whole told
-  planless : (r : Refusal) → IsFoundBy so sn sn.found → Untold (TellsPlan quiz owner whole) sn r → IsFoundBy po pn pn.seen → (po.seen.doubt ≡ None → pn.seen.doubt ≡ None) → told ≡ reply.Refused r → Planned so sn po pn now ask user quiz owner whole told
+  planless : (r : Refusal) → IsFoundBy so sn sn.found → Untold (TellsPlan quiz owner whole) sn r → IsFoundBy po pn pn.seen → (po.seen.doubt ≡ None → pn.seen.doubt ≡ None) → told ≡ refused_with r → Planned so sn po pn now ask user quiz owner whole told
 
 -- A request that names an attempt: the shard didn't tell its quiz, and nothing else was asked; or it did, in a list that agrees with what the catalogue's pass
 -- has seen then, and the request was asked under the plan of that quiz.
-pub data Tried (so sn : Seen) (po pn : Part) (now : ℕ) (ask : Ask) (user : User) (attempt : AttemptId) (told : Reply) : Type 0 where
-  unfound : (r : Refusal) → sn ≡ so → IsFoundBy po pn pn.found → OneCall (HasRisen pn.found.faults pn.seen.faults) (λ r. Err r) (Looks (TellsQuiz attempt)) (held_of pn.found) (held_of pn.seen) (Err r) → told ≡ reply.Refused r
+pub data Tried (so sn : Seen) (po pn : Part) (now : ℕ) (ask : Ask) (user : User) (attempt : AttemptId) (told : Replied) : Type 0 where
+  unfound : (r : Refusal) → sn ≡ so → IsFoundBy po pn pn.found → OneCall (HasRisen pn.found.faults pn.seen.faults) (λ r. Err r) (Looks (TellsQuiz attempt)) (held_of pn.found) (held_of pn.seen) (Err r) → told ≡ refused_with r
       → Tried so sn po pn now ask user attempt told
   of_quiz : (q : ℕ) (sm : Seen) (pm : Part) → SeesMore so sm → SeesMore po pm → history.quiz pm.seen.list attempt ≡ Some q → pm.seen.doubt ≡ None → AllAgree sm.seen.list pm.seen.list
       → Planned sm sn pm pn now ask user q attempt.user false told → Tried so sn po pn now ask user attempt told
 
 -- A step of a job: the catalogue gave the job and the shard took the step, or the catalogue gave none.
-pub data Stepped (so sn : Seen) (po pn : Part) (now : ℕ) (ask : Ask) (user : User) (number : ℕ) (told : Reply) : Type 0 where
+pub data Stepped (so sn : Seen) (po pn : Part) (now : ℕ) (ask : Ask) (user : User) (number : ℕ) (told : Replied) : Type 0 where
   taken : (job : Job) → IsFoundBy so sn sn.found → IsMended sn → IsJob sn.seen.list number job → IsFoundBy po pn pn.found
-      → OneCall (HasRisen pn.found.faults pn.seen.faults) reply.Refused (λ h t g. IsWorked h now user.number job t g) (held_of pn.found) (held_of pn.seen) told → Stepped so sn po pn now ask user number told
-  jobless : (r : Refusal) → IsFoundBy so sn sn.found → Untold (TellsJob number) sn r → IsLegalCatalog sn.seen.list → pn ≡ po → told ≡ reply.Refused r → Stepped so sn po pn now ask user number told
+      → (call : OneCall (HasRisen pn.found.faults pn.seen.faults) reply.Refused (λ h t g. IsWorked h now user.number job t g) (held_of pn.found) (held_of pn.seen) told.reply) → Leaves call.mended (held_of pn.seen) told.own → Stepped so sn po pn now ask user number told
+  jobless : (r : Refusal) → IsFoundBy so sn sn.found → Untold (TellsJob number) sn r → IsLegalCatalog sn.seen.list → pn ≡ po → told ≡ refused_with r → Stepped so sn po pn now ask user number told
 
 -- ---- a request of a user with a token
 
 -- The shard answered it; the catalogue refuses it; or a look at the catalogue told nothing.
-pub data CameTo (so sn : Seen) (po pn : Part) (now : ℕ) (ask : Ask) (user : User) (told : Reply) : Type 0 where
+pub data CameTo (so sn : Seen) (po pn : Part) (now : ℕ) (ask : Ask) (user : User) (told : Replied) : Type 0 where
   answered : IsFoundBy so sn sn.found → IsMended sn → user_of sn.seen.list ask.caller ≡ Some user → first_refusal sn.seen.list user ask.request ≡ None → IsFoundBy po pn pn.found → Answered sn.seen.list now ask user pn told
       → CameTo so sn po pn now ask user told
   answered_alone : sn ≡ so → first_refusal sn.seen.list user ask.request ≡ None → IsFoundBy po pn pn.found → Answered sn.seen.list now ask user pn told → CameTo so sn po pn now ask user told
-  refused : (r : Refusal) → IsFoundBy so sn sn.found → IsMended sn → user_of sn.seen.list ask.caller ≡ Some user → first_refusal sn.seen.list user ask.request ≡ Some r → IsFoundBy po pn pn.seen → told ≡ reply.Refused r
+  refused : (r : Refusal) → IsFoundBy so sn sn.found → IsMended sn → user_of sn.seen.list ask.caller ≡ Some user → first_refusal sn.seen.list user ask.request ≡ Some r → IsFoundBy po pn pn.seen → told ≡ refused_with r
       → CameTo so sn po pn now ask user told
-  untold : (r : Refusal) → IsFoundBy so sn sn.found → Untold {A = Unit {0}} (λ _ _. ⊥) sn r → IsFoundBy po pn pn.seen → told ≡ reply.Refused r → CameTo so sn po pn now ask user told
+  untold : (r : Refusal) → IsFoundBy so sn sn.found → Untold {A = Unit {0}} (λ _ _. ⊥) sn r → IsFoundBy po pn pn.seen → told ≡ refused_with r → CameTo so sn po pn now ask user told
 
-abbrev pub Comes : Seen → Seen → Part → Part → ℕ → Ask → User → Result Reply Refusal → Type 0
-Comes so sn po pn now ask user result = MatchResult result (CameTo so sn po pn now ask user) (λ r. CameTo so sn po pn now ask user (reply.Refused r))
+abbrev pub Comes : Seen → Seen → Part → Part → ℕ → Ask → User → Result Replied Refusal → Type 0
+Comes so sn po pn now ask user result = MatchResult result (CameTo so sn po pn now ask user) (λ r. CameTo so sn po pn now ask user (refused_with r))

@@ -14,11 +14,11 @@ ghost use Rattle.qz_visit.specs.Ways.{AreTied, CameTo, Comes, HasPlace, IsKnownB
 
 use crate::attempts::{answer_attempt, answer_planned};
 use crate::steps::{answer_live, answer_work};
-use qz_catalog_turns::Records;
+use qz_catalog_turns::{OwnRecord, Records, Replied};
 use qz_disks::Keeper;
 use qz_grading::{AttemptId, Refusal};
 use qz_shard_turns::Part;
-use qz_terms::{Ask, Reply, Request, User};
+use qz_terms::{Ask, Request, User};
 use qz_turn::{Pass, Turns};
 use std::alloc::Global;
 use std::sync::Wait;
@@ -34,7 +34,7 @@ pub(crate) fn answer_at<K: Keeper, R: Wait>(
     user: &User,
     ask: &Ask,
     moment: u64,
-) -> Result<Reply, Refusal>
+) -> Result<Replied, Refusal>
     requires tied { AreTied records.now.lock parts.now.lock seen.old pass.old }
     requires asked { MayBeAsked ask.now moment }
     requires known { IsKnownBy seen.old ask.now user.now }
@@ -113,7 +113,7 @@ fn answer_quiz<K: Keeper, R: Wait>(
     whole: bool,
     ask: &Ask,
     moment: u64,
-) -> Result<Reply, Refusal>
+) -> Result<Replied, Refusal>
     requires tied { AreTied records.now.lock parts.now.lock seen.old pass.old }
     requires asked { MayBeAsked ask.now moment }
     requires known { IsKnownBy seen.old ask.now user.now }
@@ -140,7 +140,7 @@ fn answer_named<K: Keeper, R: Wait>(
     attempt: AttemptId,
     ask: &Ask,
     moment: u64,
-) -> Result<Reply, Refusal>
+) -> Result<Replied, Refusal>
     requires tied { AreTied records.now.lock parts.now.lock seen.old pass.old }
     requires asked { MayBeAsked ask.now moment }
     requires known { IsKnownBy seen.old ask.now user.now }
@@ -165,14 +165,17 @@ fn answer_going<K: Keeper, R: Wait>(
     attempt: AttemptId,
     ask: &Ask,
     moment: u64,
-) -> Reply
+) -> Replied
     requires own { IsOf parts.now.lock pass.old }
     requires placed { HasPlace parts.now.lock }
     requires may { forbidden user.now ask.now.request ≡ None }
     requires live { ask.now.request ≡ request.Live shard attempt }
     ensures { CameTo seen.old seen.new pass.old pass.new moment ask.now user.now result }
 {
-    answer_live(parts, rt, pass, alloc, attempt)
+    Replied {
+        reply: answer_live(parts, rt, pass, alloc, attempt),
+        own: OwnRecord::Absent,
+    }
 }
 
 /// The reply to a request for a step of a job.
@@ -188,7 +191,7 @@ fn answer_step<K: Keeper, R: Wait>(
     shard: u8,
     ask: &Ask,
     moment: u64,
-) -> Result<Reply, Refusal>
+) -> Result<Replied, Refusal>
     requires tied { AreTied records.now.lock parts.now.lock seen.old pass.old }
     requires asked { MayBeAsked ask.now moment }
     requires known { IsKnownBy seen.old ask.now user.now }

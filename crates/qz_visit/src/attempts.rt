@@ -2,19 +2,18 @@
 
 ghost use Rattle.std.specs.Prelude.{◌≡◌, None, Some, MatchResult};
 ghost use Rattle.qz_solo.specs.Answering.{MayBeAsked};
-ghost use Rattle.qz_terms.specs.declared.reply.Reply.TheVariants as reply;
 ghost use Rattle.qz_terms.specs.Answer.{attempt_named};
 ghost use Rattle.qz_terms.specs.Cause.{forbidden};
 ghost use Rattle.qz_terms.specs.Catalog.{user_of};
 ghost use Rattle.qz_turn.specs.Turns.{UnderKey};
-ghost use Rattle.qz_visit.specs.Ways.{AreTied, MayPlan, Planned, Tried};
+ghost use Rattle.qz_visit.specs.Ways.{AreTied, MayPlan, Planned, Tried, refused_with};
 
-use qz_catalog_turns::{Records, plan};
+use qz_catalog_turns::{Records, Replied, plan};
 use qz_disks::Keeper;
 use qz_grading::{AttemptId, Refusal};
 use qz_shard::Older;
 use qz_shard_turns::{Part, answer, quiz_of};
-use qz_terms::{Ask, Reply, User};
+use qz_terms::{Ask, User};
 use qz_turn::{Pass, Turns};
 use std::alloc::Global;
 use std::sync::Wait;
@@ -34,21 +33,21 @@ pub(crate) fn answer_planned<K: Keeper, R: Wait>(
     whole: bool,
     ask: &Ask,
     moment: u64,
-) -> Result<Reply, Refusal>
+) -> Result<Replied, Refusal>
     requires tied { AreTied records.now.lock parts.now.lock seen.old pass.old }
     requires may { UnderKey parts.now.lock (λ place. MayPlan seen.old.seen.list pass.old.seen.list
         place.index place.count user.now quiz owner whole ask.now moment) }
     ensures { MatchResult result
         (Planned seen.old seen.new pass.old pass.new moment ask.now user.now quiz owner whole)
         (λ r. Planned seen.old seen.new pass.old pass.new moment ask.now user.now quiz owner whole
-        (reply.Refused r)) }
+        (refused_with r)) }
 {
     for _ in rt.forever() {
         let plan = plan(records, rt, seen, alloc, quiz, owner, whole)?;
         match answer(
             records, parts, rt, seen, pass, alloc, user, &plan, ask, moment,
         ) {
-            Ok(reply) => return Ok(reply),
+            Ok(replied) => return Ok(replied),
             Err(Older { .. }) => {}
         }
     }
@@ -68,7 +67,7 @@ pub(crate) fn answer_attempt<K: Keeper, R: Wait>(
     attempt: AttemptId,
     ask: &Ask,
     moment: u64,
-) -> Result<Reply, Refusal>
+) -> Result<Replied, Refusal>
     requires tied { AreTied records.now.lock parts.now.lock seen.old pass.old }
     requires asked { MayBeAsked ask.now moment }
     requires known { user_of seen.old.seen.list ask.now.caller ≡ Some user.now }
@@ -77,7 +76,7 @@ pub(crate) fn answer_attempt<K: Keeper, R: Wait>(
     ensures { MatchResult result
         (Tried seen.old seen.new pass.old pass.new moment ask.now user.now attempt)
         (λ r. Tried seen.old seen.new pass.old pass.new moment ask.now user.now attempt
-        (reply.Refused r)) }
+        (refused_with r)) }
 {
     let quiz = quiz_of(records, parts, rt, seen, pass, alloc, attempt)?;
     answer_planned(

@@ -7,7 +7,7 @@ ghost use Rattle.qz_visit.specs.Closing.{AllJoin, AreClosed, AreLocked, ArePasse
 ghost use Rattle.qz_visit.specs.Opening.{half_told, tales};
 ghost use Rattle.qz_visit.specs.Visits.{seen_by, seen_in};
 
-use crate::passes::Passes;
+use crate::passes::{Passes, Seats};
 use crate::school::School;
 use qz_catalog_turns::Records;
 use qz_disks::Keeper;
@@ -91,34 +91,52 @@ pub(crate) fn close_all<K: Keeper>(
 }
 
 impl<K: Keeper> School<K> {
+    fn join_seats(&self, seats: &mut Seats<K>, other: Seats<K>)
+        requires own { ArePasses self.now seats.old }
+        requires other { ArePasses self.now other }
+        ensures { JoinsAll seats.old other seats.new }
+    {
+        let Seats { records, parts } = other;
+        self.records.join(&mut seats.records, records);
+        join_parts(&self.parts, &mut seats.parts, parts);
+    }
+
     /// Adds the numbers of other passes of this school, and what they have seen: of each two lists one begins the other, and the longer is
     /// kept. It takes no memory.
     pub fn join(&self, passes: &mut Passes<K>, other: Passes<K>)
-        requires own { ArePasses self.now passes.old }
-        requires other { ArePasses self.now other }
-        ensures { JoinsAll passes.old other passes.new }
+        requires own { ArePasses self.now passes.old.seats }
+        requires other { ArePasses self.now other.seats }
+        ensures seats { JoinsAll passes.old.seats other.seats passes.new.seats }
+        ensures last { passes.new.last ≡ passes.old.last }
     {
-        let Passes { records, parts } = other;
-        self.records.join(&mut passes.records, records);
-        join_parts(&self.parts, &mut passes.parts, parts);
+        self.join_seats(&mut passes.seats, other.seats);
     }
 
-    /// The school, from the passes that have every number. Each of its lists goes on from what they have seen. It takes no memory.
-    pub fn close(self, passes: Passes<K>) -> Solo<K>
-        requires own { ArePasses self passes }
-        requires every { HaveEvery self passes }
-        requires founded { HasFounding self passes }
-        ensures { Closes K.faults (seen_in passes) result }
+    fn close_seats(self, seats: Seats<K>) -> Solo<K>
+        requires own { ArePasses self seats }
+        requires every { HaveEvery self seats }
+        requires founded { HasFounding self seats }
+        ensures { Closes K.faults (seen_in seats) result }
     {
         let School {
             records,
             parts,
             room,
         } = self;
-        let Passes {
+        let Seats {
             records: seen,
             parts: passes,
-        } = passes;
+        } = seats;
         close_all(records, seen, room, parts, passes)
+    }
+
+    /// The school, from the passes that have every number. Each of its lists goes on from what they have seen. It takes no memory.
+    pub fn close(self, passes: Passes<K>) -> Solo<K>
+        requires own { ArePasses self passes.seats }
+        requires every { HaveEvery self passes.seats }
+        requires founded { HasFounding self passes.seats }
+        ensures { Closes K.faults (seen_in passes.seats) result }
+    {
+        self.close_seats(passes.seats)
     }
 }

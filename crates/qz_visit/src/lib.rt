@@ -4,6 +4,7 @@
 mod at_shard;
 mod attempts;
 mod closing;
+mod last;
 mod opening;
 mod passes;
 mod reports;
@@ -14,6 +15,7 @@ mod tokens;
 mod visit;
 mod workers;
 
+pub use last::Last;
 pub use passes::Passes;
 pub use school::School;
 pub use visit::Visit;

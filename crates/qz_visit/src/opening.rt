@@ -1,14 +1,15 @@
 //! A school is put behind locks.
 
-ghost use Rattle.std.specs.Prelude.{◌≡◌, ◌+◌, ◌≤◌, [], reverse, IfOk, IfErr, vec_len, vec_capacity};
+ghost use Rattle.std.specs.Prelude.{◌≡◌, ◌+◌, ◌≤◌, [], length, reverse, IfOk, IfErr, vec_len, vec_capacity};
 ghost use Rattle.qz_keeper.specs.Lists.{EachMayStand};
 ghost use Rattle.qz_solo.specs.Solos.{AgreeAll, ArePlaced, IsSolo};
 ghost use Rattle.qz_terms.specs.Legal.{AllAgree, IsLegalCatalog};
 ghost use Rattle.qz_visit.specs.Closing.{Closes};
 ghost use Rattle.qz_visit.specs.Opening.{HalfOpens, IsOpened, Opens, told_by};
+ghost use Rattle.qz_visit.specs.Visits.{IsUnasked};
 
 use crate::closing::close_all;
-use crate::passes::Passes;
+use crate::passes::{Passes, Seats, zeros};
 use crate::school::School;
 use qz_catalog::Catalog;
 use qz_catalog_turns::Records;
@@ -97,8 +98,9 @@ fn open_all<K: Keeper>(
     mut locks: Vec<Turns<Part<K>>>,
     mut passes: Vec<Pass<Part<K>>>,
     seats: u32,
-) -> Result<(School<K>, Passes<K>), (Solo<K>, NoMemory)>
+) -> Result<(School<K>, Seats<K>), (Solo<K>, NoMemory)>
     requires solo { IsSolo catalog shards.items }
+    requires few { length shards.items ≤ 64 }
     requires legal { EachMayStand IsLegalCatalog catalog.held }
     requires none { (locks.items ≡ []) × (passes.items ≡ []) }
     requires room { (vec_len shards ≤ vec_capacity locks) × (vec_len shards ≤ vec_capacity passes) }
@@ -126,7 +128,7 @@ fn open_all<K: Keeper>(
                         parts: locks,
                         room: shards,
                     },
-                    Passes {
+                    Seats {
                         records: seen,
                         parts: passes,
                     },
@@ -149,12 +151,18 @@ impl<K: Keeper> School<K> {
         solo: Solo<K>,
         seats: u32,
     ) -> Result<(School<K>, Passes<K>), (Solo<K>, NoMemory)>
-        ensures opened { IfOk result (λ made. Opens K.faults seats solo made.0 made.1) }
+        ensures opened { IfOk result (λ made. Opens K.faults seats solo made.0 made.1.seats) }
+        ensures unasked { IfOk result (λ made. IsUnasked made.1.seats made.1.last) }
         ensures refused { IfErr result (λ back. Closes K.faults (told_by K.faults solo) back.0) }
     {
         // Whatever a catalogue holds is legal.
         let _records = solo.len();
         let (catalog, shards) = solo.into_parts();
+        // There are 64 at most.
+        let _first = shards[0].len();
+        let Ok(counts) = zeros(alloc, shards.len()) else {
+            return Err((Solo::of(catalog, shards), NoMemory));
+        };
         let Ok(locks) = Vec::with_capacity(alloc, shards.len()) else {
             return Err((Solo::of(catalog, shards), NoMemory));
         };
@@ -162,6 +170,7 @@ impl<K: Keeper> School<K> {
             locks.destroy_empty();
             return Err((Solo::of(catalog, shards), NoMemory));
         };
-        open_all(alloc, catalog, shards, locks, passes, seats)
+        let (school, seats) = open_all(alloc, catalog, shards, locks, passes, seats)?;
+        Ok((school, Passes::unasked(seats, counts)))
     }
 }

@@ -10,7 +10,8 @@ ghost use Rattle.qz_visit.specs.Reports.{AreAt, RowsAre, RowsStop};
 ghost use Rattle.qz_visit.specs.Tokens.{IsKnownTo};
 ghost use Rattle.qz_visit.specs.Visits.{AreOf, Visits};
 
-use crate::passes::Passes;
+use crate::last::Said;
+use crate::passes::Seats;
 use crate::school::School;
 use qz_catalog_turns::heading;
 use qz_decimal::Grade;
@@ -64,13 +65,13 @@ impl<K: Keeper> School<K> {
     pub(crate) fn report<R: Wait>(
         &self,
         rt: &R,
-        passes: &mut Passes<K>,
+        passes: &mut Seats<K>,
         alloc: Global,
         _user: &User,
         quiz: u32,
         ask: &Ask,
         moment: u64,
-    ) -> Result<Reply, Refusal>
+    ) -> Result<Said, Refusal>
         requires own { AreOf self.now passes.old }
         requires asked { MayBeAsked ask.now moment }
         requires known { IsKnownTo passes.old.records ask.now _user.now }
@@ -82,9 +83,10 @@ impl<K: Keeper> School<K> {
         let policy = &heading.policy;
         let all = rows_of_all(&self.parts, rt, &mut passes.parts, alloc, quiz, policy)?;
         let rows = report_rows(alloc, all.as_slice(), heading.names.as_slice())?;
-        Ok(Reply::Ok {
+        let reply = Reply::Ok {
             place: heading.place,
             done: Done::Report { rows },
-        })
+        };
+        Ok(Said::without(reply, None))
     }
 }

@@ -1,9 +1,10 @@
 //! A school behind locks.
 
 ghost use Rattle.qz_solo.specs.Answering.{MayBeAsked};
-ghost use Rattle.qz_visit.specs.Visits.{AreOf, Visited};
+ghost use Rattle.qz_visit.specs.Visits.{AreOf, Asked, Visited};
 
-use crate::passes::Passes;
+use crate::last::Said;
+use crate::passes::{Passes, Seats};
 use qz_catalog_turns::Records;
 use qz_disks::Keeper;
 use qz_shard::Shard;
@@ -37,10 +38,34 @@ impl<K: Keeper> Model for School<K> {
 }
 
 impl<K: Keeper> School<K> {
+    /// What is said to a request, which shard said it, and what became of the request's own record.
+    fn say<R: Wait>(
+        &self,
+        rt: &R,
+        seats: &mut Seats<K>,
+        alloc: Global,
+        ask: &Ask,
+        moment: u64,
+    ) -> Said
+        requires own { AreOf self.now seats.old }
+        requires asked { MayBeAsked ask.now moment }
+        ensures { Visited seats.old seats.new moment ask.now result }
+    {
+        let told = match &ask.caller {
+            Caller::Token(token) => self.answer_token(rt, seats, alloc, token, ask, moment),
+            Caller::Worker => self.answer_worker(rt, seats, alloc, ask, moment),
+        };
+        match told {
+            Ok(said) => said,
+            Err(refusal) => Said::without(Reply::Refused(refusal), None),
+        }
+    }
+
     /// The reply to a request, at this moment by the clock, in seconds since 1970. It waits for its turns.
     ///
     /// The reply is the answer over the lists that its passes see then, without the record that the request put. A list that the request
-    /// reads is mended first. `KeepFault` comes only where a keeper failed in a turn of this very request.
+    /// reads is mended first. `KeepFault` comes only where a keeper failed in a turn of this very request. `Passes::last` tells how long
+    /// those lists are, and what became of that record.
     pub fn ask<R: Wait>(
         &self,
         rt: &R,
@@ -49,17 +74,13 @@ impl<K: Keeper> School<K> {
         ask: &Ask,
         moment: u64,
     ) -> Reply
-        requires own { AreOf self.now passes.old }
+        requires own { AreOf self.now passes.old.seats }
         requires asked { MayBeAsked ask.now moment }
-        ensures { Visited passes.old passes.new moment ask.now result }
+        ensures { Asked passes.old.seats passes.new.seats passes.new.last moment ask.now result }
     {
-        let told = match &ask.caller {
-            Caller::Token(token) => self.answer_token(rt, passes, alloc, token, ask, moment),
-            Caller::Worker => self.answer_worker(rt, passes, alloc, ask, moment),
-        };
-        match told {
-            Ok(reply) => reply,
-            Err(refusal) => Reply::Refused(refusal),
-        }
+        let said = self.say(rt, &mut passes.seats, alloc, ask, moment);
+        let Said { reply, list, own } = said;
+        passes.keep(list, own);
+        reply
     }
 }

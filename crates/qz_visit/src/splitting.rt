@@ -4,8 +4,9 @@ ghost use Rattle.std.specs.Prelude.{◌≡◌, ◌≤◌, [], map, IfOk, IfErr, 
 ghost use Rattle.qz_turn.specs.Turns.{left_of, split_off};
 ghost use Rattle.qz_visit.specs.Closing.{AreLocked, ArePasses};
 ghost use Rattle.qz_visit.specs.Opening.{Splits};
+ghost use Rattle.qz_visit.specs.Visits.{IsUnasked};
 
-use crate::passes::Passes;
+use crate::passes::{Passes, Seats, zeros};
 use crate::school::School;
 use qz_disks::Keeper;
 use qz_shard_turns::Part;
@@ -32,15 +33,29 @@ fn split_parts<K: Keeper>(
 }
 
 impl<K: Keeper> School<K> {
-    /// Gives the first number of each of these passes to new ones, which have seen the same. Where memory is short nothing is given.
-    pub fn split(&self, alloc: Global, passes: &mut Passes<K>) -> Result<Passes<K>, NoMemory>
-        requires own { ArePasses self.now passes.old }
-        ensures given { IfOk result (λ given. Splits passes.old passes.new given) }
-        ensures kept { IfErr result (λ _. passes.new ≡ passes.old) }
+    fn split_seats(&self, alloc: Global, seats: &mut Seats<K>) -> Result<Seats<K>, NoMemory>
+        requires own { ArePasses self.now seats.old }
+        ensures given { IfOk result (λ given. Splits seats.old seats.new given) }
+        ensures kept { IfErr result (λ _. seats.new ≡ seats.old) }
     {
-        let room = Vec::with_capacity(alloc, passes.parts.len())?;
-        let parts = split_parts(&self.parts, &mut passes.parts, room);
-        let records = self.records.split(&mut passes.records);
-        Ok(Passes { records, parts })
+        let room = Vec::with_capacity(alloc, seats.parts.len())?;
+        let parts = split_parts(&self.parts, &mut seats.parts, room);
+        let records = self.records.split(&mut seats.records);
+        Ok(Seats { records, parts })
+    }
+
+    /// Gives the first number of each of these passes to new ones, which have seen the same, and by which nothing was asked yet. Where memory
+    /// is short nothing is given.
+    pub fn split(&self, alloc: Global, passes: &mut Passes<K>) -> Result<Passes<K>, NoMemory>
+        requires own { ArePasses self.now passes.old.seats }
+        ensures given { IfOk result (λ given.
+            Splits passes.old.seats passes.new.seats given.seats) }
+        ensures unasked { IfOk result (λ given. IsUnasked given.seats given.last) }
+        ensures kept { IfErr result (λ _. passes.new ≡ passes.old) }
+        ensures last { passes.new.last ≡ passes.old.last }
+    {
+        let counts = zeros(alloc, passes.seats.parts.len())?;
+        let given = self.split_seats(alloc, &mut passes.seats)?;
+        Ok(Passes::unasked(given, counts))
     }
 }

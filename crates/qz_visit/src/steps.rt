@@ -10,9 +10,9 @@ ghost use Rattle.qz_terms.specs.Legal.{IsLegal};
 ghost use Rattle.qz_turn.specs.Turns.{UnderKey};
 ghost use Rattle.qz_catalog_turns.specs.Turning.{TurnCalls};
 ghost use Rattle.qz_visit.specs.Visits.{IsOf};
-ghost use Rattle.qz_visit.specs.Ways.{AreTied, Stepped};
+ghost use Rattle.qz_visit.specs.Ways.{AreTied, Stepped, refused_with};
 
-use qz_catalog_turns::{Records, job};
+use qz_catalog_turns::{Records, Replied, job};
 use qz_disks::Keeper;
 use qz_grading::{AttemptId, Refusal};
 use qz_shard_turns::{Part, live, work};
@@ -54,14 +54,14 @@ pub(crate) fn answer_work<K: Keeper, R: Wait>(
     number: u32,
     ask: &Ask,
     moment: u64,
-) -> Result<Reply, Refusal>
+) -> Result<Replied, Refusal>
     requires tied { AreTied records.now.lock parts.now.lock seen.old pass.old }
     requires asked { MayBeAsked ask.now moment }
     requires known { user_of seen.old.seen.list ask.now.caller ≡ Some user.now }
     ensures { MatchResult result
         (Stepped seen.old seen.new pass.old pass.new moment ask.now user.now number)
         (λ r. Stepped seen.old seen.new pass.old pass.new moment ask.now user.now number
-        (reply.Refused r)) }
+        (refused_with r)) }
 {
     let job = job(records, rt, seen, alloc, number)?;
     Ok(work(

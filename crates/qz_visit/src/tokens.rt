@@ -13,12 +13,13 @@ ghost use Rattle.qz_visit.specs.Visits.{AreOf, Visited, Visits};
 ghost use Rattle.qz_visit.specs.Tokens.{IsBeyond, IsKnownTo};
 
 use crate::at_shard::answer_at;
-use crate::passes::Passes;
+use crate::last::Said;
+use crate::passes::Seats;
 use crate::school::School;
 use qz_catalog_turns::{answer, job, user};
 use qz_disks::Keeper;
 use qz_grading::{Refusal, Thing};
-use qz_terms::{Ask, Reply, Request, User, asks_catalog, forbidden};
+use qz_terms::{Ask, Request, User, asks_catalog, forbidden};
 use qz_text::Text;
 use std::alloc::Global;
 use std::sync::Wait;
@@ -82,12 +83,12 @@ impl<K: Keeper> School<K> {
     pub(crate) fn answer_token<R: Wait>(
         &self,
         rt: &R,
-        passes: &mut Passes<K>,
+        passes: &mut Seats<K>,
         alloc: Global,
         token: &Text,
         ask: &Ask,
         moment: u64,
-    ) -> Result<Reply, Refusal>
+    ) -> Result<Said, Refusal>
         requires own { AreOf self.now passes.old }
         requires asked { MayBeAsked ask.now moment }
         requires caller { ask.now.caller ≡ caller.Token token.now }
@@ -101,12 +102,12 @@ impl<K: Keeper> School<K> {
     fn answer_user<R: Wait>(
         &self,
         rt: &R,
-        passes: &mut Passes<K>,
+        passes: &mut Seats<K>,
         alloc: Global,
         user: &User,
         ask: &Ask,
         moment: u64,
-    ) -> Result<Reply, Refusal>
+    ) -> Result<Said, Refusal>
         requires own { AreOf self.now passes.old }
         requires asked { MayBeAsked ask.now moment }
         requires known { IsKnownTo passes.old.records ask.now user.now }
@@ -123,7 +124,7 @@ impl<K: Keeper> School<K> {
             return self.report(rt, passes, alloc, user, *quiz, ask, moment);
         }
         match shard_of(user, &ask.request, count) {
-            Some(index) => self.answer_part(rt, passes, alloc, user, index, ask, moment),
+            Some(index) => Ok(self.answer_part(rt, passes, alloc, user, index, ask, moment)),
             None => self.answer_nowhere(rt, passes, alloc, user, ask, moment),
         }
     }
@@ -132,19 +133,19 @@ impl<K: Keeper> School<K> {
     fn answer_records<R: Wait>(
         &self,
         rt: &R,
-        passes: &mut Passes<K>,
+        passes: &mut Seats<K>,
         alloc: Global,
         user: &User,
         ask: &Ask,
         moment: u64,
-    ) -> Reply
+    ) -> Said
         requires own { AreOf self.now passes.old }
         requires asked { MayBeAsked ask.now moment }
         requires known { IsKnownTo passes.old.records ask.now user.now }
         requires catalog { asks_catalog ask.now.request ≡ true }
         ensures { Visited passes.old passes.new moment ask.now result }
     {
-        answer(
+        let told = answer(
             &self.records,
             rt,
             &mut passes.records,
@@ -152,20 +153,21 @@ impl<K: Keeper> School<K> {
             user,
             ask,
             moment,
-        )
+        );
+        Said::by_catalog(told)
     }
 
     /// The reply of the shard at this index, under the catalogue.
     fn answer_part<R: Wait>(
         &self,
         rt: &R,
-        passes: &mut Passes<K>,
+        passes: &mut Seats<K>,
         alloc: Global,
         user: &User,
         index: usize,
         ask: &Ask,
         moment: u64,
-    ) -> Result<Reply, Refusal>
+    ) -> Said
         requires own { AreOf self.now passes.old }
         requires asked { MayBeAsked ask.now moment }
         requires known { IsKnownTo passes.old.records ask.now user.now }
@@ -174,9 +176,9 @@ impl<K: Keeper> School<K> {
         requires inside { index < length self.now.parts }
         requires part { part_of (length self.now.parts) user.now ask.now.request ≡ index }
         requires there { missing_shard (length self.now.parts) ask.now.request ≡ None }
-        ensures { Visits passes.old passes.new moment ask.now result }
+        ensures { Visited passes.old passes.new moment ask.now result }
     {
-        answer_at(
+        let told = answer_at(
             &self.records,
             &self.parts[index],
             rt,
@@ -186,19 +188,20 @@ impl<K: Keeper> School<K> {
             user,
             ask,
             moment,
-        )
+        );
+        Said::by_shard(index, told)
     }
 
     /// The refusal of a request that names a shard that isn't there. A step of a job names a job as well, which may not be there either.
     fn answer_nowhere<R: Wait>(
         &self,
         rt: &R,
-        passes: &mut Passes<K>,
+        passes: &mut Seats<K>,
         alloc: Global,
         user: &User,
         ask: &Ask,
         moment: u64,
-    ) -> Result<Reply, Refusal>
+    ) -> Result<Said, Refusal>
         requires own { AreOf self.now passes.old }
         requires asked { MayBeAsked ask.now moment }
         requires known { IsKnownTo passes.old.records ask.now user.now }
@@ -217,14 +220,14 @@ impl<K: Keeper> School<K> {
     fn step_nowhere<R: Wait>(
         &self,
         rt: &R,
-        passes: &mut Passes<K>,
+        passes: &mut Seats<K>,
         alloc: Global,
         _user: &User,
         number: u32,
         shard: u8,
         ask: &Ask,
         moment: u64,
-    ) -> Result<Reply, Refusal>
+    ) -> Result<Said, Refusal>
         requires own { AreOf self.now passes.old }
         requires asked { MayBeAsked ask.now moment }
         requires known { IsKnownTo passes.old.records ask.now _user.now }

@@ -9,14 +9,15 @@ ghost use Rattle.qz_terms.specs.Cause.{forbidden};
 ghost use Rattle.qz_visit.specs.Visits.{AreOf, Visited, Visits};
 
 use crate::attempts::answer_attempt;
-use crate::passes::Passes;
+use crate::last::Said;
+use crate::passes::Seats;
 use crate::school::School;
 use crate::steps::{answer_live, answer_work};
 use qz_catalog_turns::{answer, job};
 use qz_disks::Keeper;
 use qz_grading::{AttemptId, Refusal, Thing};
 use qz_solo::{index_of, worker};
-use qz_terms::{Ask, Reply, Request, User, forbidden};
+use qz_terms::{Ask, Request, User, forbidden};
 use std::alloc::Global;
 use std::sync::Wait;
 
@@ -25,11 +26,11 @@ impl<K: Keeper> School<K> {
     pub(crate) fn answer_worker<R: Wait>(
         &self,
         rt: &R,
-        passes: &mut Passes<K>,
+        passes: &mut Seats<K>,
         alloc: Global,
         ask: &Ask,
         moment: u64,
-    ) -> Result<Reply, Refusal>
+    ) -> Result<Said, Refusal>
         requires own { AreOf self.now passes.old }
         requires asked { MayBeAsked ask.now moment }
         requires caller { ask.now.caller ≡ caller.Worker }
@@ -56,12 +57,12 @@ impl<K: Keeper> School<K> {
     fn jobs_for_worker<R: Wait>(
         &self,
         rt: &R,
-        passes: &mut Passes<K>,
+        passes: &mut Seats<K>,
         alloc: Global,
         user: &User,
         ask: &Ask,
         moment: u64,
-    ) -> Reply
+    ) -> Said
         requires own { AreOf self.now passes.old }
         requires asked { MayBeAsked ask.now moment }
         requires caller { ask.now.caller ≡ caller.Worker }
@@ -69,7 +70,7 @@ impl<K: Keeper> School<K> {
         requires jobs { ask.now.request ≡ request.Jobs }
         ensures { Visited passes.old passes.new moment ask.now result }
     {
-        answer(
+        let told = answer(
             &self.records,
             rt,
             &mut passes.records,
@@ -77,20 +78,21 @@ impl<K: Keeper> School<K> {
             user,
             ask,
             moment,
-        )
+        );
+        Said::by_catalog(told)
     }
 
     /// The attempts of a shard that go on. No other list is read.
     fn live_for_worker<R: Wait>(
         &self,
         rt: &R,
-        passes: &mut Passes<K>,
+        passes: &mut Seats<K>,
         alloc: Global,
         shard: u8,
         attempt: AttemptId,
         ask: &Ask,
         moment: u64,
-    ) -> Result<Reply, Refusal>
+    ) -> Result<Said, Refusal>
         requires own { AreOf self.now passes.old }
         requires asked { MayBeAsked ask.now moment }
         requires caller { ask.now.caller ≡ caller.Worker }
@@ -99,21 +101,22 @@ impl<K: Keeper> School<K> {
     {
         let index = index_of(shard, self.parts.len())?;
         let pass = &mut passes.parts[index];
-        Ok(answer_live(&self.parts[index], rt, pass, alloc, attempt))
+        let reply = answer_live(&self.parts[index], rt, pass, alloc, attempt);
+        Ok(Said::without(reply, Some(shard)))
     }
 
     /// A step of a job: the job is the catalogue's, and then the shard takes the step.
     fn work_for_worker<R: Wait>(
         &self,
         rt: &R,
-        passes: &mut Passes<K>,
+        passes: &mut Seats<K>,
         alloc: Global,
         user: &User,
         number: u32,
         shard: u8,
         ask: &Ask,
         moment: u64,
-    ) -> Result<Reply, Refusal>
+    ) -> Result<Said, Refusal>
         requires own { AreOf self.now passes.old }
         requires asked { MayBeAsked ask.now moment }
         requires caller { ask.now.caller ≡ caller.Worker }
@@ -125,7 +128,7 @@ impl<K: Keeper> School<K> {
         if index >= self.parts.len() {
             return self.step_beyond(rt, passes, alloc, number, shard, ask, moment);
         }
-        answer_work(
+        let told = answer_work(
             &self.records,
             &self.parts[index],
             rt,
@@ -136,20 +139,21 @@ impl<K: Keeper> School<K> {
             number,
             ask,
             moment,
-        )
+        );
+        Ok(Said::by_shard(index, told))
     }
 
     /// The refusal of a worker's step in a shard that isn't there. A job that isn't there comes first.
     fn step_beyond<R: Wait>(
         &self,
         rt: &R,
-        passes: &mut Passes<K>,
+        passes: &mut Seats<K>,
         alloc: Global,
         number: u32,
         shard: u8,
         ask: &Ask,
         moment: u64,
-    ) -> Result<Reply, Refusal>
+    ) -> Result<Said, Refusal>
         requires own { AreOf self.now passes.old }
         requires asked { MayBeAsked ask.now moment }
         requires caller { ask.now.caller ≡ caller.Worker }
@@ -165,13 +169,13 @@ impl<K: Keeper> School<K> {
     fn settle<R: Wait>(
         &self,
         rt: &R,
-        passes: &mut Passes<K>,
+        passes: &mut Seats<K>,
         alloc: Global,
         user: &User,
         attempt: AttemptId,
         ask: &Ask,
         moment: u64,
-    ) -> Result<Reply, Refusal>
+    ) -> Result<Said, Refusal>
         requires own { AreOf self.now passes.old }
         requires asked { MayBeAsked ask.now moment }
         requires caller { ask.now.caller ≡ caller.Worker }
@@ -180,7 +184,7 @@ impl<K: Keeper> School<K> {
         ensures { Visits passes.old passes.new moment ask.now result }
     {
         let index = attempt.user as usize % self.parts.len();
-        answer_attempt(
+        let told = answer_attempt(
             &self.records,
             &self.parts[index],
             rt,
@@ -191,6 +195,7 @@ impl<K: Keeper> School<K> {
             attempt,
             ask,
             moment,
-        )
+        );
+        Ok(Said::by_shard(index, told))
     }
 }

@@ -9,7 +9,7 @@ use qz_journal::Journal;
 use qz_solo::{Solo, load};
 use qz_terms::{Desk, Reply};
 use qz_text::{Listed, NoMemory, Text};
-use qz_visit::{Passes, School, Visit};
+use qz_visit::{Last, Passes, School, Visit};
 use qz_wire::{ask_of_line, line_of};
 use std::alloc::Global;
 use std::sync::Wait;
@@ -33,10 +33,10 @@ fn opened<K: Keeper + Drop>(
     solo: Solo<K>,
 ) -> Result<(School<K>, Passes<K>, Passes<K>), NoMemory>
     ensures seats { IfOk result (λ made. HasSeats made.0 2) }
-    ensures passes { IfOk result (λ made. Holds made.0 (1 ∷ []) made.1) }
-    ensures given { IfOk result (λ made. Holds made.0 (0 ∷ []) made.2) }
-    ensures own { IfOk result (λ made. AreOf made.0 made.1) }
-    ensures given_own { IfOk result (λ made. AreOf made.0 made.2) }
+    ensures passes { IfOk result (λ made. Holds made.0 (1 ∷ []) made.1.seats) }
+    ensures given { IfOk result (λ made. Holds made.0 (0 ∷ []) made.2.seats) }
+    ensures own { IfOk result (λ made. AreOf made.0 made.1.seats) }
+    ensures given_own { IfOk result (λ made. AreOf made.0 made.2.seats) }
 {
     // There are as many shards as it was founded with.
     let _records = solo.len();
@@ -51,8 +51,8 @@ fn opened<K: Keeper + Drop>(
 /// The school again, from its two passes.
 fn closed<K: Keeper>(school: School<K>, mut passes: Passes<K>, other: Passes<K>) -> Solo<K>
     requires seats { HasSeats school 2 }
-    requires passes { Holds school (1 ∷ []) passes }
-    requires other { Holds school (0 ∷ []) other }
+    requires passes { Holds school (1 ∷ []) passes.seats }
+    requires other { Holds school (0 ∷ []) other.seats }
 {
     school.join(&mut passes, other);
     school.close(passes)
@@ -75,7 +75,22 @@ fn told<K: Keeper, R: Wait>(
     line_of(alloc, &reply)
 }
 
-/// The replies to lines, in turn.
+/// What is kept of a request: how long the lists are without its own record, and where that stands.
+fn kept(alloc: Global, last: &Last) -> Result<String, NoMemory> {
+    let catalog = last.catalog;
+    let mut kept = format!(in alloc; "{catalog}")?;
+    for count in last.parts.as_slice() {
+        kept.push_str(&format!(in alloc; " {count}")?)?;
+    }
+    if let Some(shard) = last.list {
+        kept.push_str(&format!(in alloc; " shard {shard}")?)?;
+    }
+    kept.push_str(if last.put { " put" } else { "" })?;
+    kept.push_str(if last.doubt { " doubt\n" } else { "\n" })?;
+    Ok(kept)
+}
+
+/// The replies to lines, in turn, and what is kept of each.
 #[tactic(auto, using(qz_visit::proofs::Holding::goes_on, qz_visit::proofs::Holding::goes_self))]
 fn all_told<K: Keeper, R: Wait>(
     alloc: Global,
@@ -87,6 +102,7 @@ fn all_told<K: Keeper, R: Wait>(
     let mut replies = String::new(alloc);
     for line in lines {
         replies.push_str(told(alloc, visit, line)?.as_str())?;
+        replies.push_str(&kept(alloc, visit.passes().last())?)?;
     }
     Ok(replies)
 }
@@ -100,9 +116,10 @@ fn asks<K: Keeper + Drop, R: Wait>(
     passes: Passes<K>,
     lines: &[&str],
 ) -> Result<(String, Passes<K>), NoMemory>
-    requires own { AreOf school.now passes }
-    ensures own { IfOk result (λ made. AreOf school.now made.1) }
-    ensures numbers { IfOk result (λ made. (ns : List ℕ) → Holds school.now ns passes → Holds school.now ns made.1) }
+    requires own { AreOf school.now passes.seats }
+    ensures own { IfOk result (λ made. AreOf school.now made.1.seats) }
+    ensures numbers { IfOk result (λ made. (ns : List ℕ)
+        → Holds school.now ns passes.seats → Holds school.now ns made.1.seats) }
 {
     let mut visit = Visit::new(school, rt, passes);
     let replies = all_told(alloc, &mut visit, lines)?;
@@ -169,20 +186,20 @@ fn both_told<K: Keeper + Drop + Send + Sync, R: Threads + Wait + Sync>(
     passes: Passes<K>,
     given: Passes<K>,
 ) -> Result<(String, String, Passes<K>, Passes<K>), NoMemory>
-    requires passes { Holds school.now (1 ∷ []) passes }
-    requires given { Holds school.now (0 ∷ []) given }
-    ensures passes { IfOk result (λ made. Holds school.now (1 ∷ []) made.2) }
-    ensures given { IfOk result (λ made. Holds school.now (0 ∷ []) made.3) }
+    requires passes { Holds school.now (1 ∷ []) passes.seats }
+    requires given { Holds school.now (0 ∷ []) given.seats }
+    ensures passes { IfOk result (λ made. Holds school.now (1 ∷ []) made.2.seats) }
+    ensures given { IfOk result (λ made. Holds school.now (0 ∷ []) made.3.seats) }
 {
     let (one, other) = thread::join(
         rt,
         move || -> Result<(String, Passes<K>), NoMemory>
-            requires { Holds school.now (1 ∷ []) passes }
-            ensures { IfOk result (λ made. Holds school.entry.now (1 ∷ []) made.1) }
+            requires { Holds school.now (1 ∷ []) passes.seats }
+            ensures { IfOk result (λ made. Holds school.entry.now (1 ∷ []) made.1.seats) }
         { asks(rt, alloc, school, passes, &ANN) },
         move || -> Result<(String, Passes<K>), NoMemory>
-            requires { Holds school.now (0 ∷ []) given }
-            ensures { IfOk result (λ made. Holds school.entry.now (0 ∷ []) made.1) }
+            requires { Holds school.now (0 ∷ []) given.seats }
+            ensures { IfOk result (λ made. Holds school.entry.now (0 ∷ []) made.1.seats) }
         { asks(rt, alloc, school, given, &BOB) },
     );
     let (ann, passes) = one?;
@@ -197,6 +214,14 @@ fn answered<K: Keeper>(alloc: Global, solo: &mut Solo<K>, line: &str) -> Result<
         Err(refusal) => Reply::Refused(refusal),
     };
     line_of(alloc, &reply)
+}
+
+/// Whether the last records stand at their places, and none behind them.
+fn has_ends<K: Keeper>(solo: &Solo<K>) -> bool {
+    let last = solo.record_at(None, 7).is_some() && solo.record_at(Some(0), 3).is_some();
+    let past = solo.record_at(None, 8).is_some() || solo.record_at(Some(0), 4).is_some();
+    let none = solo.record_at(Some(2), 1).is_some() || solo.record_at(Some(1), 0).is_some();
+    last && !past && !none
 }
 
 /// How many records the catalogue and each shard have.
@@ -217,15 +242,17 @@ fn what_one_puts_another_sees(rt: HostRuntime) -> Result<(), Fail> {
     let solo = founded(alloc)?.ok_or("founded")?;
     let (before, made, after, mut solo) = visited(&rt, alloc, solo)?;
     let grade = answered(alloc, &mut solo, "140 ann - grade 1 2")?;
+    let ended = has_ends(&solo);
     let counts = lengths(alloc, solo)?;
-    assert_eq!(rt; before.as_str(), "refused 2\nrefused 2\n");
+    assert!(rt; ended);
+    assert_eq!(rt; before.as_str(), "refused 2\n1 0 0\nrefused 2\n1 0 0\n");
     assert_eq!(rt;
         made.as_str(),
-        "ok 2 made 2\nok 3 made 3\nok 4 imported 1 1\nok 5 made 1\nok 6 slot 1\nok 7 done\n"
+        "ok 2 made 2\n1 0 0 put\nok 3 made 3\n2 0 0 put\nok 4 imported 1 1\n3 0 0 put\nok 5 made 1\n4 0 0 put\nok 6 slot 1\n5 0 0 put\nok 7 done\n6 0 0 put\n"
     );
     assert_eq!(rt;
         after.as_str(),
-        "ok 1 started 2.1 1 -\nok 1 started 3.1 1 -\nok 2 step complete -\nok 3 finished 2.0000000\nok 3 grade 10.00000\n"
+        "ok 1 started 2.1 1 -\n7 0 0 shard 0 put\nok 1 started 3.1 1 -\n7 1 0 shard 1 put\nok 2 step complete -\n7 1 1 shard 0 put\nok 3 finished 2.0000000\n7 2 1 shard 0 put\nok 3 grade 10.00000\n7 3 1 shard 0\n"
     );
     assert_eq!(rt; grade.as_str(), "ok 3 grade 10.00000\n");
     assert_eq!(rt; counts.as_str(), "7 3 1");
@@ -252,11 +279,11 @@ fn two_ask_side_by_side(rt: HostRuntime) -> Result<(), Fail> {
     let counts = lengths(alloc, solo)?;
     assert_eq!(rt;
         ann.as_str(),
-        "ok 1 started 2.1 1 -\nok 2 step complete -\nok 3 finished 2.0000000\nok 3 grade 10.00000\n"
+        "ok 1 started 2.1 1 -\n7 0 0 shard 0 put\nok 2 step complete -\n7 1 0 shard 0 put\nok 3 finished 2.0000000\n7 2 0 shard 0 put\nok 3 grade 10.00000\n7 3 0 shard 0\n"
     );
     assert_eq!(rt;
         bob.as_str(),
-        "ok 1 started 3.1 1 -\nok 2 step complete -\nok 3 finished 0.0000000\nok 3 grade 0.00000\n"
+        "ok 1 started 3.1 1 -\n7 0 0 shard 1 put\nok 2 step complete -\n7 0 1 shard 1 put\nok 3 finished 0.0000000\n7 0 2 shard 1 put\nok 3 grade 0.00000\n7 0 3 shard 1\n"
     );
     assert_eq!(rt; counts.as_str(), "7 3 3");
     Ok(())

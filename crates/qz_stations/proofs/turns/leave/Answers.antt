@@ -31,7 +31,7 @@ pub loop-station-preserved : goal.loop-station-preserved
 loop-station-preserved g c =
     let so = popped _ _ _ _ _ _ _ _ _ _ c.in-Some.ensures.items c.loop-station.invariant.0 in
     let end = c.loop-station.end in
-    let joins = subst (λ x. JoinsAll c.loop-station.passes x c.join.new.passes) c.into_parts-at.ensures.passes c.join.ensures in
+    let joins = subst (λ x. JoinsAll c.loop-station.passes.seats x c.join.new.passes.seats) c.into_parts-at.ensures.passes c.join.ensures.seats in
     let sum = c.both_ends-end.ensures ∙ ap (λ e. both_ends e end) c.into_parts-at.ensures.end in
     let room = c.loop-station.invariant.1 in
     let long = ap (λ l. length l) c.in-Some.ensures.items in
@@ -45,4 +45,4 @@ returns-clause-passes g c =
     let none = c.in_default.ensures.cases in
     let none_left = none.0 in
     let empty : c.loop-station.stations.items ≡ [] = nil_from_length c.loop-station.stations.items (omega (arith, none_left)) in
-    left_passes _ _ _ _ _ _ _ (subst (λ l. LeavesOn c.args.school.now c.args.passes.now c.loop-station.passes c.args.stations.items l c.args.doors.now.items c.loop-station.doors.items c.loop-station.end) empty c.loop-station.invariant.0)
+    left_passes _ _ _ _ _ _ _ (subst (λ l. LeavesOn c.args.school.now c.args.passes.now.seats c.loop-station.passes.seats c.args.stations.items l c.args.doors.now.items c.loop-station.doors.items c.loop-station.end) empty c.loop-station.invariant.0)

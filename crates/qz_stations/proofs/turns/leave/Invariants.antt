@@ -4,7 +4,7 @@ use Rattle.qz_stations.proofs.Leaving.{LeavesOn}
 use Rattle.qz_stations.proofs.turns.leave.Given as goal
 
 abbrev pub invariant-loop-station : goal.invariant-loop-station
-invariant-loop-station g l = LeavesOn l.school l.fn.passes l.passes l.initial.stations.items l.stations.items l.fn.doors.items l.doors.items l.end
+invariant-loop-station g l = LeavesOn l.school l.fn.passes.seats l.passes.seats l.initial.stations.items l.stations.items l.fn.doors.items l.doors.items l.end
     × (length l.stations.items + vec_len l.doors ≤ vec_capacity l.doors)
 
 abbrev pub decreases-loop-station : goal.decreases-loop-station

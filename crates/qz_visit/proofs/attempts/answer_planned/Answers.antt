@@ -21,5 +21,5 @@ pub returns-in-Ok : goal.returns-in-Ok
 returns-in-Ok g c =
     let i = c.loop.invariant in
     let place = c.requires.tied.tie.place in
-    planned_told (IsLegal place.index place.count) c.args.seen.now c.loop.seen c.plan.new.pass c.answer.new.seen c.args.pass.now c.loop.pass c.answer.new.pass c.args.moment c.args.ask.now c.args.user.now c.args.quiz c.args.owner c.args.whole c.in_ok-plan.plan c.in-Ok.reply
+    planned_told (IsLegal place.index place.count) c.args.seen.now c.loop.seen c.plan.new.pass c.answer.new.seen c.args.pass.now c.loop.pass c.answer.new.pass c.args.moment c.args.ask.now c.args.user.now c.args.quiz c.args.owner c.args.whole c.in_ok-plan.plan c.in-Ok.replied
     i.0 i.1 c.in_ok-plan.ensures c.answer.ensures.seen (c.in-Ok.ensures.answer.at place c.requires.tied.tie.keyed)

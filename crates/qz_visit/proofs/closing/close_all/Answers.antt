@@ -4,6 +4,9 @@ use Rattle.qz_solo.specs.Solos.{IsSolo}
 use Rattle.qz_visit.proofs.Opened.{closes_again, solo_again}
 use Rattle.qz_visit.proofs.closing.close_all.Goals as goal
 
+pub close-requires-clause-numbers : goal.close-requires-clause-numbers
+close-requires-clause-numbers g c = c.close_parts-shards.ensures.seen.every c.args.records.seats c.requires.numbers
+
 pub of-requires : goal.of-requires
 of-requires g c =
     let r = c.requires in

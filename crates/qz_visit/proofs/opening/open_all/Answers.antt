@@ -37,9 +37,10 @@ invariant_of-result g c =
     let opened = whole_opened half empty in
     let many = many_opened g.K.Keeper.faults c.in-Ok.records.lock c.args.seats (length c.args.shards.items) c.args.shards.items c.open_parts-opened.new.locks.items c.open_parts-opened.new.passes.items opened in
     let some = c.requires.solo.some in
+    let few = c.requires.few in
     let none = ap length empty in
     let room = c.open_parts-opened.ensures.room in (
-      record { some = omega (arith, many, some); placed = λ k l at. subst (λ (n : ℕ). IsPlaced c.in-Ok.records.lock n k l.lock) (sym many) (opened.placed.each k l at) },
+      record { some = omega (arith, many, some); few = omega (arith, many, few); placed = λ k l at. subst (λ (n : ℕ). IsPlaced c.in-Ok.records.lock n k l.lock) (sym many) (opened.placed.each k l at) },
       empty,
       omega (arith, room, none),
     )

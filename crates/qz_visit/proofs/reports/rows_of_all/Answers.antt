@@ -4,6 +4,7 @@ use Rattle.std.proofs.lemmas.Result.{err_from_is_err_and}
 use Rattle.qz_terms.specs.Legal.{IsLegal}
 use Rattle.qz_visit.specs.Reports.{short, untold}
 use Rattle.qz_visit.specs.Visits.{seen_by}
+use Rattle.qz_visit.proofs.Owning.{as_seen}
 use Rattle.qz_visit.proofs.Passing.{found_turned, turn_sees}
 use Rattle.qz_visit.proofs.Reporting.{read_more, read_none, rows_more}
 use Rattle.qz_visit.proofs.Standing.{at_set, there_at, turn_at}
@@ -74,7 +75,7 @@ returns-in_err-extend_from_slice g c =
     let read = c.loop-index.invariant.0 in
     let placed = at.placed i c.index.result.now lock in
     let t = turn_at _ _ placed.0 i (length ls) po c.rows.new.pass _ placed.2 placed.3 (c.in_ok-rows.ensures.at placed.0 placed.1) in
-    rw p.1 (short (i + 1) (slice_set read.0 i c.rows.new.pass.found) (read_more i c.args.quiz c.args.policy.now c.args.passes.now.items ms read.0 po c.rows.new.pass (length ls) c.in_ok-rows.rows read.1 pass (sym at.count) t) p.2)
+    rw p.1 (short (i + 1) (slice_set read.0 i (as_seen c.rows.new.pass)) (read_more i c.args.quiz c.args.policy.now c.args.passes.now.items ms read.0 po c.rows.new.pass (length ls) c.in_ok-rows.rows read.1 pass (sym at.count) t) p.2)
 
 pub loop-index-preserved : goal.loop-index-preserved
 loop-index-preserved g c =
@@ -92,7 +93,7 @@ loop-index-preserved g c =
     let placed = at.placed i c.index.result.now lock in
     let pn = c.rows.new.pass in
     let t = turn_at _ _ placed.0 i (length ls) po pn _ placed.2 placed.3 (c.in_ok-rows.ensures.at placed.0 placed.1) in (
-      (slice_set read.0 i pn.found, read_more i c.args.quiz c.args.policy.now c.args.passes.now.items ms read.0 po pn (length ls) c.in_ok-rows.rows read.1 pass (sym at.count) t),
+      (slice_set read.0 i (as_seen pn), read_more i c.args.quiz c.args.policy.now c.args.passes.now.items ms read.0 po pn (length ls) c.in_ok-rows.rows read.1 pass (sym at.count) t),
       at_set ls ms i po pn at pass (turn_sees (IsLegal i (length ls)) _ _ po pn _ t),
       c.in_ok-extend_from_slice.ensures.items
           ∙ (ap (λ (rows : List _). c.loop-index.all-inside.items.items ++ rows) c.as_slice.ensures ∙ rows_more i c.args.quiz c.args.policy.now ms po pn (IsLegal i (length ls)) c.loop-index.all-inside.items.items c.in_ok-rows.rows pass c.loop-index.invariant.2 t),

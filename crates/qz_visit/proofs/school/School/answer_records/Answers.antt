@@ -6,5 +6,5 @@ pub returns : goal.returns
 returns g c =
     let ps = c.passes.inside.parts.items in
     let own = rw (← c.passes.view_is, ← c.self.view_is) at c.requires.own in
-    rw (← c.passes.view_is) (records_visited c.passes.inside.records c.answer.new.pass ps c.args.moment c.args.ask.now c.args.user.now c.answer.result (some_part _ _ c.passes.inside.records ps c.self.invariant.0 own) c.requires.asked
-    (rw (← c.passes.view_is) at c.requires.known) c.requires.catalog c.answer.ensures)
+    rw (c.by_catalog.ensures, ← c.passes.view_is) (records_visited c.passes.inside.records c.answer-told.new.pass ps c.args.moment c.args.ask.now c.args.user.now c.answer-told.result (some_part _ _ c.passes.inside.records ps c.self.invariant.0 own) c.requires.asked
+    (rw (← c.passes.view_is) at c.requires.known) c.requires.catalog c.answer-told.ensures)

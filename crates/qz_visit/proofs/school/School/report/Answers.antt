@@ -88,4 +88,4 @@ returns g c =
     } in
     let are = c.in_ok-all.ensures in
     let rows_are = rw (c.as_slice.ensures, c.as_slice-2.ensures) at c.in_ok-rows.ensures in
-    rw (← c.passes.view_is) (told_report so sn ps c.rows_of_all.new.passes.items c.args.moment c.args.ask.now c.args._user.now c.args.quiz c.in_ok-heading.heading c.in_ok-all.all c.in_ok-rows.rows w told.1 are rows_are)
+    rw (c.without.ensures, ← c.passes.view_is) (told_report so sn ps c.rows_of_all.new.passes.items c.args.moment c.args.ask.now c.args._user.now c.args.quiz c.in_ok-heading.heading c.in_ok-all.all c.in_ok-rows.rows w told.1 are rows_are)

@@ -9,7 +9,7 @@ use Rattle.qz_visit.specs.Closing.{AreClosed, ArePlaced, none}
 use Rattle.qz_visit.specs.Opening.{tales}
 use Rattle.qz_visit.specs.Visits.{seen_by}
 use Rattle.qz_visit.specs.Ways.{Part}
-use Rattle.qz_visit.proofs.school.School.close.Goals as goal
+use Rattle.qz_visit.proofs.school.School.close_seats.Goals as goal
 
 -- there are as many locks as passes, and no shard is left
 count : {K : Type 0} (ls : List (Locked Placed)) (ps : List Part) (others : List (Keeping K)) → length ps ≡ length ls → others ≡ [] → length ls ≡ length ps + length others
@@ -20,35 +20,35 @@ none-left faults c n k others empty = subst (λ (l : List (Keeping _)). AreClose
 
 pub close_all-requires-clause-numbers : goal.close_all-requires-clause-numbers
 close_all-requires-clause-numbers g c =
-    let every = rw (← c.passes.view_is, ← c.self.view_is) at c.requires.every in
+    let every = rw (← c.seats.view_is, ← c.self.view_is) at c.requires.every in
     every.records
 
 pub close_all-requires-clause-placed : goal.close_all-requires-clause-placed
 close_all-requires-clause-placed g c =
-    let own = rw (← c.passes.view_is, ← c.self.view_is) at c.requires.own in
+    let own = rw (← c.seats.view_is, ← c.self.view_is) at c.requires.own in
     let ls = c.self.inside.parts.items in
-    subst (λ (n : ℕ). ArePlaced c.self.inside.records.lock n ls) (count ls c.passes.inside.parts.items c.self.inside.room.items own.parts.count c.self.invariant.1) (record { each = c.self.invariant.0.placed })
+    subst (λ (n : ℕ). ArePlaced c.self.inside.records.lock n ls) (count ls c.seats.inside.parts.items c.self.inside.room.items own.parts.count c.self.invariant.1) (record { each = c.self.invariant.0.placed })
 
 pub close_all-requires-clause-some : goal.close_all-requires-clause-some
 close_all-requires-clause-some g c =
-    let own = rw (← c.passes.view_is, ← c.self.view_is) at c.requires.own in
-    subst (λ (n : ℕ). 0 < n) (count c.self.inside.parts.items c.passes.inside.parts.items c.self.inside.room.items own.parts.count c.self.invariant.1) c.self.invariant.0.some
+    let own = rw (← c.seats.view_is, ← c.self.view_is) at c.requires.own in
+    subst (λ (n : ℕ). 0 < n) (count c.self.inside.parts.items c.seats.inside.parts.items c.self.inside.room.items own.parts.count c.self.invariant.1) c.self.invariant.0.some
 
 pub close_all-requires-clause-founded : goal.close_all-requires-clause-founded
 close_all-requires-clause-founded g c =
-    let own = rw (← c.passes.view_is, ← c.self.view_is) at c.requires.own in
-    let founding = rw (← c.passes.view_is, ← c.self.view_is) at c.requires.founded in
-    subst (λ (n : ℕ). catalog.shards c.passes.inside.records.seen.list ≡ Some n) (count c.self.inside.parts.items c.passes.inside.parts.items c.self.inside.room.items own.parts.count c.self.invariant.1) founding.founded
+    let own = rw (← c.seats.view_is, ← c.self.view_is) at c.requires.own in
+    let founding = rw (← c.seats.view_is, ← c.self.view_is) at c.requires.founded in
+    subst (λ (n : ℕ). catalog.shards c.seats.inside.records.seen.list ≡ Some n) (count c.self.inside.parts.items c.seats.inside.parts.items c.self.inside.room.items own.parts.count c.self.invariant.1) founding.founded
 
 pub close_all-requires-clause-left : goal.close_all-requires-clause-left
 close_all-requires-clause-left g c =
-    let ps = c.passes.inside.parts.items in
-    none-left g.K.Keeper.faults c.passes.inside.records.seen.list (length ps + length c.self.inside.room.items) (length ps) c.self.inside.room.items c.self.invariant.1
+    let ps = c.seats.inside.parts.items in
+    none-left g.K.Keeper.faults c.seats.inside.records.seen.list (length ps + length c.self.inside.room.items) (length ps) c.self.inside.room.items c.self.invariant.1
 
 pub returns : goal.returns
 returns g c =
-    let ps = c.passes.inside.parts.items in
+    let ps = c.seats.inside.parts.items in
     let no_tales : seen_by ps ++ tales g.K.Keeper.faults (reverse c.self.inside.room.items) ≡ seen_by ps = ap (λ (l : List (Keeping _)). seen_by ps ++ tales g.K.Keeper.faults (reverse l)) c.self.invariant.1 ∙ append-nil (seen_by ps) in
     let all = c.close_all.result in
     let closed = subst (λ (ts : List (Tale Record)). AreClosed g.K.Keeper.faults all.catalog.held.list (length all.parts) 0 ts all.parts) no_tales c.close_all.ensures.parts in
-    rw (← c.passes.view_is) (record { records = c.close_all.ensures.records; parts = closed })
+    rw (← c.seats.view_is) (record { records = c.close_all.ensures.records; parts = closed })
