@@ -1,5 +1,5 @@
 -- The commands of the command line, and how a run of each ends.
-use Rattle.std.specs.Prelude.{◌≡◌, ◌⊎◌, ℕ, Bool, true, false, ◌==◌, if◌then◌else◌, List, ◌++◌, Option, Some, None, MatchBool, bytes_eq, codes}
+use Rattle.std.specs.Prelude.{◌≡◌, ◌⊎◌, ℕ, Bool, true, false, List, ◌++◌, Option, Some, None, MatchBool, bytes_eq, codes}
 use Rattle.std.specs.Io.KnownBytes.{Appends, Keeps}
 use Rattle.qz_outside.specs.Causes.{HasRisen}
 use Rattle.qz_outside.specs.Sources.{AppendsFront}
@@ -23,19 +23,6 @@ use Rattle.quizd.specs.GiftEndings.{GiftEnds, GiftsAll}
 -- the school in memory of a script, which is no folder's
 abbrev pub is_memory : List ℕ → Bool
 is_memory folder = bytes_eq folder (codes "memory")
-
--- So far links are served without a regrader.
-abbrev pub is_built : Command → Bool
-is_built (command.Serve folder port workers regraders links) = regraders == 0
-is_built c = true
-
-abbrev pub if_built : Option Command → Option Command
-if_built None = None
-if_built (Some c) = if is_built c then Some c else None
-
--- the command that these words are, of those that are built; any others are none
-abbrev pub built_command : List (List ℕ) → Option Command
-built_command words = if_built (command_of words)
 
 -- ---- words that are no command
 
@@ -99,7 +86,7 @@ CommandEndsAt disks serving at after (Some (command.Found folder shards token)) 
     × FoundEnds (record { folder = folder; shards = shards; token = token }) at.told after.told (sunk old) (sunk new) s
 CommandEndsAt disks serving at after (Some (command.Serve folder port workers regraders links)) old new s =
     Keeps old.left new.left
-    × DoorsFolderEnds disks folder workers (serving links) at.doors after.doors at.told after.told (sunk old) (sunk new) s
+    × DoorsFolderEnds disks folder workers regraders (serving links) at.doors after.doors at.told after.told (sunk old) (sunk new) s
 CommandEndsAt disks serving at after c old new s = CommandEnds c old new s × AreLeft at after
 
 -- memory was wanting for the words, and nothing was done
@@ -111,7 +98,7 @@ pub record WordsUnread {R C F : Type 0} (at after : Beside R C F) (old new : Out
 
 abbrev pub RunEnds : {D R C F : Type 0} → Disks D → (ℕ → Serving R C) → Beside R C F → Beside R C F → List (List ℕ) → Outside → Outside → Option Stop → Type 0
 RunEnds disks serving at after words old new s =
-    CommandEndsAt disks serving at after (built_command words) old new s ⊎ WordsUnread at after old new s
+    CommandEndsAt disks serving at after (command_of words) old new s ⊎ WordsUnread at after old new s
 
 -- over the school in memory, or of a folder
 abbrev pub ScriptDoesAll : Shelved → Shelved → List ℕ → Outside → Outside → ℕ → Type 0
@@ -132,4 +119,4 @@ CommandDoesAll none_fails at after (Some (command.Serve folder port workers regr
 CommandDoesAll none_fails at after (Some (command.Bulk count)) old new status = ¬ HasRisen old.sink_faults new.sink_faults → (status ≡ 0) ⊎ (status ≡ 8)
 
 abbrev pub RunsAll : Type 0 → Shelved → Shelved → List (List ℕ) → Outside → Outside → ℕ → Type 0
-RunsAll none_fails at after words old new status = CommandDoesAll none_fails at after (built_command words) old new status
+RunsAll none_fails at after words old new status = CommandDoesAll none_fails at after (command_of words) old new status

@@ -1,8 +1,9 @@
 -- How a command ends that serves the school of a folder: a school as it was loaded, and as it was given back.
-use Rattle.std.specs.Prelude.{◌≡◌, ◌⊎◌, ℕ, ◌≤◌, List, length, Option, Some, None, IfSome, slice_get}
+use Rattle.std.specs.Prelude.{◌≡◌, ◌⊎◌, ℕ, ◌<◌, ◌≤◌, List, length, Option, Some, None, IfSome, slice_get}
 use Rattle.std.specs.Io.KnownBytes.{Keeps}
 use Rattle.qz_disks.specs.Shelves.{File, Files, NoneOutIn}
 use Rattle.qz_ending.specs.declared.stop.Stop.{Stop}
+use Rattle.qz_ending.specs.declared.stop.Stop.TheVariants as stop
 use Rattle.qz_ending.specs.Endings.{Outside}
 use Rattle.qz_found.specs.FoundEndings.{Shelved, Sunk}
 use Rattle.qz_journal.specs.Journals.{IsSound, Ledger}
@@ -11,15 +12,16 @@ use Rattle.qz_loading.specs.Opening.{IsLoadedFrom}
 use Rattle.qz_loading.specs.Places.{KeepsElsewhere, catalog_place, part_place}
 use Rattle.qz_opening.specs.Unloaded.{UnloadedBy}
 use Rattle.qz_outside.specs.Causes.{HasRisen}
+use Rattle.qz_regrading.specs.Loops.{AllDone}
 use Rattle.qz_shard.specs.Keeping as part
 use Rattle.qz_solo.specs.Solos.{GoOn, School, faults_of, lists_in}
+use Rattle.qz_stations.specs.declared.ends.ServeEnd.{ServeEnd}
+use Rattle.qz_stations.specs.Passing.{ServesNone, ServesSchool}
 use Rattle.qz_stations.specs.Stations.{Serving}
 use Rattle.qz_terms.specs.Serial.{Held}
-use Rattle.qz_visit.specs.Closing.{Closes}
-use Rattle.qz_visit.specs.Opening.{told_by}
 use Rattle.quizd.specs.Retries.{Seen}
 use Rattle.quizd.specs.Scripts.{HasRisenBy, ServeEnds}
-use Rattle.quizd.specs.Serving.{NoneServed, ServedDoors}
+use Rattle.quizd.specs.Serving.{SaysServed}
 
 -- what is told of the disks of a shelf: the moment of one, what a crash at each moment may have left of it, that it fails no call, and how
 -- often it has failed
@@ -76,10 +78,22 @@ pub record ServedAlone {D : Type 0} (disks : Disks D) (serves : Seen → Seen �
   pub goes_on : GoOn (IsSound disks.sound) (journal_faults disks) a b
   pub ends : serves (seen_of disks a) (seen_of disks b)
 
--- Those at its doors asked it side by side: each of its lists goes on from what it was, and from what was seen of it at each door.
-pub record ServedTogether {D R C : Type 0} (disks : Disks D) (count : ℕ) (serves : Serving R C) (doors after : List (R × C)) (before now : Sunk) (s : Option Stop) (a b : School (Ledger D)) : Type 0 where
-  pub closes : Closes (journal_faults disks) (told_by (journal_faults disks) a) b
-  pub ends : ServedDoors serves (told_by (journal_faults disks) a) (λ seen. Closes (journal_faults disks) seen b) count doors after before.holds now.holds before.faults now.faults s ⊎ NoneServed doors after before.holds now.holds s
+-- The first so many doors were served over it side by side, so many regraded beside them, and this was said of it.
+pub record ServedDoors {D R C : Type 0} (disks : Disks D) (workers regraders : ℕ) (serves : Serving R C) (doors after : List (R × C)) (before now : Sunk) (s : Option Stop) (a b : School (Ledger D)) : Type 0 where
+  pub end : ServeEnd
+  pub school : ServesSchool (IsSound disks.sound) (journal_faults disks) serves workers regraders a b doors after end
+  pub says : SaysServed before.holds now.holds before.faults now.faults end s
+
+-- memory was wanting before any door was served
+pub record NoneServed {D R C : Type 0} (disks : Disks D) (doors after : List (R × C)) (before now : Sunk) (s : Option Stop) (a b : School (Ledger D)) : Type 0 where
+  pub school : ServesNone (journal_faults disks) a b doors after
+  pub memory : s ≡ Some stop.Memory
+  pub unwritten : Keeps before.holds now.holds
+
+-- The doors were served or not. Where all went well and somebody regraded, each job of the catalogue is done in each shard at the end.
+pub record ServedTogether {D R C : Type 0} (disks : Disks D) (workers regraders : ℕ) (serves : Serving R C) (doors after : List (R × C)) (old new : Shelved) (before now : Sunk) (s : Option Stop) (a b : School (Ledger D)) : Type 0 where
+  pub ends : ServedDoors disks workers regraders serves doors after before now s a b ⊎ NoneServed disks doors after before now s a b
+  pub worked : s ≡ None → 0 < regraders → ¬ HasRisen old.faults new.faults → AllDone (lists_in b)
 
 -- ---- how a command ends
 
@@ -102,10 +116,10 @@ abbrev pub ScriptFolderEnds : {D : Type 0} → Disks D → List ℕ → ℕ → 
 ScriptFolderEnds disks folder limit old new before now s =
     FolderEnds disks folder (λ a b t. ServedAlone disks (λ from to. ServeEnds limit from to before now t) a b) (Keeps before.left now.left) old new (sunk before) (sunk now) s
 
--- the first so many of some doors were served over it, or all stay as they are
-abbrev pub DoorsFolderEnds : {D R C : Type 0} → Disks D → List ℕ → ℕ → Serving R C → List (R × C) → List (R × C) → Shelved → Shelved → Sunk → Sunk → Option Stop → Type 0
-DoorsFolderEnds disks folder count serves doors after old new before now s =
-    FolderEnds disks folder (λ a b t. ServedTogether disks count serves doors after before now t a b) (after ≡ doors) old new before now s
+-- the first so many of some doors were served over it while so many regraded, or all stay as they are
+abbrev pub DoorsFolderEnds : {D R C : Type 0} → Disks D → List ℕ → (workers regraders : ℕ) → Serving R C → List (R × C) → List (R × C) → Shelved → Shelved → Sunk → Sunk → Option Stop → Type 0
+DoorsFolderEnds disks folder workers regraders serves doors after old new before now s =
+    FolderEnds disks folder (λ a b t. ServedTogether disks workers regraders serves doors after old new before now t a b) (after ≡ doors) old new before now s
 
 -- Where no count rose and the source is within the limit, all of it is answered, or the files don't give a school, or memory was wanting.
 pub record ServesFolder (limit : ℕ) (old new : Shelved) (before now : Outside) (status : ℕ) : Type 0 where

@@ -5,6 +5,7 @@ ghost use Rattle.quizd.specs.Commands.{NoneOut};
 use super::*;
 use crate::folders_tests::scripted;
 use crate::held_disk::HeldShelf;
+use crate::running::status_at;
 use crate::stops_tests::SETUP;
 use crate::usage_tests::shown;
 use qz_disks::{MemoryShelf, Shelf};
@@ -42,21 +43,21 @@ fn set_up<W: Threads + Wait + Sync>(
 }
 
 /// A link whose peer sends this.
-fn link_of(alloc: Global, bytes: &[u8]) -> Result<MemoryLink, NoMemory> {
+pub(crate) fn link_of(alloc: Global, bytes: &[u8]) -> Result<MemoryLink, NoMemory> {
     let source = MemorySource::new(Bytes::of(alloc, bytes)?, Listed::empty(alloc), 65_536);
     let sink = MemorySink::new(alloc, 65_536, Listed::empty(alloc), 65_536)?;
     Ok(MemoryLink::new(source, sink))
 }
 
 /// A door at which this link comes.
-fn door_of(alloc: Global, link: MemoryLink) -> Result<MemoryDoor<MemoryLink>, NoMemory> {
+pub(crate) fn door_of(alloc: Global, link: MemoryLink) -> Result<MemoryDoor<MemoryLink>, NoMemory> {
     let mut links = Listed::empty(alloc);
     links.items.push(link)?;
     MemoryDoor::new(alloc, links, Listed::empty(alloc))
 }
 
 /// Whether the one link that came to a door was answered, and no call of it looked at its gate in vain.
-fn is_answered(door: &MemoryDoor<MemoryLink>) -> bool {
+pub(crate) fn is_answered(door: &MemoryDoor<MemoryLink>) -> bool {
     match door.returned() {
         [link] => link.bytes().starts_with(b"HTTP/1.1 200 ") && !link.ran_out(),
         _ => false,
@@ -101,7 +102,8 @@ where
 {
     let mut source = MemorySource::new(Bytes::of(alloc, b"")?, Listed::empty(alloc), 1);
     let mut sink = MemorySink::new(alloc, 1 << 10, Listed::empty(alloc), 64)?;
-    let status = run(rt, alloc, words, &mut source, &mut sink, doors, shelf);
+    let clocks = still_clocks(alloc)?;
+    let status = status_at(rt, alloc, words, &mut source, &mut sink, doors, clocks, shelf);
     Ok((status, sink.bytes() == b"served 2\n".as_slice()))
 }
 

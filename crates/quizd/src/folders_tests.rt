@@ -3,6 +3,7 @@ ghost use Rattle.qz_disks.specs.Slots.{memory_files};
 ghost use Rattle.quizd.specs.Commands.{NoneOut};
 
 use super::*;
+use crate::running::status_of;
 use crate::usage_tests::shown;
 use qz_disks::{MemoryDisk, MemoryShelf};
 use qz_outside::{MemorySink, MemorySource};
@@ -25,8 +26,7 @@ pub(crate) fn scripted<W: Threads + Wait + Sync>(
     let lines = Bytes::of(alloc, lines.as_bytes())?;
     let mut source = MemorySource::new(lines, Listed::empty(alloc), 65_536);
     let mut sink = MemorySink::new(alloc, 1 << 20, Listed::empty(alloc), 65_536)?;
-    let mut doors = no_doors(alloc)?;
-    let status = run(rt, alloc, &words, &mut source, &mut sink, &mut doors, shelf);
+    let status = status_of(rt, alloc, &words, &mut source, &mut sink, shelf)?;
     Ok((status, String::from_utf8_lossy(alloc, sink.bytes())?))
 }
 

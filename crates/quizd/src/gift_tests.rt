@@ -1,4 +1,5 @@
 use super::*;
+use crate::running::status_of;
 use qz_disks::MemoryShelf;
 use qz_outside::{MemorySink, MemorySource};
 use qz_text::{Bytes, Listed};
@@ -16,17 +17,8 @@ fn told<W: Threads + Wait + Sync>(
     words.push(Text::of(alloc, word)?)?;
     let mut source = MemorySource::new(Bytes::of(alloc, text)?, Listed::empty(alloc), 65_536);
     let mut sink = MemorySink::new(alloc, 1 << 20, Listed::empty(alloc), 65_536)?;
-    let mut doors = no_doors(alloc)?;
     let mut shelf = MemoryShelf::new(alloc, Listed::empty(alloc));
-    let status = run(
-        rt,
-        alloc,
-        &words,
-        &mut source,
-        &mut sink,
-        &mut doors,
-        &mut shelf,
-    );
+    let status = status_of(rt, alloc, &words, &mut source, &mut sink, &mut shelf)?;
     Ok((status, String::from_utf8_lossy(alloc, sink.bytes())?))
 }
 

@@ -99,6 +99,13 @@ impl<'a> HeldShelf<'a> {
         }
     }
 
+    /// The files.
+    pub(crate) fn into_shelf(self) -> MemoryShelf
+        ensures { result ≡ self.shelf }
+    {
+        self.shelf
+    }
+
     /// Whether a call of a disk that was given back looked at its gate to the last time and left it closed.
     pub(crate) fn ran_out(&self) -> bool {
         self.ran_out

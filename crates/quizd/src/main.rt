@@ -5,7 +5,6 @@ ghost use Rattle.std.specs.Prelude.{◌≡◌, length, IfOk};
 
 #[cfg(test)]
 mod beside_tests;
-mod built;
 mod bulk;
 mod folders;
 #[cfg(test)]
@@ -17,7 +16,11 @@ mod gift_tests;
 mod held_disk;
 #[cfg(test)]
 mod prompt_tests;
+#[cfg(test)]
+mod regrading_tests;
 mod run;
+#[cfg(test)]
+mod running;
 mod script;
 mod script_input;
 mod script_line;
@@ -29,11 +32,10 @@ mod stops_tests;
 #[cfg(test)]
 mod usage_tests;
 
-use built::built_command;
 pub use bulk::bulk;
 pub use folders::{script_folder, serve_folder};
 pub use gift::gift;
-use qz_command::{Command, WordsFault};
+use qz_command::{Command, WordsFault, command_of};
 use qz_disks::FolderShelf;
 use qz_ending::Stop;
 pub use qz_found::found_folder;
@@ -66,6 +68,9 @@ fn arguments(rt: &(impl Env + Alloc<A = Global>)) -> Result<Vec<Text>, NoMemory>
 
 /// How many doors a run is given.
 const DOORS: usize = 16;
+
+/// How many clocks a run is given beside them.
+const CLOCKS: usize = 8;
 
 /// Why there are no doors.
 #[derive(Clone, Copy)]
@@ -108,6 +113,28 @@ fn no_doors(alloc: Global) -> Result<Vec<(MemoryDoor<MemoryLink>, MemoryClock)>,
     Ok(doors)
 }
 
+/// Eight clocks, each the system's.
+fn system_clocks(rt: HostRuntime) -> Result<Vec<StdClock<HostRuntime>>, NoMemory>
+    ensures { IfOk result (λ clocks. length clocks.items ≡ CLOCKS) }
+{
+    let mut clocks = Vec::with_capacity(rt.alloc(), CLOCKS)?;
+    for _ in 0..CLOCKS {
+        clocks.push_reserved(StdClock::new(rt));
+    }
+    Ok(clocks)
+}
+
+/// Eight clocks that stand at the beginning.
+fn still_clocks(alloc: Global) -> Result<Vec<MemoryClock>, NoMemory>
+    ensures { IfOk result (λ clocks. length clocks.items ≡ CLOCKS) }
+{
+    let mut clocks = Vec::with_capacity(alloc, CLOCKS)?;
+    for _ in 0..CLOCKS {
+        clocks.push_reserved(MemoryClock::new(Listed::empty(alloc)));
+    }
+    Ok(clocks)
+}
+
 /// Says on standard error why nothing is served.
 fn tell(rt: &HostRuntime, port: u16, why: Doorless) -> Stop {
     let told = match why {
@@ -138,29 +165,31 @@ fn tell_folder(rt: &HostRuntime, folder: &Text, status: u8) {
 }
 
 /// Runs the words over standard input and output, some doors and the folders of the system.
-fn run_at<W: Threads + Wait + Sync, R: Door + Send, C: Clock + Send>(
+fn run_at<W: Threads + Wait + Sync, R: Door + Send, C: Clock + Send + Drop>(
     host: HostRuntime,
     rt: &W,
     words: &[Text],
     doors: &mut Vec<(R, C)>,
+    clocks: Vec<C>,
 ) -> u8
 where
     R::Link: Send,
-    requires { length doors.old.items ≡ DOORS }
+    requires doors { length doors.old.items ≡ DOORS }
+    requires clocks { length clocks.items ≡ CLOCKS }
 {
     let alloc = host.alloc();
     let mut source = StdSource::new(host.reader());
     let mut sink = StdSink::new(io::writer(&host));
     let mut shelf = FolderShelf::new(alloc, &host);
-    run(rt, alloc, words, &mut source, &mut sink, doors, &mut shelf)
+    run(rt, alloc, words, &mut source, &mut sink, doors, clocks, &mut shelf)
 }
 
 /// The same where nobody comes to any door.
 fn run_alone<W: Threads + Wait + Sync>(host: HostRuntime, rt: &W, words: &[Text]) -> u8 {
-    match no_doors(host.alloc()) {
-        Ok(mut doors) => run_at(host, rt, words, &mut doors),
-        Err(NoMemory) => Stop::Memory.status(),
-    }
+    let (Ok(mut doors), Ok(clocks)) = (no_doors(host.alloc()), still_clocks(host.alloc())) else {
+        return Stop::Memory.status();
+    };
+    run_at(host, rt, words, &mut doors, clocks)
 }
 
 /// The same with doors at this port.
@@ -170,9 +199,13 @@ fn run_at_port<W: Threads + Wait + Sync>(
     words: &[Text],
     port: u16,
 ) -> u8 {
-    match open_doors(host, port) {
-        Ok(mut doors) => run_at(host, rt, words, &mut doors),
-        Err(why) => tell(&host, port, why).status(),
+    let mut doors = match open_doors(host, port) {
+        Ok(doors) => doors,
+        Err(why) => return tell(&host, port, why).status(),
+    };
+    match system_clocks(host) {
+        Ok(clocks) => run_at(host, rt, words, &mut doors, clocks),
+        Err(NoMemory) => Stop::Memory.status(),
     }
 }
 
@@ -180,7 +213,7 @@ fn main(rt: HostRuntime) -> ExitCode {
     let Ok(words) = arguments(&rt) else {
         return ExitCode::from(Stop::Memory.status());
     };
-    let command = built_command(rt.alloc(), &words);
+    let command = command_of(rt.alloc(), &words);
     let status = match &command {
         Ok(Command::Serve { folder, port, .. }) => {
             let status = run_at_port(rt, &rt, &words, *port);

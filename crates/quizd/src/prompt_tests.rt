@@ -3,6 +3,7 @@ ghost use Rattle.std.specs.Prelude.{◌≡◌, ◌<◌, ◌≤◌, length, None,
 ghost use Rattle.qz_outside.specs.Causes.{HasCause, HasRisen};
 
 use super::*;
+use crate::running::status_of;
 use qz_disks::MemoryShelf;
 use qz_outside::{Failed, Sink, Source};
 use std::cell::Cell;
@@ -80,17 +81,8 @@ fn answered<W: Threads + Wait + Sync>(
         faults: 0,
     };
     let mut sink = Counting { replies: &replies };
-    let mut doors = no_doors(alloc)?;
     let mut shelf = MemoryShelf::new(alloc, Listed::empty(alloc));
-    let status = run(
-        rt,
-        alloc,
-        &words,
-        &mut source,
-        &mut sink,
-        &mut doors,
-        &mut shelf,
-    );
+    let status = status_of(rt, alloc, &words, &mut source, &mut sink, &mut shelf)?;
     Ok((status, replies.get()))
 }
 

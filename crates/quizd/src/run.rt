@@ -1,23 +1,23 @@
 //! The command line.
 
 ghost use Rattle.qz_stations.specs.Stations.{entrance_by, peer_by, serving_by};
-ghost use Rattle.quizd.specs.Commands.{UsageWritten, NoneOut, RunEnds, RunsAll, ScriptDoesAll, ScriptEndsIn};
+ghost use Rattle.quizd.specs.Commands.{UsageWritten, NoneOut, RunEnds, RunsAll, ScriptDoesAll, ScriptEndsIn, is_memory};
 ghost use Rattle.std.specs.Prelude.{◌≡◌, length};
 ghost use Rattle.qz_ending.specs.Endings.{Ended};
 ghost use Rattle.quizd.specs.Serving.{NoDoorFails};
 
-use crate::built::{built_command, is_memory};
 use crate::bulk::bulk;
 use crate::folders::{script_folder, serve_folder};
 use crate::gift::gift;
 use crate::script::script;
-use qz_command::{Command, WordsFault};
+use qz_command::{Command, WordsFault, command_of};
 use qz_disks::Shelf;
 use qz_ending::Stop;
 use qz_found::found_folder;
 use qz_links::{Clock, Door};
 use qz_outside::{Sink, Source, write_all};
 use qz_replay::replay;
+use qz_stations::Crew;
 use qz_text::Text;
 use std::alloc::Global;
 use std::sync::Wait;
@@ -26,26 +26,29 @@ use std::thread::Threads;
 const USAGE: &str =
     "usage: quizd replay | gift check | gift fmt | script FOLDER | found FOLDER SHARDS TOKEN | serve FOLDER PORT WORKERS REGRADERS LINKS | bulk N\n";
 
-/// Runs the command that the words name, over a source, a sink, sixteen doors with a clock each, and a shelf of which no file is out, and
-/// answers its exit status.
+/// Runs the command that the words name, over a source, a sink, sixteen doors with a clock each, eight clocks more, and a shelf of which no file
+/// is out, and answers its exit status.
 ///
-/// The commands so far are `replay`, `gift check`, `gift fmt`, `script FOLDER`, `found FOLDER SHARDS TOKEN`, `bulk N` and
-/// `serve FOLDER PORT WORKERS 0 LINKS`, which serves the first doors, one a worker. The folder's school is loaded, and given back with all that was
-/// accepted; for a script `memory` stands for a school in memory, just founded. Words that are no command are status 2: nothing is read, and the usage line is written. Where the sink fails under the usage line the status is 5.
-/// Where memory is wanting for the words it is 8, and nothing is done.
-pub fn run<W: Threads + Wait + Sync, S: Source, O: Sink, R: Door + Send, C: Clock + Send, F: Shelf>(
+/// The commands are `replay`, `gift check`, `gift fmt`, `script FOLDER`, `found FOLDER SHARDS TOKEN`, `bulk N` and
+/// `serve FOLDER PORT WORKERS REGRADERS LINKS`, which serves the first doors, one a worker, while others regrade by the first clocks. The
+/// folder's school is loaded, and given back with all that was accepted; for a script `memory` stands for a school in memory, just founded.
+/// Words that are no command are status 2: nothing is read, and the usage line is written. Where the sink fails under the usage line the status
+/// is 5. Where memory is wanting for the words it is 8, and nothing is done.
+pub fn run<W: Threads + Wait + Sync, S: Source, O: Sink, R: Door + Send, C: Clock + Send + Drop, F: Shelf>(
     rt: &W,
     alloc: Global,
     words: &[Text],
     source: &mut S,
     sink: &mut O,
     doors: &mut Vec<(R, C)>,
+    clocks: Vec<C>,
     shelf: &mut F,
 ) -> u8
 where
     F::Disk: Send + Sync,
     R::Link: Send,
     requires doors { length doors.old.items ≡ 16 }
+    requires clocks { length clocks.items ≡ 8 }
     requires none_out { NoneOut (F.files shelf.old) }
     ensures ended { Ended
         (RunEnds (record { moment = F.Disk.moment; left_at = F.Disk.left_at; sound = F.Disk.sound; faults = F.Disk.faults })
@@ -65,7 +68,7 @@ where
     ensures doors { length doors.new.items ≡ 16 }
     ensures none_out { NoneOut (F.files shelf.new) }
 {
-    match built_command(alloc, words) {
+    match command_of(alloc, words) {
         Ok(Command::Replay) => replay(alloc, source, sink),
         Ok(Command::GiftCheck) => gift(alloc, false, source, sink),
         Ok(Command::GiftFormat) => gift(alloc, true, source, sink),
@@ -82,19 +85,17 @@ where
                 folder,
                 port: _port,
                 workers,
-                regraders: _regraders,
+                regraders,
                 links,
             },
-        ) => serve_folder(
-            rt,
-            alloc,
-            folder.as_bytes(),
-            workers,
-            links,
-            sink,
-            doors,
-            shelf,
-        ),
+        ) => {
+            let crew = Crew {
+                workers,
+                links,
+                regraders,
+            };
+            serve_folder(rt, alloc, folder.as_bytes(), crew, sink, doors, clocks, shelf)
+        }
         Ok(Command::Bulk { count }) => bulk(alloc, count, sink),
         Err(WordsFault::BadWords) => show_usage(sink).status(),
         Err(WordsFault::Memory) => Stop::Memory.status(),
@@ -131,6 +132,13 @@ fn run_script<S: Source, O: Sink, F: Shelf>(
     } else {
         script_folder(alloc, folder.as_bytes(), source, sink, shelf)
     }
+}
+
+/// Whether the folder's word of a script means the school in memory, which is no folder's.
+fn is_memory(folder: &Text) -> bool
+    ensures { result ≡ is_memory folder.now }
+{
+    folder.as_str() == "memory"
 }
 
 /// Writes the usage line.

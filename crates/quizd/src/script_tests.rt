@@ -1,6 +1,7 @@
 ghost use Rattle.std.specs.Prelude.{◌<◌, ◌^◌};
 
 use super::*;
+use crate::running::status_of;
 use crate::script::serve;
 use qz_disks::MemoryShelf;
 use qz_outside::{MemorySink, MemorySource};
@@ -48,17 +49,8 @@ fn scripted<W: Threads + Wait + Sync>(
     words.push(Text::of(alloc, "memory")?)?;
     let mut source = source_of(alloc, text, outer)?;
     let mut sink = sink_for(alloc, outer)?;
-    let mut doors = no_doors(alloc)?;
     let mut shelf = MemoryShelf::new(alloc, Listed::empty(alloc));
-    let status = run(
-        rt,
-        alloc,
-        &words,
-        &mut source,
-        &mut sink,
-        &mut doors,
-        &mut shelf,
-    );
+    let status = status_of(rt, alloc, &words, &mut source, &mut sink, &mut shelf)?;
     Ok((status, String::from_utf8_lossy(alloc, sink.bytes())?))
 }
 

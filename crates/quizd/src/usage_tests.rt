@@ -3,6 +3,7 @@ ghost use Rattle.qz_disks.specs.Slots.{memory_files};
 ghost use Rattle.quizd.specs.Commands.{NoneOut};
 
 use super::*;
+use crate::running::status_of;
 use qz_disks::MemoryShelf;
 use qz_outside::{MemorySink, MemorySource};
 use qz_text::{Bytes, Listed};
@@ -32,8 +33,7 @@ pub(crate) fn shown<W: Threads + Wait + Sync>(
         items: vec![in alloc; failing; 1]?,
     };
     let mut sink = MemorySink::new(alloc, 1 << 20, failing, 9)?;
-    let mut doors = no_doors(alloc)?;
-    let status = run(rt, alloc, &texts, &mut source, &mut sink, &mut doors, shelf);
+    let status = status_of(rt, alloc, &texts, &mut source, &mut sink, shelf)?;
     Ok((status, String::from_utf8_lossy(alloc, sink.bytes())?))
 }
 
@@ -51,7 +51,7 @@ fn other_words_show_the_usage_line(rt: HostRuntime) -> Result<(), Fail> {
         &["found", "school", "0", "root"],
         &["found", "school", "65", "root"],
         &["serve", "school", "8080", "17", "0", "1"],
-        &["serve", "school", "8080", "1", "1", "1"],
+        &["serve", "school", "8080", "1", "9", "1"],
     ];
     for words in rows {
         let mut shelf = MemoryShelf::new(alloc, Listed::empty(alloc));
@@ -78,12 +78,12 @@ fn a_school_is_founded_on_the_shelf(rt: HostRuntime) -> Result<(), Fail> {
 #[test]
 fn a_school_with_no_links_is_served(rt: HostRuntime) -> Result<(), Fail> {
     let alloc = rt.alloc();
-    for workers in ["1", "2", "16"] {
+    for (workers, regraders) in [("1", "0"), ("16", "0"), ("1", "1"), ("2", "8")] {
         let mut shelf = MemoryShelf::new(alloc, Listed::empty(alloc));
         shown(&rt, alloc, &["found", "school", "2", "root"], 0, &mut shelf)?;
-        let words = ["serve", "school", "8080", workers, "0", "1"];
+        let words = ["serve", "school", "8080", workers, regraders, "1"];
         let (status, written) = shown(&rt, alloc, &words, 0, &mut shelf)?;
-        assert_eq!(rt; (status, written.as_str()), (0, "served 0\n"), "{workers}");
+        assert_eq!(rt; (status, written.as_str()), (0, "served 0\n"), "{workers} {regraders}");
     }
     Ok(())
 }

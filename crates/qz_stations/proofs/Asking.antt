@@ -31,9 +31,9 @@ may_ask now ask kept can = record { keyed = can.keyed; kept = can.kept; describe
 abbrev pub Visiting : Visitor → Visitor → ℕ → Ask → Reply → Type 0
 Visiting a b now ask told = (b.school ≡ a.school) × (Asked a.passes b.passes b.last now ask told)
 
-visit-goes : (a b : Visitor) → Follows Visiting a b → GoesOn a b
-visit-goes a _ (stays _) = goes_self a
-visit-goes a c (asked _ b _ now ask r before last) = goes_on a b c (visit-goes a b before) (goes_asked b c now ask r last)
+pub visit_goes : (a b : Visitor) → Follows Visiting a b → GoesOn a b
+visit_goes a _ (stays _) = goes_self a
+visit_goes a c (asked _ b _ now ask r before last) = goes_on a b c (visit_goes a b before) (goes_asked b c now ask r last)
 
 -- of a visit, what it sees of the lists
 abbrev pub seen_by_clock : {C : Type 0} → Answerer Visitor C → Answerer Tellings C
@@ -49,4 +49,4 @@ module _ {L C : Type 0} (tells : C → ℕ → C → Type 0) (peer : L → Peer)
   serves_beside = carries_door (Asks tells Visiting) (Asks tells IsAskedBeside) seen_by_clock peer most old new a b end (asks-beside tells) served
 
   pub visit_goes_on : GoesOn a.desk b.desk
-  visit_goes_on = visit-goes a.desk b.desk (by_door Visiting tells peer most old new a b end served)
+  visit_goes_on = visit_goes a.desk b.desk (by_door Visiting tells peer most old new a b end served)

@@ -1,38 +1,32 @@
 -- Stations that were served, and the doors that they stand at.
-use Rattle.std.proofs.Common.{◌≡◌, ◌⊎◌, inl, inr, ⊎_elim, ℕ, zero, suc, ◌+◌, ◌-◌, ◌^◌, ◌<◌, ◌≤◌, List, [], ◌∷◌, ◌++◌, Some, length, length-append, map, refl, sym, ap, ◌∙◌, subst, append-nil, arith, lt_of_not-le}
+use Rattle.std.proofs.Common.{◌≡◌, ⊎_elim, ℕ, suc, ◌+◌, ◌^◌, ◌<◌, ◌≤◌, List, [], ◌∷◌, ◌++◌, Some, length, length-append, map, refl, sym, ap, ◌∙◌, subst, append-nil, arith}
 use Rattle.std.specs.Prelude.{Bool, true, false, Contains, MatchResult, Result, Ok, Err, drop, filter, slice_get, take}
-use Rattle.std.specs.List.{range_with_len}
 use Rattle.std.proofs.Math.Seq.{drop-append_seam, take-length}
 use Rattle.std.proofs.Math.ListN.{drop_of_length-le}
 use Rattle.std.proofs.lemmas.List.{length-map}
+use Rattle.std.proofs.lemmas.List.FromFn.{length-range_with_len}
 use Rattle.std.proofs.lemmas.Option.{slice_get-map, slice_get_within}
-use mathlib.Core.Logic.{dite}
-use native.Mathlib.Decide.{dec_le, ℕ_discrete}
 use Rattle.qz_doors.specs.declared.door.DoorEnd.{DoorEnd}
 use Rattle.qz_doors.specs.Doors.{Entrance, ServesDoor, ServesInTurn}
 use Rattle.qz_doors.specs.Doors as turns
 use Rattle.qz_doors.specs.Links.{Peer}
 use Rattle.qz_http.specs.declared.items.LinkEnd.{LinkEnd}
 use Rattle.qz_serial.proofs.Seats.{within_there}
-use Rattle.qz_solo.specs.Solos.{School}
+use Rattle.qz_solo.specs.Solos.{IsSolo, School}
 use Rattle.qz_terms.specs.declared.ask.Ask.{Ask}
 use Rattle.qz_terms.specs.declared.reply.Reply.{Reply}
-use Rattle.qz_visit.specs.Holding.{HasSeats, Holds}
+use Rattle.qz_turn.specs.Rule.{HasEvery, below}
+use Rattle.qz_visit.specs.Closing.{HaveEvery}
+use Rattle.qz_visit.specs.Holding.{GoesOn}
 use Rattle.qz_visit.specs.Opening.{Opens, told_by}
 use Rattle.qz_visit.specs.Seeing.{FollowAll}
-use Rattle.qz_visit.specs.Visits.{Locks, Seats, Tellings, seen_in}
-use Rattle.qz_visit.proofs.Holding.{from_map, holds_on}
-use Rattle.qz_stations.specs.Posts.{AreManned, AreServed, IsCounted, IsManned, IsServed, IsTakenUp, TakesIn, TakesUp}
-use Rattle.qz_stations.specs.Stations.{Post, Serving, ServesAt, ServesBeside, all_ends, at_door, no_end}
-use Rattle.qz_stations.proofs.Leaving.{get_longer}
-
--- ---- numbers
-
-contains_range : (a m n : ℕ) → a ≤ n → n < a + m → Contains (range_with_len a m) n
-contains_range a zero n from within = absurd (omega (arith, from, within))
-contains_range a (suc m) n from within = dite (ℕ_discrete n a)
-    (λ same. (0, omega arith, sym same))
-    (λ other. let more = contains_range (a + 1) m n (omega (arith, from, other)) (omega (arith, within)) in (suc more.0, (let inside = more.1 in omega (arith, inside)), more.2))
+use Rattle.qz_visit.specs.Visits.{Locks, Seats, Tellings, Visitor, seen_in}
+use Rattle.qz_visit.proofs.Holding.{every_held, from_map, goes_self, holds_on, holds_opened, seats_opened}
+use Rattle.qz_visit.proofs.Opened.{has_below}
+use Rattle.qz_stations.specs.Posts.{AreAmong, AreEach, AreManned, HasRegraded, HoldTheirs, HoldsEvery, IsCounted, IsHeldBy, IsServed, TakesIn, TakesUp}
+use Rattle.qz_stations.specs.Stations.{Post, Serving, ServesAt, ServesBeside, all_ends, at_place, no_end}
+use Rattle.qz_stations.proofs.Lists.{get_longer}
+use Rattle.qz_stations.proofs.TakingUp.{hold_theirs}
 
 -- ---- how a door ended
 
@@ -54,86 +48,142 @@ counted_door asks peer most old new a b end few d = record {
   short = let count = d.count in let short = d.short in let many = many_ends asks peer a b d.links d.back d.ends d.served in let less = few_filtered turns.is_short d.ends in omega (arith, count, short, many, less);
 }
 
-module _ {D C : Type 0} (s : Locks) (count : ℕ) (told : Tellings) (old rest : List (D × C)) (passes : Seats) (taken : List (Post D C)) (so : TakesUp s count told old rest passes taken) where
-  -- a number stands with a station, or with the passes that are left
-  shared : HasSeats s count → length taken ≤ count → (n : ℕ) → n < s.records.seats → (n < length taken) ⊎ Contains (range_with_len (length taken) (count - length taken)) n
-  shared seats few n within = ⊎_elim
-      (λ before. inl before)
-      (λ later. inr (contains_range (length taken) (count - length taken) n later (let many = seats.records in omega (arith, within, many, few))))
-      (either n (length taken))
-    where
-      either : (n m : ℕ) → (n < m) ⊎ (m ≤ n)
-      either n m = dite (dec_le m n) (λ le. inr le) (λ no. inl (lt_of_not-le no))
+-- ---- stations that were taken up
 
+-- a number among these is among those
+pub among_on : (xs ys zs : List ℕ) → AreAmong xs ys → AreAmong ys zs → AreAmong xs zs
+among_on xs ys zs one other = record { each = λ n there. other.each n (one.each n there) }
+
+pub every_among : (count : ℕ) (xs ys : List ℕ) → HasEvery count xs → AreAmong xs ys → HasEvery count ys
+every_among count xs ys every among = record { number = λ n within. among.each n (every.number n within) }
+
+holds-after : (s : Locks) (p q : Visitor) → HoldTheirs s p.passes → GoesOn p q → HoldTheirs s q.passes
+holds-after s p q holds goes = hold_theirs s p.passes.records.numbers q.passes (holds_on s p.passes.records.numbers p.passes q.passes holds goes.passes)
+
+module _ {P : Type 0} (s : Locks) (told : Tellings) (numbers : List ℕ) (old rest : List P) (passes : Seats) (taken : List (Post P)) (so : TakesUp s told numbers old rest passes taken) where
   -- where memory was short, before any was served
-  pub manned_taken : HasSeats s count → length taken ≤ count → count < 2 ^ 32 → AreManned s passes taken
-  manned_taken seats few small = record {
-    manned = λ k p at. let is = so.dealt k p at in record { holds = is.holds; counted = subst IsCounted (sym is.fresh) record { taken = omega arith; short = omega arith } };
-    few = omega (arith, few, small);
-    numbers = range_with_len (length taken) (count - length taken);
-    own = so.left;
-    every = shared seats few;
+  pub manned_taken : length taken < 2 ^ 32 → AreManned s passes taken
+  manned_taken small = record {
+    manned = λ k p at. let is = so.taken k p at in record { holds = is.holds; counted = subst IsCounted (sym is.fresh) record { taken = omega arith; short = omega arith } };
+    few = small;
+    own = so.own;
   }
 
-  module _ (serves : Serving D C) (left : List (Post D C)) (served : AreServed serves taken left) where
+  pub back_taken : (last : Seats) → TakesIn s passes last taken → AreAmong numbers last.records.numbers
+  back_taken last takes = record { each = λ n there. ⊎_elim (λ kept. takes.kept.each n kept) (λ held. takes.given n held) (so.dealt.each n there) }
+
+  pub places_back : (new : List P) → new ≡ map at_place taken ++ rest → new ≡ old
+  places_back new is = is ∙ sym so.places
+
+  module _ (Does : Post P → Post P → Type 0) (left : List (Post P)) (did : AreEach Does taken left) where
     -- the station as it was taken up
-    was : (k : ℕ) (q : Post D C) → slice_get left k ≡ Some q → (p : Post D C) × ((slice_get taken k ≡ Some p) × IsServed serves p q)
+    was : (k : ℕ) (q : Post P) → slice_get left k ≡ Some q → (p : Post P) × ((slice_get taken k ≡ Some p) × Does p q)
     was k q at =
         let within = slice_get_within left k q at in
-        let long = served.count in
+        let long = did.count in
         let p = within_there taken k (omega (arith, within, long)) in
-        (p.0, (p.1, served.each k p.0 q p.1 at))
+        (p.0, (p.1, did.each k p.0 q p.1 at))
 
-    pub manned_served : HasSeats s count → length taken ≤ count → count < 2 ^ 32 → ((p q : Post D C) → IsServed serves p q → IsCounted q.end) → AreManned s passes left
-    manned_served seats few small counted = record {
+    pub manned_served : length taken < 2 ^ 32 → ((p q : Post P) → Does p q → GoesOn p.visit q.visit) → ((p q : Post P) → p.end ≡ no_end → Does p q → IsCounted q.end) → (now : Seats) → HoldTheirs s now → AreManned s now left
+    manned_served small goes counted now own = record {
       manned = λ k q at.
           let p = was k q at in
-          let is = so.dealt k p.0 p.1.0 in
-          record { holds = holds_on s (k ∷ []) p.0.visit.passes q.visit.passes is.holds p.1.1.goes_on.passes; counted = counted p.0 q p.1.1 };
-      few = let long = served.count in omega (arith, few, small, long);
-      numbers = range_with_len (length taken) (count - length taken);
-      own = so.left;
-      every = λ n within. subst (λ (m : ℕ). (n < m) ⊎ Contains (range_with_len (length taken) (count - length taken)) n) (sym served.count) (shared seats few n within);
+          let is = so.taken k p.0 p.1.0 in
+          record { holds = holds-after s p.0.visit q.visit is.holds (goes p.0 q p.1.1); counted = counted p.0 q is.fresh p.1.1 };
+      few = let long = did.count in omega (arith, small, long);
+      own = own;
     }
 
-    -- all doors were served, each for what its passes saw
-    pub beside : (first last : Seats) (new : List (D × C)) (end : DoorEnd) → length taken ≡ count → new ≡ map at_door left ++ rest → end ≡ all_ends (map (λ (p : Post D C). p.end) left) → TakesIn s first last left
-        → ServesBeside serves told (λ seen. FollowAll seen (seen_in last)) count old new end
-    beside first last new end all doors total takes = record {
-      ends = map (λ (p : Post D C). p.end) left;
-      count_is = length-map left (λ (p : Post D C). p.end) ∙ served.count ∙ all;
-      end_is = total;
-      each = at_place;
-      others = dropped left new doors (served.count ∙ all) ∙ sym (dropped taken old so.doors all);
-      as_many = counted left new doors ∙ ap (λ (n : ℕ). n + length rest) served.count ∙ sym (counted taken old so.doors);
+    held-after : ((p q : Post P) → Does p q → GoesOn p.visit q.visit) → (n : ℕ) → IsHeldBy taken n → IsHeldBy left n
+    held-after goes n h =
+        let within = slice_get_within taken h.place h.post h.there in
+        let long = did.count in
+        let q = within_there left h.place (omega (arith, within, long)) in
+        record {
+          place = h.place;
+          post = q.0;
+          there = q.1;
+          number = subst (λ (l : List ℕ). Contains l n) (sym (goes h.post q.0 (did.each h.place h.post q.0 h.there q.1)).passes.records.numbers) h.number;
+        }
+
+    pub back_served : ((p q : Post P) → Does p q → GoesOn p.visit q.visit) → (now last : Seats) → AreAmong passes.records.numbers now.records.numbers → TakesIn s now last left → AreAmong numbers last.records.numbers
+    back_served goes now last among takes = record {
+      each = λ n there. ⊎_elim (λ kept. takes.kept.each n (among.each n kept)) (λ held. takes.given n (held-after goes n held)) (so.dealt.each n there);
     }
-      where
-        counted : (ps : List (Post D C)) (doors : List (D × C)) → doors ≡ map at_door ps ++ rest → length doors ≡ length ps + length rest
-        counted ps doors is = ap (λ (l : List (D × C)). length l) is ∙ length-append (map at_door ps) rest ∙ ap (λ (n : ℕ). n + length rest) (length-map ps at_door)
 
-        dropped : (ps : List (Post D C)) (doors : List (D × C)) → doors ≡ map at_door ps ++ rest → length ps ≡ count → drop count doors ≡ rest
-        dropped ps doors is long = ap (λ (n : ℕ). drop n doors) (sym (length-map ps at_door ∙ long)) ∙ ap (λ (l : List (D × C)). drop (length (map at_door ps)) l) is ∙ drop-append_seam (map at_door ps) rest
+-- ---- those that regrade
 
-        stands : (ps : List (Post D C)) (doors : List (D × C)) (k : ℕ) (p : Post D C) → doors ≡ map at_door ps ++ rest → slice_get ps k ≡ Some p → slice_get doors k ≡ Some (at_door p)
-        stands ps doors k p is at = subst (λ (l : List (D × C)). slice_get l k ≡ Some (at_door p)) (sym is) (get_longer (map at_door ps) rest k (at_door p) (slice_get-map at_door ps k ∙ rw at refl))
+same-there : {A : Type 0} (xs : List A) (k : ℕ) (x y : A) → slice_get xs k ≡ Some x → slice_get xs k ≡ Some y → x ≡ y
+same-there xs k x y at there = cc
 
-        at_place : (k : ℕ) (e : DoorEnd) → slice_get (map (λ (p : Post D C). p.end) left) k ≡ Some e → ServesAt serves told (λ seen. FollowAll seen (seen_in last)) old new k e
-        at_place k e at =
-            let q = from_map (λ (p : Post D C). p.end) left k e at in
-            let p = was k q.0 q.1.0 in
-            let is = so.dealt k p.0 p.1.0 in
-            record {
-              door = p.0.door;
-              served = q.0.door;
-              clock = p.0.clock;
-              ticked = q.0.clock;
-              seen = seen_in q.0.visit.passes;
-              before = stands taken old k p.0 so.doors p.1.0;
-              after = stands left new k q.0 doors q.1.0;
-              going = subst (λ (x : DoorEnd). serves p.0.door q.0.door (record { desk = told; clock = p.0.clock }) (record { desk = seen_in q.0.visit.passes; clock = q.0.clock }) x) (sym q.1.1)
-                  (subst (λ (t : Tellings). serves p.0.door q.0.door (record { desk = t; clock = p.0.clock }) (record { desk = seen_in q.0.visit.passes; clock = q.0.clock }) q.0.end) is.seen p.1.1.going);
-              kept = takes.each k q.0 q.1.0;
-            }
+-- where nobody was served yet
+pub none_regraded : {C : Type 0} (rs : List (Post C)) → AreEach HasRegraded rs rs
+none_regraded rs = record {
+  count = refl;
+  each = λ k p q at there. subst (HasRegraded p) (same-there rs k p q at there) (record { goes_on = goes_self p.visit; end = refl });
+}
+
+pub goes_regraded : {C : Type 0} (p q : Post C) → HasRegraded p q → GoesOn p.visit q.visit
+goes_regraded p q did = did.goes_on
+
+pub counted_regraded : {C : Type 0} (p q : Post C) → p.end ≡ no_end → HasRegraded p q → IsCounted q.end
+counted_regraded p q fresh did = subst IsCounted (sym (did.end ∙ fresh)) record { taken = omega arith; short = omega arith }
+
+-- ---- doors
+
+module _ {D C : Type 0} (s : Locks) (count : ℕ) (told : Tellings) (numbers : List ℕ) (old rest : List (D × C)) (passes : Seats) (taken : List (Post (D × C))) (so : TakesUp s told numbers old rest passes taken) (serves : Serving D C) (left : List (Post (D × C))) (served : AreEach (IsServed serves) taken left) where
+  -- all doors were served, each for what its passes saw
+  pub beside : (first last : Seats) (new : List (D × C)) (end : DoorEnd) → length taken ≡ count → new ≡ map at_place left ++ rest → end ≡ all_ends (map (λ (p : Post (D × C)). p.end) left) → TakesIn s first last left
+      → ServesBeside serves told (λ seen. FollowAll seen (seen_in last)) count old new end
+  beside first last new end all doors total takes = record {
+    ends = map (λ (p : Post (D × C)). p.end) left;
+    count_is = length-map left (λ (p : Post (D × C)). p.end) ∙ served.count ∙ all;
+    end_is = total;
+    each = at_door;
+    others = dropped left new doors (served.count ∙ all) ∙ sym (dropped taken old so.places all);
+    as_many = counted left new doors ∙ ap (λ (n : ℕ). n + length rest) served.count ∙ sym (counted taken old so.places);
+  }
+    where
+      counted : (ps : List (Post (D × C))) (doors : List (D × C)) → doors ≡ map at_place ps ++ rest → length doors ≡ length ps + length rest
+      counted ps doors is = ap (λ (l : List (D × C)). length l) is ∙ length-append (map at_place ps) rest ∙ ap (λ (n : ℕ). n + length rest) (length-map ps at_place)
+
+      dropped : (ps : List (Post (D × C))) (doors : List (D × C)) → doors ≡ map at_place ps ++ rest → length ps ≡ count → drop count doors ≡ rest
+      dropped ps doors is long = ap (λ (n : ℕ). drop n doors) (sym (length-map ps at_place ∙ long)) ∙ ap (λ (l : List (D × C)). drop (length (map at_place ps)) l) is ∙ drop-append_seam (map at_place ps) rest
+
+      stands : (ps : List (Post (D × C))) (doors : List (D × C)) (k : ℕ) (p : Post (D × C)) → doors ≡ map at_place ps ++ rest → slice_get ps k ≡ Some p → slice_get doors k ≡ Some (at_place p)
+      stands ps doors k p is at = subst (λ (l : List (D × C)). slice_get l k ≡ Some (at_place p)) (sym is) (get_longer (map at_place ps) rest k (at_place p) (slice_get-map at_place ps k ∙ rw at refl))
+
+      at_door : (k : ℕ) (e : DoorEnd) → slice_get (map (λ (p : Post (D × C)). p.end) left) k ≡ Some e → ServesAt serves told (λ seen. FollowAll seen (seen_in last)) old new k e
+      at_door k e at =
+          let q = from_map (λ (p : Post (D × C)). p.end) left k e at in
+          let p = was s told numbers old rest passes taken so (IsServed serves) left served k q.0 q.1.0 in
+          let is = so.taken k p.0 p.1.0 in
+          record {
+            door = p.0.place.0;
+            served = q.0.place.0;
+            clock = p.0.place.1;
+            ticked = q.0.place.1;
+            seen = seen_in q.0.visit.passes;
+            before = stands taken old k p.0 so.places p.1.0;
+            after = stands left new k q.0 doors q.1.0;
+            going = subst (λ (x : DoorEnd). serves p.0.place.0 q.0.place.0 (record { desk = told; clock = p.0.place.1 }) (record { desk = seen_in q.0.visit.passes; clock = q.0.place.1 }) x) (sym q.1.1)
+                (subst (λ (t : Tellings). serves p.0.place.0 q.0.place.0 (record { desk = t; clock = p.0.place.1 }) (record { desk = seen_in q.0.visit.passes; clock = q.0.place.1 }) q.0.end) is.seen p.1.1.going);
+            kept = takes.each k q.0 q.1.0;
+          }
+
+-- ---- a school that is opened and closed
+
+module _ {K : Type 0} (faults : K → ℕ) (seats : ℕ) (a : School K) (s : Locks) (p : Seats) (o : Opens faults seats a s p) where
+  pub opened_every : IsSolo a.catalog a.parts → HoldsEvery s p
+  opened_every solo =
+      let held = holds_opened faults seats a s p solo o in
+      record { own = hold_theirs s (below seats) p held; every = subst (λ (n : ℕ). HasEvery n p.records.numbers) (sym o.seats_are) (subst (HasEvery seats) (sym held.records.numbers_are) (has_below seats)) }
+
+  pub opened_many : IsSolo a.catalog a.parts → length p.records.numbers ≡ seats
+  opened_many solo = ap length (holds_opened faults seats a s p solo o).records.numbers_are ∙ length-range_with_len 0 seats
+
+  pub closed_every : (last : Seats) → HoldsEvery s last → HaveEvery s last
+  closed_every last all = every_held s seats last.records.numbers last (seats_opened faults seats a s p o) (subst (λ (n : ℕ). HasEvery n last.records.numbers) o.seats_are all.every) all.own
 
 -- ---- what is kept of what was seen
 

@@ -1,63 +1,93 @@
 -- Stations are taken up, one after the other.
-use Rattle.std.proofs.Common.{◌≡◌, ◌⊎◌, inl, inr, ℕ, zero, suc, ◌+◌, ◌-◌, ◌<◌, List, [], ◌∷◌, ◌++◌, Some, length, length-append, map, refl, sym, ap, ◌∙◌, subst, append_assoc, arith}
-use Rattle.std.specs.Prelude.{drop, slice_get, slice_index_or}
-use Rattle.std.specs.List.{range_with_len}
+use Rattle.std.proofs.Common.{◌≡◌, ◌⊎◌, inl, inr, ⊎_elim, ℕ, zero, suc, ◌<◌, List, [], ◌∷◌, ◌++◌, length, length-append, map, refl, sym, ap, ◌∙◌, subst, append_assoc, arith}
+use Rattle.std.specs.Prelude.{Contains}
 use Rattle.std.proofs.lemmas.List.{map-append}
-use Rattle.qz_turn.specs.Rule.{below}
+use Rattle.std.proofs.lemmas.List.Elements.{Contains-append_cases}
 use Rattle.qz_visit.specs.Holding.{Holds}
 use Rattle.qz_visit.specs.Opening.{Splits}
 use Rattle.qz_visit.specs.Visits.{Locks, Seats, Tellings, seen_in}
 use Rattle.qz_visit.proofs.Holding.{holds_given, holds_left}
 use Rattle.qz_visit.proofs.Seeing.{seen_given, seen_left}
-use Rattle.qz_stations.specs.Posts.{IsTakenUp, TakesUp}
-use Rattle.qz_stations.specs.Stations.{Post, at_door, no_end}
+use Rattle.qz_stations.specs.Posts.{HoldTheirs, IsHeldBy, IsTakenUp, TakesUp}
+use Rattle.qz_stations.specs.Stations.{Post, at_place, no_end}
+use Rattle.qz_stations.proofs.Lists.{get_last, get_longer, get_snoc}
 
--- what stands in a list with one more at its end
-pub get_snoc : {A : Type 0} (xs : List A) (x : A) (k : ℕ) (y : A) → slice_get (xs ++ x ∷ []) k ≡ Some y → (slice_get xs k ≡ Some y) ⊎ ((k ≡ length xs) × (x ≡ y))
-get_snoc [] x zero y at = inr (refl, cc)
-get_snoc [] x (suc k) y at = absurd cc
-get_snoc (z ∷ zs) x zero y at = inl at
-get_snoc (z ∷ zs) x (suc k) y at = elim (get_snoc zs x k y at) [ inl there ↦ inl there | inr last ↦ inr (ap suc last.0, last.1) ]
+-- what holds any numbers holds its own
+pub hold_theirs : (s : Locks) (numbers : List ℕ) (p : Seats) → Holds s numbers p → HoldTheirs s p
+hold_theirs s numbers p h = subst (λ (l : List ℕ). Holds s l p) (sym h.records.numbers_are) h
 
-pub first_of_some : {A : Type 0} (xs : List A) (x : A) → 0 < length xs → x ≡ slice_index_or xs 0 x → xs ≡ x ∷ drop 1 xs
-first_of_some [] x some is = absurd (omega arith)
-first_of_some (y ∷ ys) x some is = ap (λ (z : _). z ∷ ys) (sym is)
+-- a number that one has, it has also among more stations
+pub held_longer : {P : Type 0} (ps qs : List (Post P)) (n : ℕ) → IsHeldBy ps n → IsHeldBy (ps ++ qs) n
+held_longer ps qs n h = record { place = h.place; post = h.post; there = get_longer ps qs h.place h.post h.there; number = h.number }
 
-module _ {D C : Type 0} (s : Locks) (count : ℕ) where
-  pub takes_none : (doors : List (D × C)) (passes : Seats) (stations : List (Post D C)) → stations ≡ [] → Holds s (below count) passes → TakesUp s count (seen_in passes) doors doors passes stations
-  takes_none doors passes stations none holds = subst (TakesUp s count (seen_in passes) doors doors passes) (sym none) record {
-    doors = refl;
-    dealt = λ k p at. absurd cc;
-    left = subst (λ (n : ℕ). Holds s (range_with_len 0 n) passes) (omega arith) holds;
-    left_seen = refl;
+-- the numbers of these, where there are some
+pub record HasFirst (numbers : List ℕ) : Type 0 where
+  pub first : ℕ
+  pub rest : List ℕ
+  pub is : numbers ≡ first ∷ rest
+
+pub has-first : (numbers : List ℕ) → 0 < length numbers → HasFirst numbers
+has-first [] some = absurd (omega arith)
+has-first (n ∷ ns) some = record { first = n; rest = ns; is = refl }
+
+module _ {P : Type 0} (s : Locks) where
+  pub takes_none : (places : List P) (passes : Seats) (stations : List (Post P)) → stations ≡ [] → HoldTheirs s passes → TakesUp s (seen_in passes) passes.records.numbers places places passes stations
+  takes_none places passes stations none holds = subst (TakesUp s (seen_in passes) passes.records.numbers places places passes) (sym none) record {
+    places = refl;
+    taken = λ k p at. absurd cc;
+    own = holds;
+    seen = refl;
+    count = omega arith;
+    dealt = record { each = λ n there. inl there };
   }
 
-  -- the number that is given next
-  pub next_number : (told : Tellings) (old now : List (D × C)) (passes : Seats) (stations : List (Post D C)) → TakesUp s count told old now passes stations → length stations < count
-      → Holds s (length stations ∷ range_with_len (length stations + 1) (count - (length stations + 1))) passes
-  next_number told old now passes stations so few =
-      let n = length stations in
-      let some_left : count - n ≡ suc (count - (n + 1)) = omega (arith, few) in
-      subst (λ (ns : List ℕ). Holds s ns passes) (ap (range_with_len n) some_left) so.left
+  module _ (told : Tellings) (numbers : List ℕ) (old now : List P) (passes : Seats) (stations : List (Post P)) (so : TakesUp s told numbers old now passes stations) (some : length stations < length numbers) where
+    abbrev pub next : HasFirst passes.records.numbers
+    next = has-first passes.records.numbers (let count = so.count in omega (arith, count, some))
 
-  pub takes_one : (told : Tellings) (old now rest : List (D × C)) (passes after given : Seats) (stations longer : List (Post D C)) (at : D × C) (p : Post D C) → TakesUp s count told old now passes stations → length stations < count
-      → now ≡ at ∷ rest → Splits passes after given → at_door p ≡ at → p.visit.passes ≡ given → p.end ≡ no_end → longer ≡ stations ++ p ∷ [] → TakesUp s count told old rest after longer
-  takes_one told old now rest passes after given stations longer at p so few next splits door visit fresh more = subst (TakesUp s count told old rest after) (sym more) record {
-    doors = so.doors ∙ ap (λ (l : List (D × C)). map at_door stations ++ l) (next ∙ ap (λ (x : D × C). x ∷ rest) (sym door)) ∙ sym (append_assoc (map at_door stations) (at_door p ∷ []) rest) ∙ ap (λ (l : List (D × C)). l ++ rest) (sym (map-append at_door stations (p ∷ [])));
-    dealt = λ k x there. elim (get_snoc stations p k x there) [
-      | inl before ↦ so.dealt k x before
-      | inr last ↦ subst (λ (j : ℕ). IsTakenUp s told j x) (sym last.0) (subst (IsTakenUp s told (length stations)) last.1 new)
-    ];
-    left = subst (λ (n : ℕ). Holds s (range_with_len n (count - n)) after) (sym (length-append stations (p ∷ []))) (holds_left s (length stations) (range_with_len (length stations + 1) (count - (length stations + 1))) passes after given holds splits);
-    left_seen = seen_left passes after given splits ∙ so.left_seen;
-  }
-    where
-      holds : Holds s (length stations ∷ range_with_len (length stations + 1) (count - (length stations + 1))) passes
-      holds = next_number told old now passes stations so few
+    -- the one that is given next, and the others
+    pub next_holds : Holds s (next.first ∷ next.rest) passes
+    next_holds = subst (λ (l : List ℕ). Holds s l passes) next.is so.own
 
-      new : IsTakenUp s told (length stations) p
+    module _ (rest : List P) (after given : Seats) (longer : List (Post P)) (at : P) (p : Post P) (first : now ≡ at ∷ rest) (splits : Splits passes after given) (stands : p ≡ record { place = at; visit = p.visit; end = no_end }) (visit : p.visit.passes ≡ given) (more : longer ≡ stations ++ p ∷ []) where
+      left : Holds s next.rest after
+      left = holds_left s next.first next.rest passes after given next_holds splits
+
+      dealt : Holds s (next.first ∷ []) given
+      dealt = holds_given s next.first next.rest passes after given next_holds splits
+
+      new : IsTakenUp s told p
       new = record {
-        holds = subst (Holds s (length stations ∷ [])) (sym visit) (holds_given s (length stations) (range_with_len (length stations + 1) (count - (length stations + 1))) passes after given holds splits);
-        seen = ap seen_in visit ∙ seen_given passes after given splits ∙ so.left_seen;
-        fresh = fresh;
+        holds = subst (HoldTheirs s) (sym visit) (hold_theirs s (next.first ∷ []) given dealt);
+        seen = ap seen_in visit ∙ seen_given passes after given splits ∙ so.seen;
+        fresh = ap (λ (x : Post P). x.end) stands;
+      }
+
+      here : IsHeldBy (stations ++ p ∷ []) next.first
+      here = record { place = length stations; post = p; there = get_last stations p; number = subst (λ (l : List ℕ). Contains l next.first) (sym (ap (λ (x : Seats). x.records.numbers) visit ∙ dealt.records.numbers_are)) (0, omega arith, refl) }
+
+      shared : (n : ℕ) → Contains numbers n → Contains after.records.numbers n ⊎ IsHeldBy (stations ++ p ∷ []) n
+      shared n there = ⊎_elim
+          (λ kept. ⊎_elim
+            (λ gone. inr (subst (IsHeldBy (stations ++ p ∷ [])) (only-one n gone) here))
+            (λ stays. inl (subst (λ (l : List ℕ). Contains l n) (sym left.records.numbers_are) stays))
+            (Contains-append_cases (next.first ∷ []) next.rest n (subst (λ (l : List ℕ). Contains l n) next.is kept)))
+          (λ held. inr (held_longer stations (p ∷ []) n held))
+          (so.dealt.each n there)
+        where
+          only-one : (n : ℕ) → Contains (next.first ∷ []) n → next.first ≡ n
+          only-one n (zero, within, is) = is
+          only-one n (suc k, within, is) = absurd (omega (arith, within))
+
+      pub takes_one : TakesUp s told numbers old rest after longer
+      takes_one = subst (TakesUp s told numbers old rest after) (sym more) record {
+        places = so.places ∙ ap (λ (l : List P). map at_place stations ++ l) (first ∙ ap (λ (x : P). x ∷ rest) (sym (ap at_place stands))) ∙ sym (append_assoc (map at_place stations) (at_place p ∷ []) rest) ∙ ap (λ (l : List P). l ++ rest) (sym (map-append at_place stations (p ∷ [])));
+        taken = λ k x there. elim (get_snoc stations p k x there) [
+          | inl before ↦ so.taken k x before
+          | inr last ↦ subst (IsTakenUp s told) last.1 new
+        ];
+        own = hold_theirs s next.rest after left;
+        seen = seen_left passes after given splits ∙ so.seen;
+        count = let count = so.count in let fewer = ap (λ (l : List ℕ). length l) next.is in let left_are = ap (λ (l : List ℕ). length l) left.records.numbers_are in let long = length-append stations (p ∷ []) in omega (arith, count, fewer, left_are, long);
+        dealt = record { each = shared };
       }

@@ -1,2 +1,4 @@
 pub mod Stations
 pub mod Posts
+pub mod Sides
+pub mod Passing

@@ -1,5 +1,5 @@
 -- The doors of a school, served side by side: what each who served one saw of the school, and how serving ended.
-use Rattle.std.specs.Prelude.{◌≡◌, ℕ, ◌+◌, Bool, false, ◌||◌, List, length, drop, slice_get, sum_by, Option, Some}
+use Rattle.std.specs.Prelude.{◌≡◌, ℕ, ◌+◌, false, ◌||◌, List, length, drop, slice_get, sum_by, Option, Some}
 use Rattle.std.specs.List.{list_any}
 use Rattle.qz_doors.specs.declared.door.DoorEnd.{DoorEnd}
 use Rattle.qz_doors.specs.Answers.{Answerer, Asks}
@@ -10,15 +10,14 @@ use Rattle.qz_visit.specs.Visits.{Tellings, Visitor}
 
 -- ---- a station
 
--- a door with its clock, one who asks the school for it, and how serving the door ended
-pub record Post (D C : Type 0) : Type 0 where
-  pub door : D
-  pub clock : C
+-- a place, which is a door with its clock, or a clock alone; one who asks the school there; and how serving the door ended
+pub record Post (P : Type 0) : Type 0 where
+  pub place : P
   pub visit : Visitor
   pub end : DoorEnd
 
-abbrev pub at_door : {D C : Type 0} → Post D C → D × C
-at_door p = (p.door, p.clock)
+abbrev pub at_place : {P : Type 0} → Post P → P
+at_place p = p.place
 
 -- ---- how serving ended
 

@@ -4,6 +4,16 @@ ghost use Rattle.std.specs.Prelude.{◌≡◌, ◌+◌, ◌^◌, ◌<◌, false,
 ghost use Rattle.qz_stations.specs.Stations.{both_ends, no_end};
 
 use qz_doors::DoorEnd;
+use qz_regrading::LoopEnd;
+
+/// How serving a school ended.
+#[derive(Clone, Copy, Debug, PartialEq, Eq)]
+pub struct ServeEnd {
+    /// At all doors: the links taken and those that were short, and whether a door failed.
+    pub doors: DoorEnd,
+    /// What the last pass came to, where somebody regraded.
+    pub last: Option<LoopEnd>,
+}
 
 /// Of a door that wasn't served.
 pub(crate) fn no_end() -> DoorEnd

@@ -1,9 +1,14 @@
-//! The doors of a school, served side by side: a worker at each, on a thread of its own where one can be started.
+//! A school that is served and regraded side by side: a worker at each door, and others that regrade, on a thread of its own each where one can
+//! be started.
 #![tactic(auto)]
 
 mod ends;
+mod last;
 mod serve;
+mod sides;
 mod station;
 mod turns;
 
-pub use serve::serve_doors;
+pub use ends::ServeEnd;
+pub use last::serve_school;
+pub use serve::Crew;

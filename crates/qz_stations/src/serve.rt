@@ -1,131 +1,187 @@
-//! The doors of a school are served side by side.
+//! The doors of a school are served side by side, while others regrade.
 
-ghost use Rattle.std.specs.Prelude.{◌≡◌, ◌^◌, ◌<◌, ◌≤◌, length, MatchResult, vec_capacity};
-ghost use Rattle.qz_turn.specs.Rule.{below};
+ghost use Rattle.std.specs.Prelude.{◌≡◌, ◌+◌, ◌^◌, ◌<◌, ◌≤◌, length, MatchResult, vec_len, vec_capacity};
 ghost use Rattle.qz_visit.specs.Closing.{Closes};
-ghost use Rattle.qz_visit.specs.Holding.{HasSeats, Holds};
 ghost use Rattle.qz_visit.specs.Opening.{told_by};
 ghost use Rattle.qz_visit.specs.Seeing.{FollowAll};
 ghost use Rattle.qz_visit.specs.Visits.{seen_in};
-ghost use Rattle.qz_stations.specs.Posts.{AreServed, HoldsEvery, IsServed};
+ghost use Rattle.qz_stations.specs.Posts.{AreAmong, AreEach, HasRegraded, HoldTheirs, HoldsEvery, IsServed};
 ghost use Rattle.qz_stations.specs.Stations.{ServesBeside, entrance_by, peer_by, serving_by};
 
-use crate::station::Station;
+use crate::sides::at_both;
+use crate::station::{Station, regrade, serve};
 use crate::turns::{leave, take_up};
 use qz_disks::Keeper;
 use qz_doors::DoorEnd;
 use qz_links::{Clock, Door};
+use qz_regrading::Stop;
 use qz_solo::Solo;
 use qz_text::NoMemory;
 use qz_visit::{Passes, School};
 use std::alloc::Global;
 use std::sync::Wait;
-use std::thread;
 use std::thread::Threads;
 
-/// Serves each station on a thread of its own, or one after the other where none can be started.
-fn serve_each<K: Keeper + Send + Sync, W: Threads + Wait + Sync, R: Door + Send, C: Clock + Send>(
+/// Who serves a school.
+#[derive(Clone, Copy)]
+pub struct Crew {
+    /// So many workers, each at a door of its own.
+    pub workers: u8,
+    /// Each takes so many links at most.
+    pub links: u32,
+    /// So many regrade beside them.
+    pub regraders: u8,
+}
+
+/// Serves each station, while those that regrade make passes until all of them are served. Each is on a thread of its own, or where none can be
+/// started one comes after the other, those that regrade last.
+fn serve_all<K: Keeper + Send + Sync, W: Threads + Wait + Sync, R: Door + Send, C: Clock + Send + Drop>(
     rt: &W,
     alloc: Global,
     links: u32,
-    stations: &mut [Station<K, W, R, C>],
+    stations: &mut [Station<K, W, (R, C)>],
+    regraders: &mut [Station<K, W, C>],
 )
 where
     R::Link: Send,
-    ensures { AreServed (serving_by C.tells (peer_by R.Link.left R.Link.holds R.Link.faults)
-        (entrance_by R.left R.returned R.returns R.out R.faults) links)
-        stations.old stations.new }
+    requires { length stations.old < 2 ^ 32 }
+    ensures served { AreEach (IsServed (serving_by C.tells (peer_by R.Link.left R.Link.holds R.Link.faults)
+        (entrance_by R.left R.returned R.returns R.out R.faults) links)) stations.old stations.new }
+    ensures regraded { AreEach HasRegraded regraders.old regraders.new }
 {
-    let threads = stations.len().max(1);
-    thread::for_each_mut(
+    let stop = Stop::new(stations.len() as u32);
+    at_both(
         rt,
         stations,
-        threads,
-        &|_: usize, station: &mut Station<K, W, R, C>|
+        &|_: usize, station: &mut Station<K, W, (R, C)>|
             ensures { IsServed (serving_by C.tells (peer_by R.Link.left R.Link.holds R.Link.faults)
                 (entrance_by R.left R.returned R.returns R.out R.faults) links)
                 station.entry.now station.exit.now }
-        { station.serve(alloc, links) },
+        {
+            serve(station, alloc, links);
+            stop.leave();
+        },
+        regraders,
+        &|_: usize, station: &mut Station<K, W, C>|
+            ensures { HasRegraded station.entry.now station.exit.now }
+        { regrade(station, alloc, &stop) },
     );
 }
 
-/// Serves the first doors over a school, so many, each for passes of its own, which are joined again. Where memory is short no door is served.
-fn serve_first<K: Keeper + Send + Sync, W: Threads + Wait + Sync, R: Door + Send, C: Clock + Send>(
+/// Serves the first doors over a school, so many, each for passes of its own, which are joined again, while the others regrade. Where memory
+/// is short no door is served.
+fn serve_first<K: Keeper + Send + Sync, W: Threads + Wait + Sync, R: Door + Send, C: Clock + Send + Drop>(
+    rt: &W,
+    alloc: Global,
+    school: &School<K>,
+    passes: &mut Passes<K>,
+    crew: Crew,
+    doors: &mut Vec<(R, C)>,
+    regraders: &mut [Station<K, W, C>],
+) -> Result<DoorEnd, NoMemory>
+where
+    R::Link: Send,
+    requires own { HoldTheirs school.now passes.old.seats }
+    requires enough { crew.workers ≤ length passes.old.seats.records.numbers }
+    requires doors { crew.workers ≤ length doors.old.items }
+    ensures own { HoldTheirs school.now passes.new.seats }
+    ensures kept { AreAmong passes.old.seats.records.numbers passes.new.seats.records.numbers }
+    ensures follows { FollowAll (seen_in passes.old.seats) (seen_in passes.new.seats) }
+    ensures served { MatchResult result
+        (ServesBeside (serving_by C.tells (peer_by R.Link.left R.Link.holds R.Link.faults)
+        (entrance_by R.left R.returned R.returns R.out R.faults) crew.links)
+        (seen_in passes.old.seats) (λ seen. FollowAll seen (seen_in passes.new.seats))
+        crew.workers doors.old.items doors.new.items)
+        (λ _. doors.new.items ≡ doors.old.items) }
+    ensures regraded { AreEach HasRegraded regraders.old regraders.new }
+{
+    let count = usize::from(crew.workers);
+    let Ok(mut stations) = Vec::with_capacity(alloc, count) else {
+        return Err(NoMemory);
+    };
+    if let Err(NoMemory) = take_up(rt, alloc, school, passes, count, doors, &mut stations) {
+        leave(school, passes, stations, doors);
+        return Err(NoMemory);
+    }
+    serve_all(rt, alloc, crew.links, &mut stations, regraders);
+    let end = leave(school, passes, stations, doors);
+    Ok(end)
+}
+
+/// The same with passes for those that regrade, which are joined again too.
+fn serve_beside<K: Keeper + Send + Sync, W: Threads + Wait + Sync, R: Door + Send, C: Clock + Send + Drop>(
     rt: &W,
     alloc: Global,
     school: &School<K>,
     mut passes: Passes<K>,
-    count: usize,
-    links: u32,
+    crew: Crew,
     doors: &mut Vec<(R, C)>,
+    mut clocks: Vec<C>,
 ) -> (Passes<K>, Result<DoorEnd, NoMemory>)
 where
     R::Link: Send,
-    requires passes { Holds school.now (below count) passes.seats }
-    requires doors { count ≤ length doors.old.items }
-    requires seats { HasSeats school.now count }
-    requires few { count < 2 ^ 32 }
+    requires every { HoldsEvery school.now passes.seats }
+    requires enough { crew.workers + crew.regraders ≤ length passes.seats.records.numbers }
+    requires doors { crew.workers ≤ length doors.old.items }
+    requires clocks { crew.regraders ≤ length clocks.items }
     ensures every { HoldsEvery school.now result.0.seats }
     ensures follows { FollowAll (seen_in passes.seats) (seen_in result.0.seats) }
     ensures served { MatchResult result.1
         (ServesBeside (serving_by C.tells (peer_by R.Link.left R.Link.holds R.Link.faults)
-        (entrance_by R.left R.returned R.returns R.out R.faults) links)
-        (seen_in passes.seats) (λ seen. FollowAll seen (seen_in result.0.seats)) count doors.old.items doors.new.items)
+        (entrance_by R.left R.returned R.returns R.out R.faults) crew.links)
+        (seen_in passes.seats) (λ seen. FollowAll seen (seen_in result.0.seats))
+        crew.workers doors.old.items doors.new.items)
         (λ _. doors.new.items ≡ doors.old.items) }
 {
+    let count = usize::from(crew.regraders);
     let Ok(mut stations) = Vec::with_capacity(alloc, count) else {
         return (passes, Err(NoMemory));
     };
-    if let Err(NoMemory) = take_up(rt, alloc, school, &mut passes, count, doors, &mut stations) {
-        leave(school, &mut passes, stations, doors);
+    if let Err(NoMemory) =
+        take_up(rt, alloc, school, &mut passes, count, &mut clocks, &mut stations)
+    {
+        leave(school, &mut passes, stations, &mut clocks);
         return (passes, Err(NoMemory));
     }
-    serve_each(rt, alloc, links, &mut stations);
-    let end = leave(school, &mut passes, stations, doors);
-    (passes, Ok(end))
+    let served = serve_first(rt, alloc, school, &mut passes, crew, doors, &mut stations);
+    leave(school, &mut passes, stations, &mut clocks);
+    (passes, served)
 }
 
-/// Serves the first doors over a school, so many, side by side: each on a thread of its own, or where none can be started one after the
-/// other. Each door is served until `links` links were taken there, none comes or it fails.
-///
-/// The school comes back: each of its lists goes on from what it was, and from all that was seen at each door. Where memory is short before
-/// any door is served, the doors stay as they are.
-pub fn serve_doors<
+/// Serves the first doors over a school, one a worker, side by side, while others regrade by clocks of their own. The school comes back: each of
+/// its lists goes on from what it was, and from all that was seen at each door. Where memory is short before any door is served, the doors
+/// stay as they are.
+pub(crate) fn serve_doors<
     K: Keeper + Send + Sync,
     W: Threads + Wait + Sync,
     R: Door + Send,
-    C: Clock + Send,
+    C: Clock + Send + Drop,
 >(
     rt: &W,
     alloc: Global,
     solo: Solo<K>,
-    count: u32,
-    links: u32,
+    crew: Crew,
     doors: &mut Vec<(R, C)>,
+    clocks: Vec<C>,
 ) -> (Solo<K>, Result<DoorEnd, NoMemory>)
 where
     R::Link: Send,
-    requires doors { count ≤ length doors.old.items }
+    requires doors { crew.workers ≤ length doors.old.items }
+    requires clocks { crew.regraders ≤ length clocks.items }
     ensures closes { Closes K.faults (told_by K.faults solo) result.0 }
     ensures served { MatchResult result.1
         (ServesBeside (serving_by C.tells (peer_by R.Link.left R.Link.holds R.Link.faults)
-        (entrance_by R.left R.returned R.returns R.out R.faults) links)
-        (told_by K.faults solo) (λ seen. Closes K.faults seen result.0) count doors.old.items doors.new.items)
+        (entrance_by R.left R.returned R.returns R.out R.faults) crew.links)
+        (told_by K.faults solo) (λ seen. Closes K.faults seen result.0)
+        crew.workers doors.old.items doors.new.items)
         (λ _. doors.new.items ≡ doors.old.items) }
 {
     // There are as many shards as it was founded with.
     let _records = solo.len();
-    match School::open(alloc, solo, count) {
+    let seats = u32::from(crew.workers) + u32::from(crew.regraders);
+    match School::open(alloc, solo, seats) {
         Ok((school, passes)) => {
-            let (passes, served) = serve_first(
-                rt,
-                alloc,
-                &school,
-                passes,
-                count as usize,
-                links,
-                doors,
-            );
+            let (passes, served) = serve_beside(rt, alloc, &school, passes, crew, doors, clocks);
             (school.close(passes), served)
         }
         Err((solo, NoMemory)) => (solo, Err(NoMemory)),

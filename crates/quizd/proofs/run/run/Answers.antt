@@ -3,49 +3,49 @@ use Rattle.std.proofs.Common.{rules, ◌≡◌, None, Some, inl, inr, refl}
 use Rattle.std.proofs.KnownBytes.{Keeps-refl}
 use Rattle.qz_command.specs.declared.command.Command.TheVariants as command
 use Rattle.qz_ending.specs.declared.stop.Stop.TheVariants as stop
-use Rattle.quizd.specs.Commands.{built_command}
+use Rattle.qz_command.specs.Commands.{command_of}
 use Rattle.quizd.proofs.FolderLemmas.{folder_none_out}
 use Rattle.quizd.proofs.run.run.Goals as goal
 
 pub returns-in-Ok-Found-clause-ended : goal.returns-in-Ok-Found-clause-ended
 returns-in-Ok-Found-clause-ended g c =
-    let is : built_command c.args.words.now ≡ Some (command.Found c.in-Ok-Found.folder c.in-Ok-Found.shards c.in-Ok-Found.token) = search rules in
+    let is : command_of c.args.words.now ≡ Some (command.Found c.in-Ok-Found.folder c.in-Ok-Found.shards c.in-Ok-Found.token) = search rules in
     let e = rw c.as_bytes.ensures at c.found_folder.ensures.ended in
     record { stop = e.stop; status_is = e.status_is; cause = inl (rw is (Keeps-refl _, refl, e.cause)) }
 
 pub returns-in-Ok-Script-clause-ended : goal.returns-in-Ok-Script-clause-ended
 returns-in-Ok-Script-clause-ended g c =
-    let is : built_command c.args.words.now ≡ Some (command.Script c.in-Ok-Script.folder) = search rules in
+    let is : command_of c.args.words.now ≡ Some (command.Script c.in-Ok-Script.folder) = search rules in
     let e = c.run_script.ensures.ended in
     record { stop = e.stop; status_is = e.status_is; cause = inl (rw is (refl, e.cause)) }
 
 pub returns-in-Ok-Script-clause-complete : goal.returns-in-Ok-Script-clause-complete
 returns-in-Ok-Script-clause-complete g c =
-    let is : built_command c.args.words.now ≡ Some (command.Script c.in-Ok-Script.folder) = search rules in
+    let is : command_of c.args.words.now ≡ Some (command.Script c.in-Ok-Script.folder) = search rules in
     rw is c.run_script.ensures.complete
 
 pub returns-in-Ok-Bulk-clause-ended : goal.returns-in-Ok-Bulk-clause-ended
 returns-in-Ok-Bulk-clause-ended g c =
-    let is : built_command c.args.words.now ≡ Some (command.Bulk c.in-Ok-Bulk.count) = search rules in
+    let is : command_of c.args.words.now ≡ Some (command.Bulk c.in-Ok-Bulk.count) = search rules in
     let e = c.bulk.ensures.ended in
     record { stop = e.stop; status_is = e.status_is; cause = inl (rw is ((Keeps-refl _, e.cause), (refl, refl))) }
 
 pub returns-in-Ok-Bulk-clause-complete : goal.returns-in-Ok-Bulk-clause-complete
 returns-in-Ok-Bulk-clause-complete g c =
-    let is : built_command c.args.words.now ≡ Some (command.Bulk c.in-Ok-Bulk.count) = search rules in
+    let is : command_of c.args.words.now ≡ Some (command.Bulk c.in-Ok-Bulk.count) = search rules in
     rw is c.bulk.ensures.complete
 
 pub returns-in-Ok-Serve-clause-ended : goal.returns-in-Ok-Serve-clause-ended
 returns-in-Ok-Serve-clause-ended g c =
     let s = c.in-Ok-Serve in
-    let is : built_command c.args.words.now ≡ Some (command.Serve s.folder s._port s.workers s._regraders s.links) = search rules in
+    let is : command_of c.args.words.now ≡ Some (command.Serve s.folder s._port s.workers s.regraders s.links) = search rules in
     let e = rw c.as_bytes-in-Ok-Serve.ensures at c.serve_folder.ensures.ended in
     record { stop = e.stop; status_is = e.status_is; cause = inl (rw is (Keeps-refl _, e.cause)) }
 
 pub returns-in-Ok-Serve-clause-complete : goal.returns-in-Ok-Serve-clause-complete
 returns-in-Ok-Serve-clause-complete g c =
     let s = c.in-Ok-Serve in
-    let is : built_command c.args.words.now ≡ Some (command.Serve s.folder s._port s.workers s._regraders s.links) = search rules in
+    let is : command_of c.args.words.now ≡ Some (command.Serve s.folder s._port s.workers s.regraders s.links) = search rules in
     rw is c.serve_folder.ensures.complete
 
 pub returns-in-Ok-Serve-clause-none_out : goal.returns-in-Ok-Serve-clause-none_out
@@ -55,11 +55,11 @@ returns-in-Ok-Serve-clause-none_out g c =
 
 pub returns-in-Err-BadWords-clause-ended : goal.returns-in-Err-BadWords-clause-ended
 returns-in-Err-BadWords-clause-ended g c =
-    let other : built_command c.args.words.now ≡ None = search rules in
+    let other : command_of c.args.words.now ≡ None = search rules in
     record { stop = Some c.show_usage.result; status_is = c.status.ensures; cause = inl (rw other (record { unread = Keeps-refl _; written = c.show_usage.ensures }, (refl, refl))) }
 
-pub returns-in-Err-Memory-clause-ended : goal.returns-in-Err-Memory-clause-ended
-returns-in-Err-Memory-clause-ended g c = record {
+pub returns-clause-ended : goal.returns-clause-ended
+returns-clause-ended g c = record {
   stop = Some stop.Memory;
   status_is = c.status-in-Err-Memory.ensures;
   cause = inr (record { memory = refl; stays = (refl, refl); unread = Keeps-refl _; unwritten = Keeps-refl _ });

@@ -1,8 +1,8 @@
-use Rattle.std.proofs.Common.{◌≡◌, ◌++◌, ◌∷◌, [], length, length-append, ap, ◌∙◌, subst, arith}
+use Rattle.std.proofs.Common.{◌≡◌, ◌∷◌, [], length, length-append, ap, ◌∙◌, subst, arith}
 use Rattle.std.proofs.lemmas.List.{nil_from_length}
 use Rattle.qz_stations.specs.Stations.{both_ends}
 use Rattle.qz_stations.proofs.Leaving.{LeavesOn, last_manned, leaves_none, leaves_one, left_passes, may_be_short, may_take, popped}
-use Rattle.qz_visit.specs.Closing.{ArePasses, JoinsAll}
+use Rattle.qz_visit.specs.Closing.{JoinsAll}
 use Rattle.qz_visit.proofs.Holding.{passes_held}
 use Rattle.qz_stations.proofs.turns.leave.Goals as goal
 
@@ -38,11 +38,11 @@ loop-station-preserved g c =
     let one = length-append c.pop.new.self.items (c.in-Some.station ∷ []) in
     let more = c.in-Ok.ensures.len in
     let kept = c.in-Ok.ensures.capacity in
-    (leaves_one _ _ _ _ _ _ _ _ _ so _ _ _ _ joins c.into_parts-at.ensures.door c.in-Ok.ensures.items sum, omega (arith, room, long, one, more, kept))
+    (leaves_one _ _ _ _ _ _ _ _ _ so _ _ _ _ joins c.into_parts-at.ensures.place c.in-Ok.ensures.items sum, omega (arith, room, long, one, more, kept))
 
 pub returns-clause-passes : goal.returns-clause-passes
 returns-clause-passes g c =
     let none = c.in_default.ensures.cases in
     let none_left = none.0 in
     let empty : c.loop-station.stations.items ≡ [] = nil_from_length c.loop-station.stations.items (omega (arith, none_left)) in
-    left_passes _ _ _ _ _ _ _ (subst (λ l. LeavesOn c.args.school.now c.args.passes.now.seats c.loop-station.passes.seats c.args.stations.items l c.args.doors.now.items c.loop-station.doors.items c.loop-station.end) empty c.loop-station.invariant.0)
+    left_passes _ _ _ _ _ _ _ (subst (λ l. LeavesOn c.args.school.now c.args.passes.now.seats c.loop-station.passes.seats c.args.stations.items l c.args.places.now.items c.loop-station.places.items c.loop-station.end) empty c.loop-station.invariant.0)

@@ -1,7 +1,8 @@
-use Rattle.std.proofs.Common.{◌≡◌, ◌<◌, ◌++◌, ◌∷◌, [], length, length-append, map, ap, sym, ◌∙◌, arith}
+use Rattle.std.proofs.Common.{◌<◌, ◌∷◌, [], length, length-append, map, ap, sym, ◌∙◌, arith}
 use Rattle.std.proofs.lemmas.List.{length-map}
-use Rattle.qz_stations.specs.Stations.{at_door}
-use Rattle.qz_stations.proofs.TakingUp.{first_of_some, next_number, takes_one}
+use Rattle.qz_stations.specs.Stations.{at_place}
+use Rattle.qz_stations.proofs.Lists.{first_of_some}
+use Rattle.qz_stations.proofs.TakingUp.{next_holds, takes_one}
 use Rattle.qz_visit.proofs.Holding.{holds_given, of_held}
 use Rattle.qz_stations.proofs.turns.take_up.Goals as goal
 
@@ -10,8 +11,8 @@ new-requires g c =
     let i = c.loop.invariant in
     let long = i.1 in
     let test = c.loop-test.true in
-    let few : length c.loop.stations.items < c.args.count = omega (arith, long, test) in
-    of_held _ _ _ _ (holds_given _ _ _ _ _ _ (next_number _ _ _ _ _ _ _ i.0 few) c.in_ok-given.ensures.given)
+    let enough = c.requires.enough in
+    of_held _ _ _ _ (holds_given _ _ _ _ _ _ (next_holds _ _ _ _ _ _ _ i.0 (omega (arith, long, test, enough))) c.in_ok-given.ensures.given)
 
 pub loop-preserved : goal.loop-preserved
 loop-preserved g c =
@@ -20,16 +21,18 @@ loop-preserved g c =
     let long = i.1 in
     let test = c.loop-test.true in
     let few : length c.loop.stations.items < c.args.count = omega (arith, long, test) in
-    let now = c.loop.doors.items in
+    let enough_numbers = c.requires.enough in
+    let now = c.loop.places.items in
     let at = c.remove-at.result in
-    let whole = ap (λ l. length l) so.doors in
-    let both = length-append (map at_door c.loop.stations.items) now in
-    let many = length-map c.loop.stations.items at_door in
-    let enough = c.requires.doors in
+    let whole = ap (λ l. length l) so.places in
+    let both = length-append (map at_place c.loop.stations.items) now in
+    let many = length-map c.loop.stations.items at_place in
+    let enough = c.requires.places in
     let some : 0 < length now = omega (arith, whole, both, many, enough, few) in
     let next = first_of_some now at some c.remove-at.ensures.value ∙ ap (λ l. at ∷ l) (sym c.remove-at.ensures.by_index.2) in
     let made = c.new-in-loop.ensures in
     let visit = ap (λ p. p.visit.passes) made ∙ ap (λ v. v.passes) c.new.ensures in
+    let stands = made ∙ (λ i. record { place = at; visit = (sym (ap (λ p. p.visit) made)) i; end = Rattle.qz_stations.specs.Stations.no_end }) in
     let pushed = ap (λ l. length l) c.push_reserved.ensures.items in
     let one = length-append c.loop.stations.items (c.new-in-loop.result ∷ []) in
     let room = i.2 in
@@ -37,7 +40,7 @@ loop-preserved g c =
     let kept = c.push_reserved.ensures.capacity in
     let fewer = c.remove-at.ensures.len in
     let same = c.remove-at.ensures.capacity in (
-      takes_one _ _ _ _ _ _ _ _ _ _ _ at c.new-in-loop.result so few next c.in_ok-given.ensures.given (ap at_door made) visit (ap (λ p. p.end) made) c.push_reserved.ensures.items,
+      takes_one _ _ _ _ _ _ _ so (omega (arith, few, enough_numbers)) _ _ _ _ at c.new-in-loop.result next c.in_ok-given.ensures.given stands visit c.push_reserved.ensures.items,
       omega (arith, pushed, one, long),
       omega (arith, room, kept),
       omega (arith, pushed, one, place, fewer, same),

@@ -5,7 +5,7 @@ use Rattle.qz_stations.specs.Posts.{TakesUp}
 use Rattle.qz_stations.proofs.turns.take_up.Given as goal
 
 abbrev pub invariant-loop : goal.invariant-loop
-invariant-loop g l = TakesUp l.school l.count (seen_in l.fn.passes.seats) l.fn.doors.items l.doors.items l.passes.seats l.stations.items
+invariant-loop g l = TakesUp l.school (seen_in l.fn.passes.seats) l.fn.passes.seats.records.numbers l.fn.places.items l.places.items l.passes.seats l.stations.items
     × (length l.stations.items ≡ l.counter)
     × (l.count ≤ vec_capacity l.stations)
-    × (length l.stations.items + vec_len l.doors ≤ vec_capacity l.doors)
+    × (length l.stations.items + vec_len l.places ≤ vec_capacity l.places)
