@@ -50,7 +50,7 @@ use Rattle.qz_visit.specs.Opening.{tales, told_by}
 use Rattle.qz_visit.specs.Visits.{Tellings}
 use Rattle.quizd.specs.Commands.{NoneOut}
 use Rattle.quizd.specs.Folders.{Disks, DoorsFolderEnds, FolderEnds, IsGivenBack, IsStanding, NoneServed, ScriptFolderEnds, ServedAlone, ServedDoors, ServedFolder, ServedTogether, ServesDoors, ServesFolder, Unserved, disk_faults, journal_faults, seen_of, sunk}
-use Rattle.quizd.specs.Retries.{AnswersOnce, Seen}
+use Rattle.quizd.specs.Retries.{AnswersOnce}
 use Rattle.quizd.specs.Scripts.{HasRisenBy, ServeEnds}
 use Rattle.quizd.specs.Serving.{NoDoorFails, SaysOf, SaysServed, is_last_short}
 use Rattle.quizd.proofs.ScriptLemmas.{serves_all}

@@ -1,5 +1,5 @@
 -- A school in memory takes what is read, answers once, and no keeper of its lists fails.
-use Rattle.std.proofs.Common.{◌≡◌, ◌≤◌, ℕ, List, [], None, Some, Option, IfSome, length, arith}
+use Rattle.std.proofs.Common.{◌≤◌, ℕ, List, [], None, Some, Option, IfSome, length, arith}
 use Rattle.std.specs.Prelude.{unwrap_or}
 use Rattle.qz_outside.specs.Causes.{HasRisen}
 use Rattle.qz_serial.specs.Once.{AskedOnce}

@@ -14,7 +14,7 @@ use Rattle.quizd.specs.Bulk.{BulkEnds}
 use Rattle.quizd.specs.Solo.{first_lists}
 use Rattle.qz_replay.specs.ReplayEndings.{ReplayEnds, ReplaysAll}
 use Rattle.qz_disks.specs.Shelves.{Files, Place}
-use Rattle.qz_found.specs.FoundEndings.{FoundEnds, FoundsAll, Shelved, Sunk}
+use Rattle.qz_found.specs.FoundEndings.{FoundEnds, FoundsAll, Shelved}
 use Rattle.quizd.specs.Folders.{Disks, DoorsFolderEnds, ScriptFolderEnds, ServesDoors, ServesFolder, sunk}
 use Rattle.qz_stations.specs.Stations.{Serving}
 use Rattle.quizd.specs.Scripts.{ScriptEnds, ServesAll, script_limit}

@@ -101,7 +101,7 @@ impl<'a> HeldShelf<'a> {
 
     /// The files.
     pub(crate) fn into_shelf(self) -> MemoryShelf
-        ensures { result ≡ self.shelf }
+        ensures { result ≡ self.entry.shelf }
     {
         self.shelf
     }

@@ -1,4 +1,4 @@
-use Rattle.std.proofs.Common.{◌≡◌, Some, refl, arith}
+use Rattle.std.proofs.Common.{Some, refl, arith}
 use Rattle.qz_disks.specs.Shelves.{place}
 use Rattle.quizd.proofs.FolderLemmas.{doors_as_many, given_back, out_as_many, said_of, school_count, school_later, served_ends, serves_doors, unloaded_ends, unserved_doors}
 use Rattle.quizd.proofs.folders.serve_folder.Goals as goal
