@@ -103,7 +103,16 @@ where
     let mut source = MemorySource::new(Bytes::of(alloc, b"")?, Listed::empty(alloc), 1);
     let mut sink = MemorySink::new(alloc, 1 << 10, Listed::empty(alloc), 64)?;
     let clocks = still_clocks(alloc)?;
-    let status = status_at(rt, alloc, words, &mut source, &mut sink, doors, clocks, shelf);
+    let status = status_at(
+        rt,
+        alloc,
+        words,
+        &mut source,
+        &mut sink,
+        doors,
+        clocks,
+        shelf,
+    );
     Ok((status, sink.bytes() == b"served 2\n".as_slice()))
 }
 

@@ -67,7 +67,13 @@ pub fn script_folder<S: Source, O: Sink, F: Shelf>(
 /// taken then. With status 8 memory was wanting, for the school, for a link, which has ended then, for the last pass of the regraders, or for the
 /// line; with status 10 a door failed, and the others were served. Afterwards each file is given back, and stands for its list. With status 0
 /// and at least one regrader each job is done in each shard then, unless a file failed meanwhile.
-pub fn serve_folder<W: Threads + Wait + Sync, O: Sink, R: Door + Send, C: Clock + Send + Drop, F: Shelf>(
+pub fn serve_folder<
+    W: Threads + Wait + Sync,
+    O: Sink,
+    R: Door + Send,
+    C: Clock + Send + Drop,
+    F: Shelf,
+>(
     rt: &W,
     alloc: Global,
     folder: &[u8],

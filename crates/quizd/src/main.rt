@@ -181,7 +181,16 @@ where
     let mut source = StdSource::new(host.reader());
     let mut sink = StdSink::new(io::writer(&host));
     let mut shelf = FolderShelf::new(alloc, &host);
-    run(rt, alloc, words, &mut source, &mut sink, doors, clocks, &mut shelf)
+    run(
+        rt,
+        alloc,
+        words,
+        &mut source,
+        &mut sink,
+        doors,
+        clocks,
+        &mut shelf,
+    )
 }
 
 /// The same where nobody comes to any door.

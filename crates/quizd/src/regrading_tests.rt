@@ -104,7 +104,16 @@ where
     let mut sink = MemorySink::new(alloc, 1 << 10, Listed::empty(alloc), 64)?;
     let mut doors = doors_of(alloc, link)?;
     let clocks = clocks_of(alloc)?;
-    let status = status_at(rt, alloc, &words, &mut source, &mut sink, &mut doors, clocks, shelf);
+    let status = status_at(
+        rt,
+        alloc,
+        &words,
+        &mut source,
+        &mut sink,
+        &mut doors,
+        clocks,
+        shelf,
+    );
     Ok((status, is_answered(&doors[0].0)))
 }
 

@@ -34,7 +34,14 @@ const USAGE: &str =
 /// folder's school is loaded, and given back with all that was accepted; for a script `memory` stands for a school in memory, just founded.
 /// Words that are no command are status 2: nothing is read, and the usage line is written. Where the sink fails under the usage line the status
 /// is 5. Where memory is wanting for the words it is 8, and nothing is done.
-pub fn run<W: Threads + Wait + Sync, S: Source, O: Sink, R: Door + Send, C: Clock + Send + Drop, F: Shelf>(
+pub fn run<
+    W: Threads + Wait + Sync,
+    S: Source,
+    O: Sink,
+    R: Door + Send,
+    C: Clock + Send + Drop,
+    F: Shelf,
+>(
     rt: &W,
     alloc: Global,
     words: &[Text],
@@ -94,7 +101,16 @@ where
                 links,
                 regraders,
             };
-            serve_folder(rt, alloc, folder.as_bytes(), crew, sink, doors, clocks, shelf)
+            serve_folder(
+                rt,
+                alloc,
+                folder.as_bytes(),
+                crew,
+                sink,
+                doors,
+                clocks,
+                shelf,
+            )
         }
         Ok(Command::Bulk { count }) => bulk(alloc, count, sink),
         Err(WordsFault::BadWords) => show_usage(sink).status(),

@@ -83,7 +83,11 @@ fn a_school_with_no_links_is_served(rt: HostRuntime) -> Result<(), Fail> {
         shown(&rt, alloc, &["found", "school", "2", "root"], 0, &mut shelf)?;
         let words = ["serve", "school", "8080", workers, regraders, "1"];
         let (status, written) = shown(&rt, alloc, &words, 0, &mut shelf)?;
-        assert_eq!(rt; (status, written.as_str()), (0, "served 0\n"), "{workers} {regraders}");
+        assert_eq!(rt;
+            (status, written.as_str()),
+            (0, "served 0\n"),
+            "{workers} {regraders}"
+        );
     }
     Ok(())
 }

@@ -69,9 +69,9 @@ module _ {P : Type 0} (s : Locks) where
       shared : (n : ℕ) → Contains numbers n → Contains after.records.numbers n ⊎ IsHeldBy (stations ++ p ∷ []) n
       shared n there = ⊎_elim
           (λ kept. ⊎_elim
-            (λ gone. inr (subst (IsHeldBy (stations ++ p ∷ [])) (only-one n gone) here))
-            (λ stays. inl (subst (λ (l : List ℕ). Contains l n) (sym left.records.numbers_are) stays))
-            (Contains-append_cases (next.first ∷ []) next.rest n (subst (λ (l : List ℕ). Contains l n) next.is kept)))
+          (λ gone. inr (subst (IsHeldBy (stations ++ p ∷ [])) (only-one n gone) here))
+          (λ stays. inl (subst (λ (l : List ℕ). Contains l n) (sym left.records.numbers_are) stays))
+          (Contains-append_cases (next.first ∷ []) next.rest n (subst (λ (l : List ℕ). Contains l n) next.is kept)))
           (λ held. inr (held_longer stations (p ∷ []) n held))
           (so.dealt.each n there)
         where

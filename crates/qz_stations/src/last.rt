@@ -57,7 +57,8 @@ where
     requires doors { crew.workers ≤ length doors.old.items }
     requires clocks { crew.regraders ≤ length clocks.items }
     ensures { MatchResult result.1
-        (ServesSchool K.sound K.faults (serving_by C.tells (peer_by R.Link.left R.Link.holds R.Link.faults)
+        (ServesSchool K.sound K.faults
+        (serving_by C.tells (peer_by R.Link.left R.Link.holds R.Link.faults)
         (entrance_by R.left R.returned R.returns R.out R.faults) crew.links)
         crew.workers crew.regraders solo result.0 doors.old.items doors.new.items)
         (λ _. ServesNone K.faults solo result.0 doors.old.items doors.new.items) }

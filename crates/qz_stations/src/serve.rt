@@ -35,7 +35,12 @@ pub struct Crew {
 
 /// Serves each station, while those that regrade make passes until all of them are served. Each is on a thread of its own, or where none can be
 /// started one comes after the other, those that regrade last.
-fn serve_all<K: Keeper + Send + Sync, W: Threads + Wait + Sync, R: Door + Send, C: Clock + Send + Drop>(
+fn serve_all<
+    K: Keeper + Send + Sync,
+    W: Threads + Wait + Sync,
+    R: Door + Send,
+    C: Clock + Send + Drop,
+>(
     rt: &W,
     alloc: Global,
     links: u32,
@@ -45,7 +50,8 @@ fn serve_all<K: Keeper + Send + Sync, W: Threads + Wait + Sync, R: Door + Send, 
 where
     R::Link: Send,
     requires { length stations.old < 2 ^ 32 }
-    ensures served { AreEach (IsServed (serving_by C.tells (peer_by R.Link.left R.Link.holds R.Link.faults)
+    ensures served { AreEach (IsServed
+        (serving_by C.tells (peer_by R.Link.left R.Link.holds R.Link.faults)
         (entrance_by R.left R.returned R.returns R.out R.faults) links)) stations.old stations.new }
     ensures regraded { AreEach HasRegraded regraders.old regraders.new }
 {
@@ -70,7 +76,12 @@ where
 
 /// Serves the first doors over a school, so many, each for passes of its own, which are joined again, while the others regrade. Where memory
 /// is short no door is served.
-fn serve_first<K: Keeper + Send + Sync, W: Threads + Wait + Sync, R: Door + Send, C: Clock + Send + Drop>(
+fn serve_first<
+    K: Keeper + Send + Sync,
+    W: Threads + Wait + Sync,
+    R: Door + Send,
+    C: Clock + Send + Drop,
+>(
     rt: &W,
     alloc: Global,
     school: &School<K>,
@@ -109,7 +120,12 @@ where
 }
 
 /// The same with passes for those that regrade, which are joined again too.
-fn serve_beside<K: Keeper + Send + Sync, W: Threads + Wait + Sync, R: Door + Send, C: Clock + Send + Drop>(
+fn serve_beside<
+    K: Keeper + Send + Sync,
+    W: Threads + Wait + Sync,
+    R: Door + Send,
+    C: Clock + Send + Drop,
+>(
     rt: &W,
     alloc: Global,
     school: &School<K>,
@@ -137,9 +153,15 @@ where
     let Ok(mut stations) = Vec::with_capacity(alloc, count) else {
         return (passes, Err(NoMemory));
     };
-    if let Err(NoMemory) =
-        take_up(rt, alloc, school, &mut passes, count, &mut clocks, &mut stations)
-    {
+    if let Err(NoMemory) = take_up(
+        rt,
+        alloc,
+        school,
+        &mut passes,
+        count,
+        &mut clocks,
+        &mut stations,
+    ) {
         leave(school, &mut passes, stations, &mut clocks);
         return (passes, Err(NoMemory));
     }

@@ -28,24 +28,20 @@ pub(crate) fn at_both<
     U: Send,
     F: Fn(usize, &mut T) + Sync,
     G: Fn(usize, &mut U) + Sync,
->(
-    rt: &W,
-    items: &mut [T],
-    each: &F,
-    others: &mut [U],
-    every: &G,
-)
+>(rt: &W, items: &mut [T], each: &F, others: &mut [U], every: &G)
     requires items { AcceptsEach F.Fn each.now items.old }
     requires others { AcceptsEach G.Fn every.now others.old }
     ensures items { LeaveEach F.Fn each.now items.old items.new }
     ensures others { LeaveEach G.Fn every.now others.old others.new }
 {
     let mut first = ||
-        requires { IsSync W.row × IsSync F.row × IsSend T.row × AcceptsEach F.Fn each.now items.now }
+        requires { IsSync W.row × IsSync F.row × IsSend T.row
+            × AcceptsEach F.Fn each.now items.now }
         ensures { LeaveEach F.Fn each.entry.now items.entry.now items.exit.now }
     { at_each(rt, items, each) };
     let mut second = ||
-        requires { IsSync W.row × IsSync G.row × IsSend U.row × AcceptsEach G.Fn every.now others.now }
+        requires { IsSync W.row × IsSync G.row × IsSend U.row
+            × AcceptsEach G.Fn every.now others.now }
         ensures { LeaveEach G.Fn every.entry.now others.entry.now others.exit.now }
     { at_each(rt, others, every) };
     thread::join_mut(rt, &mut second, &mut first);
