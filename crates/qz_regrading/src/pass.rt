@@ -13,6 +13,7 @@ use crate::{LoopEnd, Stop};
 use qz_links::Clock;
 use qz_terms::Desk;
 use std::alloc::Global;
+use std::sync::Wait;
 
 /// One pass: works on each job in each shard, settles the attempts whose time is over, and goes on with the jobs that there are then.
 #[tactic(auto, using(crate::proofs::Following::leading))]
@@ -35,7 +36,8 @@ fn pass<D: Desk, C: Clock>(alloc: Global, desk: &mut D, clock: &mut C) -> Met
     met
 }
 
-/// Makes passes until `stop` is set, then one more, and tells what that last one came to.
+/// Makes passes until `stop` is set, then one more, and tells what that last one came to. Between two passes it rests, for 50 milliseconds at
+/// most, so that one who finds nothing to do keeps nobody off the desk.
 ///
 /// The desk takes whatever a worker may ask, at each moment that is allowed, and tells workers what they need; others may ask it in between.
 /// Each request is asked at the moment that the clock tells, or at 4,102,444,799 where it tells a later one.
@@ -51,7 +53,8 @@ fn pass<D: Desk, C: Clock>(alloc: Global, desk: &mut D, clock: &mut C) -> Met
 ///
 /// Nothing but requests changes the desk. The call returns no sooner than `stop` is set.
 #[tactic(auto, using(crate::proofs::Following::leading))]
-pub fn regrade_loop<D: Desk, C: Clock>(
+pub fn regrade_loop<W: Wait, D: Desk, C: Clock>(
+    rt: &W,
     alloc: Global,
     desk: &mut D,
     clock: &mut C,
@@ -67,6 +70,7 @@ pub fn regrade_loop<D: Desk, C: Clock>(
             break;
         }
         pass(alloc, desk, clock);
+        stop.rest(rt);
     }
     pass(alloc, desk, clock).end()
 }

@@ -1,6 +1,11 @@
 //! When workers stop.
 
+use std::sync::Wait;
 use std::sync::atomic::{AtomicU64, Ordering};
+use std::time::Duration;
+
+/// How long a worker rests between two passes at most, in milliseconds.
+const REST: u64 = 50;
 
 /// How many of the workers have left: a word that threads may share. It is set when all of them have.
 #[derive(Drop)]
@@ -18,9 +23,19 @@ impl Stop {
         }
     }
 
-    /// One worker more has left.
+    /// One worker more has left. Whoever rests goes on.
     pub fn leave(&self) {
         self.left.fetch_add(1, Ordering::SeqCst);
+        self.left.wake_all();
+    }
+
+    /// Waits until one worker more leaves, 50 milliseconds at most, unless all have left.
+    pub fn rest<W: Wait>(&self, rt: &W) {
+        let left = self.left.load(Ordering::SeqCst);
+        if left < u64::from(self.workers) {
+            let seen = (left & 0xffff_ffff) as u32;
+            self.left.park_timeout(rt, seen, Duration::from_millis(REST));
+        }
     }
 
     /// Whether as many have left as there are.

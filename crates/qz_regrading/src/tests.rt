@@ -12,6 +12,7 @@ use qz_links::MemoryClock;
 use qz_terms::{Ask, Desk, Done, Reply, Request};
 use qz_text::{Listed, NoMemory};
 use std::alloc::Global;
+use std::sync::Wait;
 use std::test::Fail;
 
 /// A school with one job, which is done in both of its shards, and an attempt that goes on in each. So many steps of work come first. The
@@ -117,7 +118,8 @@ impl Desk for Scripted<'_> {
 }
 
 /// How the loop of a worker ends over this school, and how often it asks.
-fn looped(
+fn looped<W: Wait>(
+    rt: &W,
     alloc: Global,
     steps: u64,
     faulty: &[u64],
@@ -137,7 +139,7 @@ fn looped(
         asked: 0,
         faults: 0,
     };
-    let end = regrade_loop(alloc, &mut desk, &mut clock, &stop);
+    let end = regrade_loop(rt, alloc, &mut desk, &mut clock, &stop);
     Ok((end, desk.asked))
 }
 
@@ -165,7 +167,7 @@ fn passes_end(rt: HostRuntime) -> Result<(), Fail> {
         (0, [20, 0], 26, LoopEnd::Left { faults: 1 }, 26),
     ];
     for (steps, faulty, short, end, asked) in rows {
-        assert!(rt; looped(alloc, steps, &faulty, &[short], 1)? == (end, asked));
+        assert!(rt; looped(&rt, alloc, steps, &faulty, &[short], 1)? == (end, asked));
     }
     Ok(())
 }
@@ -189,7 +191,7 @@ fn passes_go_on_until_the_worker_leaves(rt: HostRuntime) -> Result<(), Fail> {
     let alloc = rt.alloc();
     // The ask at which the worker leaves, and how many asks there are then: that pass ends, and one more is made.
     for (leaves, asked) in [(1, 26), (13, 26), (14, 39), (27, 52)] {
-        assert!(rt; looped(alloc, 0, &[], &[], leaves)? == (LoopEnd::Done, asked));
+        assert!(rt; looped(&rt, alloc, 0, &[], &[], leaves)? == (LoopEnd::Done, asked));
     }
     Ok(())
 }

@@ -16,7 +16,8 @@ use std::sync::Wait;
 use std::thread::Threads;
 
 /// Makes the last pass over a school that nobody else asks, by the clock of the first door.
-fn regrade_last<K: Keeper, R: Door, C: Clock>(
+fn regrade_last<K: Keeper, W: Wait, R: Door, C: Clock>(
+    rt: &W,
     alloc: Global,
     solo: &mut Solo<K>,
     doors: &mut Vec<(R, C)>,
@@ -25,7 +26,7 @@ fn regrade_last<K: Keeper, R: Door, C: Clock>(
     ensures { IsPassed K.sound K.faults solo.old solo.new doors.old.items doors.new.items result }
 {
     let stop = Stop::new(0);
-    regrade_loop(alloc, solo, &mut doors[0].1, &stop)
+    regrade_loop(rt, alloc, solo, &mut doors[0].1, &stop)
 }
 
 /// Serves the first doors over a school, one a worker: side by side, each on a thread of its own, or where none can be started one after the
@@ -72,6 +73,6 @@ where
         let last = None;
         return (solo, Ok(ServeEnd { doors: end, last }));
     }
-    let last = Some(regrade_last(alloc, &mut solo, doors));
+    let last = Some(regrade_last(rt, alloc, &mut solo, doors));
     (solo, Ok(ServeEnd { doors: end, last }))
 }

@@ -18,6 +18,7 @@ use std::sync::Wait;
 /// A place, one who asks the school there, and how serving ended. A worker's place is a door with its clock, that of one who regrades is a clock.
 #[derive(Drop)]
 pub(crate) struct Station<'s, 'r, K: Keeper, W: Wait, P> {
+    rt: &'r W,
     place: P,
     visit: Visit<'s, 'r, K, W>,
     end: DoorEnd,
@@ -33,10 +34,15 @@ impl<'s, 'r, K: Keeper, W: Wait, P> Model for Station<'s, 'r, K, W, P> {
 
 impl<'s, 'r, K: Keeper, W: Wait, P> Station<'s, 'r, K, W, P> {
     /// A station at a place where nobody was served yet.
-    pub(crate) fn new(place: P, visit: Visit<'s, 'r, K, W>) -> Station<'s, 'r, K, W, P>
+    pub(crate) fn new(
+        rt: &'r W,
+        place: P,
+        visit: Visit<'s, 'r, K, W>,
+    ) -> Station<'s, 'r, K, W, P>
         ensures { result ≡ record { place = place; visit = visit.entry; end = no_end } }
     {
         Station {
+            rt,
             place,
             visit,
             end: no_end(),
@@ -49,7 +55,12 @@ impl<'s, 'r, K: Keeper, W: Wait, P> Station<'s, 'r, K, W, P> {
         ensures passes { result.1.seats ≡ self.entry.visit.passes }
         ensures end { result.2 ≡ self.entry.end }
     {
-        let Station { place, visit, end } = self;
+        let Station {
+            rt: _,
+            place,
+            visit,
+            end,
+        } = self;
         (place, visit.into_passes(), end)
     }
 }
@@ -75,5 +86,11 @@ pub(crate) fn regrade<K: Keeper, W: Wait, C: Clock>(
 )
     ensures { HasRegraded station.old station.new }
 {
-    regrade_loop(alloc, &mut station.visit, &mut station.place, stop);
+    regrade_loop(
+        station.rt,
+        alloc,
+        &mut station.visit,
+        &mut station.place,
+        stop,
+    );
 }

@@ -38,7 +38,7 @@ pub(crate) fn take_up<'s, 'r, K: Keeper, W: Wait, P>(
     for _ in 0..count {
         let given = school.split(alloc, passes)?;
         let at = places.remove(0);
-        stations.push_reserved(Station::new(at, Visit::new(school, rt, given)));
+        stations.push_reserved(Station::new(rt, at, Visit::new(school, rt, given)));
     }
     Ok(())
 }
