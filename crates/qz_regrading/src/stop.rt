@@ -34,7 +34,8 @@ impl Stop {
         let left = self.left.load(Ordering::SeqCst);
         if left < u64::from(self.workers) {
             let seen = (left & 0xffff_ffff) as u32;
-            self.left.park_timeout(rt, seen, Duration::from_millis(REST));
+            self.left
+                .park_timeout(rt, seen, Duration::from_millis(REST));
         }
     }
 

@@ -34,11 +34,7 @@ impl<'s, 'r, K: Keeper, W: Wait, P> Model for Station<'s, 'r, K, W, P> {
 
 impl<'s, 'r, K: Keeper, W: Wait, P> Station<'s, 'r, K, W, P> {
     /// A station at a place where nobody was served yet.
-    pub(crate) fn new(
-        rt: &'r W,
-        place: P,
-        visit: Visit<'s, 'r, K, W>,
-    ) -> Station<'s, 'r, K, W, P>
+    pub(crate) fn new(rt: &'r W, place: P, visit: Visit<'s, 'r, K, W>) -> Station<'s, 'r, K, W, P>
         ensures { result ≡ record { place = place; visit = visit.entry; end = no_end } }
     {
         Station {
