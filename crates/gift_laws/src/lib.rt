@@ -20,6 +20,3 @@ pub fn reads_written()
 pub fn reads_again()
     ensures { ReadsAgain }
 {}
-
-#[cfg(test)]
-mod tests;

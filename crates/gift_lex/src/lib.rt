@@ -12,6 +12,3 @@ mod marks;
 pub use block::{Block, Piece};
 pub use cursor::Blocks;
 pub use lexer::{LexFault, blocks};
-
-#[cfg(test)]
-mod tests;

@@ -6,6 +6,7 @@ ghost use Rattle.gift_lex.specs.Blocks.{unindented, is_blank_line, is_comment, i
 ghost use Rattle.gift_lex.specs.Gathering.{is_break, after_break, split_lines};
 
 use crate::characters::split_char;
+use memchr::memchr2;
 
 /// The first line of a text, and what follows its break, where it has one.
 pub(crate) fn split_line(text: &str) -> (&str, Option<&str>)
@@ -26,7 +27,7 @@ pub(crate) fn split_line(text: &str) -> (&str, Option<&str>)
 fn break_place(text: &str) -> Option<usize>
     ensures { result ≡ position is_break text.now }
 {
-    text.bytes().position(|byte| byte == b'\r' || byte == b'\n')
+    memchr2(b'\r', b'\n', text.as_bytes())
 }
 
 /// What follows the break that stands first.

@@ -9,5 +9,4 @@ pub mod QuestionLemmas
 pub mod ReadLemmas
 pub mod SoundLemmas
 pub mod TextLemmas
-pub mod TogetherLemmas
 pub mod ValueLemmas

@@ -26,7 +26,7 @@ use Rattle.gift_read.specs.declared.reading.Entry.{Entry}
 use Rattle.gift_read.specs.declared.reading.Entry.TheVariants as entry
 use Rattle.gift_read.specs.Gift.{Fault, told_by, told, onto, followed, items_of}
 use Rattle.gift_read.proofs.SoundLemmas.{kind_in-numbers, pieces-whole}
-use Rattle.gift_read.proofs.TogetherLemmas.{together-length}
+use Rattle.qz_grading.proofs.TogetherLemmas.{together-length}
 
 -- ---- no rule is broken
 

@@ -22,6 +22,3 @@ pub use reading::read;
 pub use parts::Sort;
 pub use places::Landmark;
 pub use reading::Entry;
-
-#[cfg(test)]
-mod tests;

@@ -12,6 +12,3 @@ mod rich;
 
 pub use bank::{WriteErr, spell, write};
 pub use question::question_onto;
-
-#[cfg(test)]
-mod tests;

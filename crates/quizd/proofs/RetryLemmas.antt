@@ -10,7 +10,7 @@ use Rattle.qz_terms.specs.declared.reply.Reply.{Reply}
 use Rattle.qz_terms.specs.declared.reply.Reply.TheVariants as reply
 use Rattle.qz_terms.specs.Serial.{Asking, Goes, Line, Lists, Serial, Unread, ended, next}
 use Rattle.quizd.specs.ScriptLines.{line_item}
-use Rattle.qz_wire.specs.Replies.{reply_line}
+use Rattle.qz_replies.specs.Replies.{reply_line}
 use Rattle.qz_serial.specs.Once.{IsSaidAgain}
 use Rattle.qz_serial.specs.Standing.{StandsIn, is_keep_fault}
 use Rattle.quizd.specs.Retries.{ActOnce, AllStand, GoesOnce, IsAccepted, Seen}

@@ -15,7 +15,7 @@ use Rattle.quizd.specs.ScriptLines.{kept, kept_item}
 use Rattle.qz_ending.specs.Endings.{Outside, status_of}
 use Rattle.quizd.specs.Inputs.{Buffer, GivesNext, NextStops, fed_parts}
 use Rattle.qz_wire.specs.Lines.{lines_of}
-use Rattle.qz_wire.specs.Replies.{reply_line}
+use Rattle.qz_replies.specs.Replies.{reply_line}
 use Rattle.quizd.specs.Retries.{GoesOnce, Seen}
 use Rattle.quizd.specs.Scripts.{AnswersLine, AnswerStops, Answered, AreFirst, LeavesLine, Says, SayStops, ScriptCut, ScriptDone, ServeEnds, ServesAll, but_last, ended_lines}
 use Rattle.quizd.proofs.RetryLemmas.{nothing_answered, one_more_answered}

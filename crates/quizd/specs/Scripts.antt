@@ -12,7 +12,7 @@ use Rattle.quizd.specs.ScriptLines.{kept_item, line_item}
 use Rattle.qz_ending.specs.Endings.{Outside}
 use Rattle.quizd.specs.Inputs.{fed_parts}
 use Rattle.qz_wire.specs.Lines.{lines_of}
-use Rattle.qz_wire.specs.Replies.{reply_line}
+use Rattle.qz_replies.specs.Replies.{reply_line}
 use Rattle.qz_serial.specs.Standing.{is_keep_fault}
 use Rattle.quizd.specs.Retries.{ActOnce, AllStand, GoesOnce, Seen}
 use Rattle.quizd.specs.Solo.{in_memory}

@@ -13,10 +13,10 @@ use crate::script_line::ScriptLine;
 use qz_ending::Stop;
 use qz_grading::Refusal;
 use qz_outside::{Sink, Source, write_all};
+use qz_replies::line_of;
 use qz_solo::MemorySchool;
 use qz_terms::{Desk, Reply};
 use qz_text::NoMemory;
-use qz_wire::line_of;
 use std::alloc::Global;
 
 /// So many bytes one call reads at most.

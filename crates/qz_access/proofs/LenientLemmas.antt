@@ -1,5 +1,5 @@
 -- The most lenient of what is set for the groups, one group more at a time.
-use Rattle.std.proofs.Common.{◌≡◌, ℕ, zero, suc, ◌+◌, ◌<◌, max, Bool, true, false, ◌||◌, List, [], ◌∷◌, ◌++◌, Option, Some, None, length, take, get_or, ltb, refl, sym, ap, ◌∙◌, arith, append-nil}
+use Rattle.std.proofs.Common.{◌≡◌, ℕ, zero, suc, ◌+◌, ◌<◌, max, Bool, true, false, List, [], ◌∷◌, ◌++◌, Option, Some, None, length, take, get_or, ltb, refl, sym, ap, ◌∙◌, arith, append-nil}
 use Rattle.std.specs.List.{list_any}
 use Rattle.std.specs.Prelude.{◌==◌, fold, filter_map, if◌then◌else◌, min, option_to_list}
 use Rattle.std.proofs.lemmas.Bool.{eqb-true, ltb-true, ltb-false}
@@ -10,6 +10,7 @@ use Rattle.qz_terms.specs.declared.access.Override.{Override}
 use Rattle.qz_terms.specs.Access.{lesser, longest}
 use Rattle.qz_terms.specs.Lists.{greatest, least}
 use Rattle.qz_terms.proofs.Walks.{all_kept}
+use Rattle.qz_grading.proofs.StepLemmas.{or-false}
 use Rattle.qz_access.specs.Lenient.{longer, more_lenient, most_lenient}
 
 least-more : (xs : List ℕ) (o : Option ℕ) → least (xs ++ option_to_list o) ≡ lesser (least xs) o
@@ -40,10 +41,6 @@ longer-told m y false is above = rw (is, above) (greater-told m y (ltb m y) refl
 first-set : (y : ℕ) (b : Bool) → (y == 0) ≡ b → (if y == 0 then Some 0 else Some y) ≡ Some y
 first-set y true is = rw is (ap Some (sym (eqb-true y 0 is)))
 first-set y false is = rw is refl
-
-or-false : (b : Bool) → (b || false) ≡ b
-or-false true = refl
-or-false false = refl
 
 -- the first of them is not 0 where none is
 first-above : (x : ℕ) (xs : List ℕ) → list_any (λ n. n == 0) (x ∷ xs) ≡ false → 0 < x

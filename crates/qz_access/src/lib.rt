@@ -9,6 +9,3 @@ mod lenient;
 pub use ends::{due, expired};
 pub use leave::{may_answer, may_finish, may_start};
 pub use lenient::effective;
-
-#[cfg(test)]
-mod tests;

@@ -10,6 +10,3 @@ mod room;
 pub use entries::Entries;
 pub use entry::Entry;
 pub use prepared::Prepared;
-
-#[cfg(test)]
-mod tests;

@@ -6,6 +6,3 @@ mod grades;
 mod machine;
 
 pub use machine::Machine;
-
-#[cfg(test)]
-mod tests;

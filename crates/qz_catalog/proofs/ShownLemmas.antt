@@ -3,6 +3,7 @@ use Rattle.std.proofs.Common.{◌≡◌, ℕ, zero, suc, ◌+◌, ◌<◌, ◌�
 use Rattle.std.specs.Prelude.{is_some, slice_get, slice_index, ◌||◌}
 use Rattle.std.proofs.lemmas.List.{length-take-le, take-append-le, take_all}
 use Rattle.std.proofs.lemmas.Option.{get_or_from_slice_get, slice_get_within}
+use Rattle.qz_lemmas.proofs.Lists.{get-kept}
 use Rattle.qz_grading.proofs.StepLemmas.{slice_get-push}
 use Rattle.qz_grading.specs.Grading.{at_place, is_place}
 use Rattle.qz_terms.specs.declared.ask.Ask.{Ask}
@@ -20,7 +21,7 @@ use Rattle.qz_terms.specs.CatalogAnswer.{record_in}
 use Rattle.qz_terms.specs.Cause.{Verdict, missing_in, verdict_in}
 use Rattle.qz_bank.specs.declared.entry.Entry.{Entry}
 use Rattle.qz_roster.specs.Roster.{IsNext}
-use Rattle.qz_roster.proofs.Reading.{get-kept, some-same}
+use Rattle.qz_roster.proofs.Reading.{some-same}
 use Rattle.qz_roster.proofs.Telling.{there-is}
 use Rattle.qz_catalog.specs.Applying.{IsAskedAt, IsLooked, IsPosed, IsRepeated, IsShort, IsToldOver, stand_in}
 use Rattle.qz_catalog.specs.Holdings.{AreShown, IsHeld, IsShownBy}

@@ -4,6 +4,7 @@ use Rattle.std.specs.List.{enumerate_from}
 use Rattle.std.specs.Prelude.{is_some, map, option_and_then, position, slice_get, unwrap_or, nat_le, ◌&&◌, ◌==◌, ◌-◌}
 use Rattle.std.proofs.Common.{suc, zero, [], ◌∷◌}
 use Rattle.std.proofs.lemmas.Bool.{eqb-true, leb-true}
+use Rattle.qz_lemmas.proofs.Options.{none-by}
 use Rattle.qz_grading.specs.Grading.{at_place, is_place}
 use Rattle.qz_terms.specs.declared.plan.Planned.{Planned}
 use Rattle.qz_terms.specs.declared.record.Record.{Record}
@@ -14,7 +15,6 @@ use Rattle.qz_roster.specs.declared.quizzes.Slot.{Slot}
 use Rattle.qz_roster.specs.Quizzes.{AreSlotsOf, made}
 use Rattle.qz_roster.proofs.QuizLemmas.{at-map}
 use Rattle.qz_roster.proofs.Reading.{at-get}
-use Rattle.qz_roster.proofs.TextLemmas.{none-by}
 use Rattle.qz_catalog.specs.Readings.{planned_by, slot_over}
 use Rattle.qz_roster.proofs.Telling.{there-is, any-first, placed-length, placed-there}
 

@@ -8,7 +8,6 @@ use Rattle.std.proofs.lemmas.List.Elements.{All-append, All-cons, All-head, All-
 use Rattle.std.proofs.lemmas.List.Folds.{list_all-append}
 use Rattle.std.proofs.lemmas.List.Sums.{sum_by-append}
 use Rattle.std.proofs.lemmas.Option.{get_or_from_slice_get, slice_get_within}
-use Rattle.gift_read.proofs.TogetherLemmas.{together-length}
 use Rattle.qz_decimal.specs.Numbers.{one}
 use Rattle.qz_decimal.specs.Reading.{IsWrittenFraction}
 use Rattle.qz_grading.specs.declared.question.Item.{Item}
@@ -20,6 +19,7 @@ use Rattle.qz_grading.specs.Behaviours.{when}
 use Rattle.qz_grading.specs.Canonical.{canonical_question, canonical_size}
 use Rattle.qz_grading.specs.Grading.{at_place}
 use Rattle.qz_grading.specs.Questions.{IsQuestion, are_no_longer, texts}
+use Rattle.qz_grading.proofs.TogetherLemmas.{together-length}
 use Rattle.qz_terms.specs.declared.plan.Planned.{Planned}
 use Rattle.qz_terms.specs.declared.record.Record.{Record}
 use Rattle.qz_terms.specs.declared.request.Request.{Request}

@@ -8,6 +8,3 @@ mod values;
 
 pub use command::{Command, command_of};
 pub use fault::WordsFault;
-
-#[cfg(test)]
-mod tests;

@@ -15,6 +15,3 @@ pub use marks::{fraction_of, grade_of, mark_of, rescale, share};
 pub use reading::BadNumber;
 pub use tone::{Tone, tone_of};
 pub use units::{Decimal, Fraction, Grade, Mark, ONE};
-
-#[cfg(test)]
-mod tests;

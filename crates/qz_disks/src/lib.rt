@@ -20,6 +20,3 @@ pub use memory_disk::{Fill, MemoryDisk};
 pub use memory_keeper::MemoryKeeper;
 pub use memory_shelf::MemoryShelf;
 pub use shelf::{Shelf, ShelfErr};
-
-#[cfg(test)]
-mod tests;

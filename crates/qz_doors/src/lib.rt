@@ -8,6 +8,3 @@ mod link;
 
 pub use door::{DoorEnd, serve_door};
 pub use link::serve_link;
-
-#[cfg(test)]
-mod tests;

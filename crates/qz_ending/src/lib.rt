@@ -5,6 +5,3 @@
 mod stop;
 
 pub use stop::Stop;
-
-#[cfg(test)]
-mod tests;

@@ -11,6 +11,3 @@ pub use fault::{FoundFault, OpenFault};
 pub use founding::{found, founding_payload};
 pub use names::{catalog_name, part_name};
 pub use opening::{give_back, open};
-
-#[cfg(test)]
-mod tests;

@@ -4,6 +4,3 @@
 mod founding;
 
 pub use founding::found_folder;
-
-#[cfg(test)]
-mod tests;

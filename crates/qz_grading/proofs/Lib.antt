@@ -3,3 +3,4 @@ pub mod DigitLemmas
 pub mod StepLemmas
 pub mod WeightLemmas
 pub mod WrittenNumbers
+pub mod TogetherLemmas

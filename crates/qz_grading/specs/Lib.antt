@@ -4,11 +4,7 @@ pub mod Steps
 pub mod Behaviours
 pub mod Slots
 pub mod Words
-pub mod Examples
-pub mod ExamplesReplays
-pub mod ExamplesQuestions
 pub mod Shapes
 pub mod Canonical
-pub mod ExamplesCanonical
 pub mod Room
 pub mod Sameness

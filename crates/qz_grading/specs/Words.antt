@@ -1,10 +1,11 @@
--- How marks, grades and numbers are spelled, and the words of states, behaviours and kinds.
+-- How marks, grades, numbers and attempts are spelled, and the words of states, behaviours and kinds.
 use Rattle.std.specs.Prelude.{ℕ, suc, ◌-◌, ◌/◌, ◌%◌, ◌^◌, Bool, ◌&&◌, ◌==◌, if◌then◌else◌, List, [], ◌∷◌, ◌++◌, length, replicate, Option, Some, None, ℤ, pos, negsuc, decimal, codes}
 use Rattle.qz_decimal.specs.Numbers.{one, grade_one}
 use Rattle.qz_grading.specs.declared.outcome.Behaviour.{Behaviour}
 use Rattle.qz_grading.specs.declared.outcome.Behaviour.TheVariants as behaviour
 use Rattle.qz_grading.specs.declared.outcome.State.{State}
 use Rattle.qz_grading.specs.declared.outcome.State.TheVariants as state
+use Rattle.qz_grading.specs.declared.refusal.AttemptId.{AttemptId}
 
 -- a number in at least so many digits
 abbrev pub in_digits : ℕ → ℕ → List ℕ
@@ -55,6 +56,10 @@ decimal_text value = short_number 10 value
 abbrev pub mark_or_dash : Option ℤ → List ℕ
 mark_or_dash None = codes "-"
 mark_or_dash (Some m) = mark_text m
+
+-- `USER.NTH`
+abbrev pub attempt_word : AttemptId → List ℕ
+attempt_word a = decimal a.user ++ (codes "." ++ decimal a.nth)
 
 abbrev pub state_word : State → List ℕ
 state_word state.Todo = codes "todo"

@@ -32,9 +32,6 @@ pub use room::canonical_size_is_at_most;
 pub use sameness::{same_bank, same_question, same_texts};
 pub use shape::shape_of;
 pub use sound::{has_no_blank, has_right_choice, has_stem, is_sound, least_parts, parts};
-pub use spelled::Spelled;
+pub use spelled::{Spelled, attempt_onto};
 pub use steps::{last_submitted, moved, response_at};
 pub use weights::first_taking;
-
-#[cfg(test)]
-mod tests;

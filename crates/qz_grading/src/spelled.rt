@@ -1,9 +1,10 @@
-//! How marks, grades and numbers are spelled.
+//! How marks, grades, numbers and attempts are spelled.
 
 ghost use Rattle.std.specs.Prelude.{◌≡◌, ◌^◌, ◌<◌, ◌++◌, List, ℕ, OnOk, OnErr, IfOk, string_bytes};
 ghost use Rattle.qz_decimal.specs.Reading.{sign_text};
-ghost use Rattle.qz_grading.specs.Words.{mark_text, units_text, grade_text, grade_units_text, decimal_text, short_natural, behind_point, without_zeros, in_digits};
+ghost use Rattle.qz_grading.specs.Words.{mark_text, units_text, grade_text, grade_units_text, decimal_text, short_natural, behind_point, without_zeros, in_digits, attempt_word};
 
+use crate::AttemptId;
 use qz_decimal::{Decimal, Grade, Mark, ONE};
 use qz_text::{NoMemory, Text};
 use std::alloc::Global;
@@ -131,4 +132,14 @@ impl Spelled for Decimal {
         size_onto(&mut items, self.0.unsigned_abs())?;
         Ok(Text { items })
     }
+}
+
+/// An attempt as `USER.NTH`.
+pub fn attempt_onto(out: &mut String, attempt: AttemptId) -> Result<(), NoMemory>
+    ensures { OnOk result (string_bytes out.new ≡ string_bytes out.old ++ attempt_word attempt) }
+{
+    let user = attempt.user;
+    let nth = attempt.nth;
+    write!(out, "{user}.{nth}")?;
+    Ok(())
 }

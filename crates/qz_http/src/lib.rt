@@ -16,6 +16,3 @@ pub use ends::end_of;
 pub use heads::ROOM;
 pub use items::{Item, LinkEnd};
 pub use links::LinkCore;
-
-#[cfg(test)]
-mod tests;

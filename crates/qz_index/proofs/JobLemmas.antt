@@ -3,11 +3,14 @@ use Rattle.std.proofs.Common.{◌≡◌, ℕ, ◌+◌, max, Bool, true, false, L
 use Rattle.std.specs.BTreeMap.{Updates}
 use Rattle.std.specs.List.{list_any}
 use Rattle.std.specs.Option.{option_or}
-use Rattle.std.specs.Ordering.{nat_cmp}
+use Rattle.std.specs.Ordering.{is_eq, nat_cmp, ordering_then}
 use Rattle.std.specs.Prelude.{◌&&◌, ◌||◌, ◌==◌, fold, filter_map, if◌then◌else◌, option_to_list, unwrap_or}
 use Rattle.std.proofs.lemmas.Bool.{eqb-true}
 use Rattle.std.proofs.lemmas.Grind.{fold-append}
 use Rattle.std.proofs.lemmas.List.Folds.{list_any-append}
+use Rattle.qz_lemmas.proofs.Numbers.{number-tie, number-turned}
+use Rattle.qz_lemmas.proofs.Options.{or-none}
+use Rattle.qz_room.proofs.Filled.{filled, filled_by, then_at}
 use Rattle.qz_grading.specs.declared.refusal.AttemptId.{AttemptId}
 use Rattle.qz_grading.specs.declared.question.Shape.{Shape}
 use Rattle.qz_terms.specs.declared.record.Event.{Event}
@@ -20,7 +23,19 @@ use Rattle.qz_index.specs.declared.done.DoneJobs.{DoneJobs}
 use Rattle.qz_index.specs.declared.floors.Floors.{Floors}
 use Rattle.qz_index.specs.declared.skips.Skips.{Skips}
 use Rattle.qz_index.specs.Jobs.{AreDone, AreFloors, AreSkipped, done_in, skip_cmp, skip_of}
-use Rattle.qz_index.proofs.Filled.{filled, filled_by, skip_at}
+
+-- ---- the key of a slot under a job
+
+and-grouped : (a b c : Bool) → (a && (b && c)) ≡ ((a && b) && c)
+and-grouped true b c = refl
+and-grouped false b c = refl
+
+skip_at : (job : ℕ) (b : AttemptId) (slot : ℕ) (j : ℕ) (a : AttemptId) (k : ℕ) → is_eq (skip_cmp (skip_of job b slot) (skip_of j a k)) ≡ (job == j) && (same_attempt a b && (k == slot))
+skip_at job b slot j a k =
+    then_at (nat_cmp job j) (ordering_then (nat_cmp b.user a.user) (ordering_then (nat_cmp b.nth a.nth) (nat_cmp slot k)))
+    ∙ ap (λ (c : Bool). is_eq (nat_cmp job j) && c) (then_at (nat_cmp b.user a.user) (ordering_then (nat_cmp b.nth a.nth) (nat_cmp slot k)) ∙ ap (λ (c : Bool). is_eq (nat_cmp b.user a.user) && c) (then_at (nat_cmp b.nth a.nth) (nat_cmp slot k)))
+    ∙ rw (number-tie job j, number-tie b.user a.user, number-tie b.nth a.nth, number-tie slot k, number-turned b.user a.user, number-turned b.nth a.nth, number-turned slot k)
+    (ap (λ (c : Bool). (job == j) && c) (and-grouped (a.user == b.user) (a.nth == b.nth) (k == slot)))
 
 -- ---- floors
 
@@ -97,10 +112,6 @@ done-push h r job = done-by h r job (is_done h job) (is_done_in job r) refl refl
 done-other : (e : Event) → ((j p n : ℕ) → e ≡ event.JobDone j p n → ⊥) → (job : ℕ) → done_by job e ≡ false
 done-other (event.JobDone j p n) never job = absurd (never j p n refl)
 done-other e never job = refl
-
-or-none : {A : Type 0} (o : Option A) → option_or o None ≡ o
-or-none None = refl
-or-none (Some x) = refl
 
 pub done_jobs-other : (m : DoneJobs) (h : List Record) (r : Record) → AreDone m h → ((j p n : ℕ) → r.event ≡ event.JobDone j p n → ⊥) → AreDone m (h ++ r ∷ [])
 done_jobs-other m h r are never = record {

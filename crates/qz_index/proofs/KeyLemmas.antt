@@ -5,6 +5,9 @@ use Rattle.std.specs.Option.{option_or}
 use Rattle.std.specs.Prelude.{bytes_eq, filter, if◌then◌else◌, option_map, position, ◌==◌}
 use Rattle.std.proofs.lemmas.List.Elements.{filter-append}
 use Rattle.std.proofs.lemmas.Iterator.Adapters.{position_from-zero}
+use Rattle.qz_lemmas.proofs.Lists.{position-push}
+use Rattle.qz_lemmas.proofs.Bools.{and-false}
+use Rattle.qz_lemmas.proofs.Options.{or-none}
 use Rattle.qz_terms.specs.declared.record.Record.{Record}
 use Rattle.qz_terms.specs.declared.reply.Reply.{Reply}
 use Rattle.qz_terms.specs.Answer.{said}
@@ -18,24 +21,6 @@ use Rattle.qz_index.specs.Keys.{AreKeys, kept_at, said_under}
 use Rattle.qz_index.proofs.JobLemmas.{up_to_first-behind, up_to_first-front}
 
 -- ---- the place of the first that passes
-
-from-step : {A : Type 0} (p : A → Bool) (n : ℕ) (y : A) (ys : List A) (x : A) (b c : Bool) → p y ≡ b → position_from p (n + 1) (ys ++ x ∷ []) ≡ option_or (position_from p (n + 1) ys) (if c then Some (n + 1 + length ys) else None)
-    → position_from p n (y ∷ ys ++ x ∷ []) ≡ option_or (position_from p n (y ∷ ys)) (if c then Some (n + length (y ∷ ys)) else None)
-from-step p n y ys x true c is later = rw is refl
-from-step p n y ys x false c is later = let long : n + 1 + length ys ≡ n + length (y ∷ ys) = omega arith in rw is (later ∙ ap (λ m. option_or (position_from p (n + 1) ys) (if c then Some m else None)) long)
-
-from-alone : {A : Type 0} (p : A → Bool) (n : ℕ) (x : A) (b : Bool) → p x ≡ b → position_from p n (x ∷ []) ≡ (if b then Some (n + 0) else None)
-from-alone p n x true is = let same : n ≡ n + 0 = omega arith in rw is (ap (λ m. Some m) same)
-from-alone p n x false is = rw is refl
-
-from-push : {A : Type 0} (p : A → Bool) (n : ℕ) (xs : List A) (x : A) → position_from p n (xs ++ x ∷ []) ≡ option_or (position_from p n xs) (if p x then Some (n + length xs) else None)
-from-push p n [] x = from-alone p n x (p x) refl
-from-push p n (y ∷ ys) x = from-step p n y ys x (p y) (p x) refl (from-push p (n + 1) ys x)
-
-position-push : {A : Type 0} (p : A → Bool) (xs : List A) (x : A) → position p (xs ++ x ∷ []) ≡ option_or (position p xs) (if p x then Some (length xs) else None)
-position-push p xs x =
-    let zero_more : 0 + length xs ≡ length xs = omega arith in
-    position_from-zero p (xs ++ x ∷ []) ∙ from-push p 0 xs x ∙ ap (λ (o : Option ℕ). option_or o (if p x then Some (0 + length xs) else None)) (sym (position_from-zero p xs)) ∙ ap (λ m. option_or (position p xs) (if p x then Some m else None)) zero_more
 
 -- ---- what is told of the first that passes, over the list up to it
 
@@ -82,16 +67,8 @@ said-push h r caller key = told-push-by (has_key caller key) said h r (list_any 
 
 -- ---- one record more
 
-and-none : (b : Bool) → b && false ≡ false
-and-none true = refl
-and-none false = refl
-
-or-none : {A : Type 0} (o : Option A) → option_or o None ≡ o
-or-none None = refl
-or-none (Some x) = refl
-
 without-key : (h : List Record) (r : Record) (o : Option (List ℕ)) → r.key ≡ o → ((k : List ℕ) → o ≡ Some k → ⊥) → (caller : ℕ) (key : List ℕ) → has_key caller key r ≡ false
-without-key h r None is never caller key = rw is (and-none (r.caller == caller))
+without-key h r None is never caller key = rw is (and-false (r.caller == caller))
 without-key h r (Some k) is never caller key = absurd (never k refl)
 
 pub keys-other : (m : Keys) (h : List Record) (r : Record) → AreKeys m h → ((k : List ℕ) → r.key ≡ Some k → ⊥) → AreKeys m (h ++ r ∷ [])

@@ -1,4 +1,3 @@
-pub mod Filled
 pub mod JobLemmas
 pub mod OwnerLemmas
 pub mod TextLemmas

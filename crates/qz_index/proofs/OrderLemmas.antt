@@ -22,8 +22,8 @@ use Rattle.qz_terms.proofs.Walks.{all_of-push}
 use Rattle.qz_index.specs.declared.order.Order.{Order}
 use Rattle.qz_index.specs.declared.orders.Orders.{Orders}
 use Rattle.qz_index.specs.Orders.{AreOrdered, all_ordered, attempt_after, attempt_of, is_ordered, is_ordered_at, key_of}
-use Rattle.qz_index.specs.Versions.{pair_cmp}
-use Rattle.qz_index.proofs.Filled.{filled_by, pair_at}
+use Rattle.qz_room.specs.Pairs.{pair_cmp}
+use Rattle.qz_room.proofs.Filled.{filled_by, pair_at}
 use Rattle.qz_index.proofs.Sorting.{in_order-is}
 use Rattle.qz_index.proofs.StartLemmas.{id_cmp, ids_order}
 use Rattle.qz_index.proofs.TakerLemmas.{sorted-kept}

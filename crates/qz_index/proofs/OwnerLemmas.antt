@@ -14,7 +14,7 @@ use Rattle.qz_terms.proofs.Walks.{how_many-push, last_of-push}
 use Rattle.qz_index.specs.declared.owners.Owners.{Owners}
 use Rattle.qz_index.specs.declared.owners.Tally.{Tally}
 use Rattle.qz_index.specs.Owners.{AreTallied, last_moment, tally, tally_in}
-use Rattle.qz_index.proofs.Filled.{filled}
+use Rattle.qz_room.proofs.Filled.{filled}
 
 few-step : {A : Type 0} (p : A → Bool) (x : A) (xs : List A) (b : Bool) → p x ≡ b → how_many p xs ≤ length xs → how_many p (x ∷ xs) ≤ length (x ∷ xs)
 few-step p x xs true is few = rw is (omega arith)

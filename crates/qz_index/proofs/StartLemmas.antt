@@ -11,6 +11,7 @@ use Rattle.std.proofs.lemmas.Bool.{eqb-true}
 use Rattle.std.proofs.lemmas.Bool.Decides.{nat_tests}
 use Rattle.std.proofs.lemmas.Cmp.{nat_cmp_total, on_total, then_total}
 use Rattle.std.proofs.lemmas.Map.Lookups.{CmpEqualImpliesEq, exact_unsigned}
+use Rattle.qz_lemmas.proofs.Bools.{and-right}
 use Rattle.qz_grading.specs.declared.refusal.AttemptId.{AttemptId}
 use Rattle.qz_grading.specs.declared.outcome.Behaviour.{Behaviour}
 use Rattle.qz_terms.specs.declared.plan.Bound.{Bound}
@@ -96,10 +97,6 @@ record IsNumbered (l : List Record) (r : Record) (u : ℕ) (a : AttemptId) : Typ
   user : a.user ≡ u
   number : a.nth ≡ made l u + 1
   counts : starts_one u r ≡ true
-
-and-right : (b c : Bool) → b && c ≡ true → c ≡ true
-and-right true c is = is
-and-right false c is = absurd cc
 
 numbered-by : (l : List Record) (r : Record) (u : ℕ) (a : AttemptId) (s : Start) (b : Bool) → started r ≡ Some s → s.attempt ≡ next_attempt l r.owner → (b ≡ true → s.attempt.user ≡ u) → option_map (λ (t : Start). t.attempt) (if b then Some s else None) ≡ Some a → IsNumbered l r u a
 numbered-by l r u a s true is next test told =

@@ -14,36 +14,21 @@ use Rattle.std.proofs.lemmas.Cmp.{eq_by_cmp_equiv, nat_cmp_total}
 use Rattle.std.proofs.lemmas.Map.Entries.{lookup-filter-values, option_filter}
 use Rattle.std.proofs.lemmas.Map.Keys.{IsDistinct-from_sorted}
 use Rattle.std.proofs.lemmas.Map.Made.{is_some-lookup}
+use Rattle.qz_lemmas.proofs.Numbers.{number-same, number-tie, number-turned}
 use Rattle.qz_grading.specs.declared.refusal.AttemptId.{AttemptId}
 use Rattle.qz_terms.specs.declared.record.Record.{Record}
 use Rattle.qz_terms.specs.History.{Start, started, starts_at, taker_at, takers}
 use Rattle.qz_index.specs.declared.takers.Takers.{Takers}
 use Rattle.qz_index.specs.Attempts.{has_any, taken, takers_in}
-use Rattle.qz_index.proofs.Filled.{nat_at}
 use Rattle.qz_index.proofs.Sorting.{in_order-is}
 use Rattle.qz_index.proofs.StartLemmas.{users_order}
 
 -- ---- tests
 
-same : (u : ℕ) → (u == u) ≡ true
-same u = grind (arith, nat_tests)
-
-turned : (a b : ℕ) → (a == b) ≡ (b == a)
-turned a b = grind (arith, nat_tests)
-
-or-false : (b : Bool) → (b || false) ≡ b
-or-false true = refl
-or-false false = refl
-
 none-step : (o p : Ordering) (b : Bool) → is_eq o ≡ false → b ≡ false → (is_eq (ordering_then o p) || b) ≡ false
 none-step Less p b is rest = rest
 none-step Equal p b is rest = absurd cc
 none-step Greater p b is rest = rest
-
-other-step : (o p : Ordering) (b : Bool) → is_eq o ≡ false → (is_eq (ordering_then o p) || b) ≡ b
-other-step Less p b is = refl
-other-step Equal p b is = absurd cc
-other-step Greater p b is = refl
 
 -- ---- the takers of a list
 
@@ -51,10 +36,10 @@ any-step : (q u : ℕ) (r : Record) (h : List Record) (s : Start) (b c : Bool) �
     → list_any (is_at (nat_cmp u)) (filter_map (taker_at q) (r ∷ h)) ≡ has_any (filter_map (starts_at q u) (r ∷ h))
 any-step q u r h s false c is quiz user rest = rw (is, quiz) rest
 any-step q u r h s true true is quiz user rest =
-    let one : is_eq (nat_cmp u s.attempt.user) ≡ true = ap (λ n. is_eq (nat_cmp u n)) (eqb-true s.attempt.user u user) ∙ nat_at u u ∙ same u in
+    let one : is_eq (nat_cmp u s.attempt.user) ≡ true = ap (λ n. is_eq (nat_cmp u n)) (eqb-true s.attempt.user u user) ∙ number-tie u u ∙ number-same u in
     rw (is, quiz, user, one) refl
 any-step q u r h s true false is quiz user rest =
-    let other : is_eq (nat_cmp u s.attempt.user) ≡ false = nat_at u s.attempt.user ∙ turned u s.attempt.user ∙ user in
+    let other : is_eq (nat_cmp u s.attempt.user) ≡ false = number-tie u s.attempt.user ∙ number-turned u s.attempt.user ∙ user in
     rw (is, quiz, user, other) rest
 
 any-none : (q u : ℕ) (r : Record) (h : List Record) → started r ≡ None → list_any (is_at (nat_cmp u)) (filter_map (taker_at q) h) ≡ has_any (filter_map (starts_at q u) h)

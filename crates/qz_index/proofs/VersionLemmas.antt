@@ -6,6 +6,8 @@ use Rattle.std.specs.Prelude.{filter_map, if◌then◌else◌, map, option_and_t
 use Rattle.std.proofs.lemmas.Bool.{eqb-true}
 use Rattle.std.proofs.lemmas.List.Elements.{All-get_or, All-nil, All-push, All-weaker}
 use Rattle.std.proofs.lemmas.Option.{get_or_from_slice_get, slice_get_read, slice_get_within}
+use Rattle.qz_lemmas.proofs.Bools.{and-left, and-right}
+use Rattle.qz_lemmas.proofs.Options.{or-none}
 use Rattle.qz_grading.proofs.StepLemmas.{slice_get-push}
 use Rattle.qz_grading.specs.declared.question.Question.{Question}
 use Rattle.qz_grading.specs.Questions.{IsQuestion}
@@ -19,26 +21,15 @@ use Rattle.qz_terms.specs.Lists.{first_of}
 use Rattle.qz_terms.proofs.Walks.{first_kept, first_of-push, take-one_more}
 use Rattle.qz_index.specs.declared.versions.Origin.{Origin}
 use Rattle.qz_index.specs.declared.versions.Versions.{Versions}
-use Rattle.qz_index.specs.Versions.{AreVersions, HasOrigin, HasOrigins, StandsAt, origin, pair_cmp, question_at}
-use Rattle.qz_index.proofs.Filled.{filled_by, pair_at}
-
-pub or-none : {A : Type 0} (o : Option A) → option_or o None ≡ o
-or-none None = refl
-or-none (Some x) = refl
+use Rattle.qz_room.specs.Pairs.{pair_cmp}
+use Rattle.qz_index.specs.Versions.{AreVersions, HasOrigin, HasOrigins, StandsAt, origin, question_at}
+use Rattle.qz_room.proofs.Filled.{filled_by, pair_at}
 
 or-grouped : {A : Type 0} (a b c : Option A) → option_or a (option_or b c) ≡ option_or (option_or a b) c
 or-grouped None b c = refl
 or-grouped (Some x) b c = refl
 
 -- ---- a version is learned
-
-and-left : (a b : Bool) → a && b ≡ true → a ≡ true
-and-left true b is = refl
-and-left false b is = absurd cc
-
-and-right : (a b : Bool) → a && b ≡ true → b ≡ true
-and-right true b is = is
-and-right false b is = absurd cc
 
 learned-by : (m : Versions) (entry number e v : ℕ) (place : Origin) (b : Bool) → (entry == e) && (number == v) ≡ b → origin m entry number ≡ None → (if b then Some place else origin m e v) ≡ option_or (origin m e v) (if b then Some place else None)
 learned-by m entry number e v place true is none =

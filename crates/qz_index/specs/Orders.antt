@@ -10,7 +10,7 @@ use Rattle.qz_terms.specs.History.{attempt_at, attempt_before, same_attempt, sta
 use Rattle.qz_terms.specs.Lists.{first_of, in_order}
 use Rattle.qz_index.specs.declared.order.Order.{Order}
 use Rattle.qz_index.specs.declared.orders.Orders.{Orders}
-use Rattle.qz_index.specs.Versions.{pair_cmp}
+use Rattle.qz_room.specs.Pairs.{pair_cmp}
 
 -- the first attempt of a quiz after this one, which needn't be there
 abbrev pub attempt_after : List Record → ℕ → AttemptId → Option AttemptId

@@ -1,18 +1,13 @@
 -- Where the versions stand that a shard has learned.
 use Rattle.std.specs.BTreeMap.{get}
-use Rattle.std.specs.declared.cmp.Ordering.{Ordering}
-use Rattle.std.specs.Ordering.{nat_cmp, ordering_then}
 use Rattle.std.specs.Prelude.{◌≡◌, ℕ, All, List, IsSome, MatchOption, None, Option, Some, option_and_then, option_map, slice_get, unwrap_or}
+use Rattle.qz_room.specs.Pairs.{pair_cmp}
 use Rattle.qz_grading.specs.declared.question.Question.{Question}
 use Rattle.qz_terms.specs.declared.record.Learned.{Learned}
 use Rattle.qz_terms.specs.declared.record.Record.{Record}
 use Rattle.qz_terms.specs.History.{learned_by, version}
 use Rattle.qz_index.specs.declared.versions.Origin.{Origin}
 use Rattle.qz_index.specs.declared.versions.Versions.{Versions}
-
--- by the first number, and then by the second
-abbrev pub pair_cmp : ℕ × ℕ → ℕ × ℕ → Ordering
-pair_cmp a b = ordering_then (nat_cmp a.0 b.0) (nat_cmp a.1 b.1)
 
 -- where a version was learned, if it was
 abbrev pub origin : Versions → ℕ → ℕ → Option Origin

@@ -5,9 +5,9 @@ ghost use Rattle.qz_terms.specs.declared.record.Record.{Record};
 ghost use Rattle.qz_terms.specs.History.{attempts, takers};
 ghost use Rattle.qz_index.specs.Attempts.{AreAttempts, HasPlaceFor, HasPlaceAt, IsNext, attempts_at};
 
-use crate::room::make;
 use crate::takers::Takers;
 use qz_grading::AttemptId;
+use qz_room::make;
 use qz_terms::{Event, Record};
 use qz_text::NoMemory;
 use std::alloc::Global;

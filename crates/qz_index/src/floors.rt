@@ -5,7 +5,7 @@ ghost use Rattle.qz_terms.specs.declared.record.Record.{Record};
 ghost use Rattle.qz_terms.specs.History.{floor};
 ghost use Rattle.qz_index.specs.Jobs.{AreFloors, HasFloor, floor_at};
 
-use crate::room::{fill, make};
+use qz_room::{fill, make};
 use qz_terms::{Event, Record};
 use qz_text::NoMemory;
 use std::alloc::Global;

@@ -7,8 +7,8 @@ ghost use Rattle.qz_terms.specs.Cause.{has_key};
 ghost use Rattle.qz_terms.specs.declared.record.Record.{Record};
 ghost use Rattle.qz_index.specs.Keys.{AreKeys, HasKey, HasKeyRoom, kept_at, replied, said_under};
 
-use crate::room::make;
 use crate::texts::Texts;
+use qz_room::make;
 use qz_terms::{Record, Reply};
 use qz_text::{NoMemory, Text};
 use std::alloc::Global;

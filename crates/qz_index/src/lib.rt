@@ -13,7 +13,6 @@ mod keys;
 mod order;
 mod orders;
 mod owners;
-mod room;
 mod skips;
 mod takers;
 mod texts;
@@ -21,6 +20,3 @@ mod versions;
 
 pub use index::Index;
 pub use keys::{Keys, Replied};
-
-#[cfg(test)]
-mod tests;

@@ -6,10 +6,10 @@ ghost use Rattle.qz_grading.specs.declared.refusal.AttemptId.{AttemptId};
 ghost use Rattle.qz_terms.specs.History.{attempt_before, same_attempt};
 ghost use Rattle.qz_terms.specs.Lists.{first_of};
 ghost use Rattle.qz_index.specs.Orders.{all_ordered, is_ordered, key_of};
-ghost use Rattle.qz_index.specs.Versions.{pair_cmp};
+ghost use Rattle.qz_room.specs.Pairs.{pair_cmp};
 
-use crate::room::{fill, make};
 use qz_grading::AttemptId;
+use qz_room::{fill, make};
 use qz_text::NoMemory;
 use std::alloc::Global;
 use std::collections::BTreeMap;

@@ -7,8 +7,8 @@ ghost use Rattle.qz_terms.specs.History.{same_attempt};
 ghost use Rattle.qz_index.specs.Orders.{AreOrdered, HasOrderAt, HasOrderFor, attempt_after, is_ordered_at};
 
 use crate::order::Order;
-use crate::room::make;
 use qz_grading::AttemptId;
+use qz_room::make;
 use qz_terms::{Event, Record};
 use qz_text::NoMemory;
 use std::alloc::Global;

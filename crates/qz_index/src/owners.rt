@@ -6,7 +6,7 @@ ghost use Rattle.qz_terms.specs.declared.record.Record.{Record};
 ghost use Rattle.qz_index.specs.Owners.{AreTallied, HasTally, tally};
 
 use crate::events::is_start;
-use crate::room::{fill, make};
+use qz_room::{fill, make};
 use qz_terms::Record;
 use qz_text::NoMemory;
 use std::alloc::Global;

@@ -6,8 +6,8 @@ ghost use Rattle.qz_terms.specs.declared.record.Record.{Record};
 ghost use Rattle.qz_terms.specs.History.{is_skipped};
 ghost use Rattle.qz_index.specs.Jobs.{AreSkipped, HasSkip, skip_of, skipped_at};
 
-use crate::room::{fill, make};
 use qz_grading::AttemptId;
+use qz_room::{fill, make};
 use qz_terms::{Event, Record};
 use qz_text::NoMemory;
 use std::alloc::Global;

@@ -5,8 +5,8 @@ ghost use Rattle.std.specs.Ordering.{nat_cmp};
 ghost use Rattle.std.specs.Prelude.{◌≡◌, ◌++◌, ◌∷◌, ℕ, [], IfOk, IsSome, OnOk, if◌then◌else◌, ◌==◌};
 ghost use Rattle.qz_index.specs.Attempts.{HasPlace, taken, takers_in};
 
-use crate::room::make;
 use qz_grading::AttemptId;
+use qz_room::make;
 use qz_text::NoMemory;
 use std::alloc::Global;
 use std::collections::BTreeMap;

@@ -8,8 +8,8 @@ ghost use Rattle.qz_terms.specs.Kept.{IsKept};
 ghost use Rattle.qz_index.specs.Versions.{AreVersions, HasOrigins, HasOrigin, origin};
 
 use crate::events::learned_by;
-use crate::room::{fill, make};
 use qz_grading::Question;
+use qz_room::{fill, make};
 use qz_terms::Record;
 use qz_text::NoMemory;
 use std::alloc::Global;

@@ -4,6 +4,7 @@ use Rattle.std.specs.Prelude.{◌==◌, filter_map, slice_get}
 use Rattle.std.specs.List.{list_all}
 use Rattle.std.proofs.lemmas.List.Elements.{filter_map-append}
 use Rattle.std.proofs.lemmas.Bool.Decides.{nat_tests}
+use Rattle.qz_lemmas.proofs.Bools.{and-left}
 use Rattle.qz_grading.specs.declared.question.Question.{Question}
 use Rattle.qz_grading.specs.declared.refusal.AttemptId.{AttemptId}
 use Rattle.qz_grading.specs.Grading.{at_place}
@@ -19,7 +20,7 @@ use Rattle.qz_terms.specs.Legal.{EventIsAllowed, IsLegal, has_its_owner, owner_b
 use Rattle.qz_terms.proofs.Readings.{first_of-append}
 use Rattle.qz_terms.proofs.Walks.{IsToldIn, last_told_in}
 use Rattle.qz_isolation.specs.Isolation.{AreAlike}
-use Rattle.qz_isolation.proofs.Own.{TestsOwn, and-left, own-told, own-up_to}
+use Rattle.qz_isolation.proofs.Own.{TestsOwn, own-told, own-up_to}
 use Rattle.qz_isolation.proofs.Versions.{Told, learned-after}
 
 -- ---- legal lists

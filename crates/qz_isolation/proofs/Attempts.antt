@@ -3,6 +3,7 @@ use Rattle.std.proofs.Common.{◌≡◌, ℕ, ◌&&◌, Bool, true, false, not, 
 use Rattle.std.specs.Prelude.{◌==◌, filter, filter_map, is_some, option_and_then, option_map, unwrap_or}
 use Rattle.std.specs.List.{cons_option, list_all}
 use Rattle.std.proofs.lemmas.Bool.{eqb-true}
+use Rattle.qz_lemmas.proofs.Bools.{and-left, and-right}
 use Rattle.qz_grading.specs.declared.refusal.AttemptId.{AttemptId}
 use Rattle.qz_terms.specs.declared.access.Settings.{Settings}
 use Rattle.qz_terms.specs.declared.record.Event.{Event}
@@ -15,7 +16,6 @@ use Rattle.qz_terms.specs.History as history
 use Rattle.qz_terms.specs.Laws.{AgreeFor}
 use Rattle.qz_terms.specs.Lists.{first_of, in_order, placed}
 use Rattle.qz_terms.proofs.Isolated.{isolated_law}
-use Rattle.qz_isolation.proofs.Own.{and-left, and-right}
 
 -- ---- attempts of a user
 

@@ -2,6 +2,7 @@
 use Rattle.std.proofs.Common.{◌≡◌, ℕ, ◌&&◌, ◌||◌, Bool, true, false, not, List, [], ◌∷◌, ◌++◌, Option, Some, None, refl, ap, ◌∙◌, sym, subst}
 use Rattle.std.specs.Prelude.{◌==◌, filter, is_none, option_map, unwrap_or}
 use Rattle.std.proofs.lemmas.Bool.{eqb-true}
+use Rattle.qz_lemmas.proofs.Bools.{and-left, and-right}
 use Rattle.qz_grading.specs.declared.refusal.Refusal.{Refusal}
 use Rattle.qz_grading.specs.declared.refusal.Refusal.TheVariants as refusal
 use Rattle.qz_grading.specs.Behaviours.{first_some}
@@ -19,7 +20,7 @@ use Rattle.qz_terms.specs.Legal.{EventIsAllowed}
 use Rattle.qz_terms.specs.Lists.{first_of, up_to_first}
 use Rattle.qz_isolation.specs.Isolation.{AreAlike, asks_of_own}
 use Rattle.qz_isolation.proofs.Alike.{fronts}
-use Rattle.qz_isolation.proofs.Own.{TestsOwn, all-at, and-left, and-right, own-first}
+use Rattle.qz_isolation.proofs.Own.{TestsOwn, all-at, own-first}
 use Rattle.qz_isolation.proofs.Telling.{said-own}
 
 -- ---- a verdict and what is told of it

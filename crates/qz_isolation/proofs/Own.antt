@@ -5,18 +5,11 @@ use Rattle.std.specs.List.{list_all, cons_option}
 use Rattle.std.proofs.lemmas.List.{length-map, map-append}
 use Rattle.std.proofs.lemmas.List.Elements.{filter-append}
 use Rattle.std.proofs.lemmas.List.Folds.{list_all-append}
+pub use Rattle.qz_lemmas.proofs.Bools.{and-left, and-right}
 use Rattle.qz_terms.specs.declared.record.Record.{Record}
 use Rattle.qz_terms.specs.Lists.{first_of, up_to_first}
 use Rattle.qz_terms.specs.History as history
 use Rattle.qz_terms.specs.Laws.{own_records, unlearned}
-
-pub and-left : (b c : Bool) → b && c ≡ true → b ≡ true
-and-left true c is = refl
-and-left false c is = is
-
-pub and-right : (b c : Bool) → b && c ≡ true → c ≡ true
-and-right true c is = is
-and-right false c is = absurd cc
 
 -- a test that all records of a list pass, at one of them
 pub all-at : (good : Record → Bool) (front : List Record) (r : Record) (rest h : List Record) → h ≡ front ++ r ∷ rest → list_all good h ≡ true → good r ≡ true

@@ -5,6 +5,7 @@ use Rattle.std.specs.Prelude.{◌==◌, ℤ, pos, filter_map, is_none, is_some, 
 use Rattle.std.specs.List.{list_all}
 use Rattle.std.proofs.lemmas.Bool.{eqb-true}
 use Rattle.std.proofs.lemmas.List.Folds.{list_all-append}
+use Rattle.qz_lemmas.proofs.Bools.{and-left, and-right}
 use Rattle.qz_grading.specs.declared.outcome.Moved.{Moved}
 use Rattle.qz_grading.specs.declared.outcome.Moved.TheVariants as moved_as
 use Rattle.qz_grading.specs.declared.refusal.AttemptId.{AttemptId}
@@ -40,7 +41,7 @@ use Rattle.qz_terms.proofs.Readings.{filter_map-other}
 use Rattle.qz_terms.proofs.Walks.{how_many-push}
 use Rattle.qz_isolation.proofs.Causes.{next-own}
 use Rattle.qz_isolation.proofs.Looking.{looked-own}
-use Rattle.qz_isolation.proofs.Own.{and-left, and-right, own-alone, own-append}
+use Rattle.qz_isolation.proofs.Own.{own-alone, own-append}
 use Rattle.qz_isolation.proofs.Telling.{said-own}
 
 -- ---- an attempt that is there belongs to the shard

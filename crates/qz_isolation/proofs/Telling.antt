@@ -2,6 +2,7 @@
 use Rattle.std.proofs.Common.{◌≡◌, ℕ, ◌||◌, true, not, List, Option, Some, None, refl, ap, ◌∙◌, sym, subst}
 use Rattle.std.specs.Prelude.{◌==◌, is_some, option_map, unwrap_or}
 use Rattle.std.proofs.lemmas.Bool.{eqb-true}
+use Rattle.qz_lemmas.proofs.Bools.{and-left}
 use Rattle.qz_grading.specs.declared.refusal.AttemptId.{AttemptId}
 use Rattle.qz_grading.specs.declared.response.Step.{Step}
 use Rattle.qz_grading.specs.declared.response.Step.TheVariants as step
@@ -20,7 +21,6 @@ use Rattle.qz_terms.specs.Laws.{AgreeFor, unlearned, unlearned_event}
 use Rattle.qz_terms.specs.Legal.{has_its_owner, owner_by, owner_is}
 use Rattle.qz_terms.specs.Review.{shown_state, shown_value, shows_marks}
 use Rattle.qz_terms.proofs.Isolated.{isolated_law}
-use Rattle.qz_isolation.proofs.Own.{and-left}
 
 -- ---- what was learned isn't told
 

@@ -3,7 +3,8 @@ use Rattle.std.proofs.Common.{◌≡◌, ℕ, zero, suc, eqb, Bool, true, false,
 use Rattle.std.specs.Prelude.{filter, filter_map, is_none, slice_get}
 use Rattle.std.specs.List.{list_any}
 use Rattle.std.specs.Option.{option_or}
-use Rattle.std.proofs.lemmas.Bool.{eqb-true}
+use Rattle.std.proofs.lemmas.Bool.{eqb-true, or_right}
+use Rattle.qz_lemmas.proofs.Bools.{and-left, and-right}
 use Rattle.qz_grading.specs.declared.question.Question.{Question}
 use Rattle.qz_terms.specs.declared.plan.Bound.{Bound}
 use Rattle.qz_terms.specs.declared.record.Learned.{Learned}
@@ -12,7 +13,6 @@ use Rattle.qz_terms.specs.Legal.{LearnsNew, same_pair, version_of_bound, version
 use Rattle.qz_terms.specs.Lists.{first_of, once}
 use Rattle.qz_terms.specs.History.{learned_by, learned_version, learns, version}
 use Rattle.qz_terms.proofs.Walks.{first_of-push}
-use Rattle.qz_isolation.proofs.Own.{and-left, and-right}
 
 any-kept-step : {A : Type 0} (p f : A → Bool) (x : A) (xs : List A) (b c : Bool) → p x ≡ b → f x ≡ c → (b ≡ true → c ≡ true) → list_any p (x ∷ xs) ≡ true → (list_any p xs ≡ true → list_any p (filter f xs) ≡ true) → list_any p (filter f (x ∷ xs)) ≡ true
 any-kept-step p f x xs true true is passes both any later = rw passes (rw is refl)
@@ -47,17 +47,13 @@ any-once : (v : ℕ × ℕ) (xs : List (ℕ × ℕ)) → list_any (same_pair v) 
 any-once v [] any = absurd cc
 any-once v (x ∷ xs) any = any-once-step v x xs (same_pair v x) refl any (any-once v xs)
 
-or-true : (b c : Bool) → c ≡ true → b || c ≡ true
-or-true true c is = refl
-or-true false c is = is
-
 any-bound : (bs : List Bound) (n : ℕ) (b : Bound) → slice_get bs n ≡ Some b → list_any (same_pair (version_of_bound b)) (map version_of_bound bs) ≡ true
 any-bound [] n b is = absurd cc
 any-bound (d ∷ bs) zero b is =
     let same : d ≡ b = cc in
     let again : same_pair (version_of_bound b) (version_of_bound d) ≡ true = pair-again (version_of_bound b) (version_of_bound d) (ap (λ (x : Bound). x.entry) (sym same), ap (λ (x : Bound). x.version) (sym same)) in
     rw again refl
-any-bound (d ∷ bs) (suc n) b is = or-true (same_pair (version_of_bound b) (version_of_bound d)) _ (any-bound bs n b is)
+any-bound (d ∷ bs) (suc n) b is = or_right (same_pair (version_of_bound b) (version_of_bound d)) _ (any-bound bs n b is)
 
 abbrev pub Told : Option Question → Type 0
 Told o = (q : Question) × (o ≡ Some q)

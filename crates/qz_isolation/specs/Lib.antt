@@ -1,3 +1,2 @@
 pub mod Isolation
 pub mod Asked
-pub mod Examples

@@ -9,6 +9,3 @@ mod reading;
 
 pub use fault::JournalFault;
 pub use journal::Journal;
-
-#[cfg(test)]
-mod tests;

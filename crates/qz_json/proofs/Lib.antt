@@ -2,4 +2,3 @@ mod ReplyLemmas
 mod WordLemmas
 mod ArgumentLemmas
 mod BodyLemmas
-mod LineLemmas

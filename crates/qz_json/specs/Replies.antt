@@ -5,7 +5,8 @@ use Rattle.serde_json.specs.View.{items_of}
 use Rattle.serde_json.specs.Written.{compact_text}
 use Rattle.qz_terms.specs.declared.reply.Reply.{Reply}
 use Rattle.qz_terms.specs.declared.reply.Reply.TheVariants as reply
-use Rattle.qz_json.specs.Said.{done_list, refusal_number, refusal_list}
+use Rattle.qz_wire.specs.Refusals.{refusal_list, refusal_number}
+use Rattle.qz_replies.specs.Said.{done_list}
 
 -- the list of these texts
 abbrev pub texts : List (List ℕ) → Data

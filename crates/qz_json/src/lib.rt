@@ -4,10 +4,6 @@
 mod arguments;
 mod bodies;
 mod replies;
-mod said;
 
 pub use bodies::ask_of_json;
 pub use replies::json_of;
-
-#[cfg(test)]
-mod tests;

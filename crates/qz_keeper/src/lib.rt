@@ -9,6 +9,3 @@ mod refusals;
 pub use record_keeper::RecordKeeper;
 pub use recorder::{Recorder, Unrecorded};
 pub use refusals::{refusal_of, reply_of};
-
-#[cfg(test)]
-mod tests;

@@ -79,7 +79,7 @@ struct GateCall {
 pub struct Gates {
     waits: Option<GateCall>,
     opens: Option<GateCall>,
-    pub(crate) looks: u32,
+    looks: u32,
     calls: u64,
     ran_out: bool,
 }
@@ -112,8 +112,15 @@ impl Gates {
         }
     }
 
+    /// The call that waits looks this often at most.
+    pub fn looking(self, looks: u32) -> Gates
+        ensures { result ≡ self }
+    {
+        Gates { looks, ..self }
+    }
+
     /// The call of this number waits: before it does anything else it looks at the gate until that is open,
-    /// 100,000,000 times at most.
+    /// 100,000,000 times at most where nothing else was said.
     pub fn waiting(self, call: u64, gate: Gate) -> Gates
         ensures { result ≡ record self { waits = Some call } }
     {

@@ -24,6 +24,3 @@ pub use memory_link::MemoryLink;
 pub use send::send_all;
 pub use std_clock::StdClock;
 pub use tcp::{BindFault, TcpDoor, TcpLink};
-
-#[cfg(test)]
-mod tests;

@@ -11,6 +11,3 @@ pub use live::{Begun, Ending, Live};
 pub use lives::Lives;
 pub use prepared::Prepared;
 pub use versions::Versions;
-
-#[cfg(test)]
-mod tests;

@@ -14,6 +14,3 @@ pub use closing::close;
 pub use fault::LoadFault;
 pub use loading::load;
 pub use opening::{Loaded, open_catalog, open_part};
-
-#[cfg(test)]
-mod tests;

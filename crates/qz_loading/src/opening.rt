@@ -9,7 +9,7 @@ ghost use Rattle.qz_loading.specs.declared.fault.LoadFault.TheVariants.{Fault};
 ghost use Rattle.qz_loading.specs.Opening.{IsCatalogOf, IsPartOf};
 ghost use Rattle.qz_loading.specs.Places.{StaysLike, catalog_place, part_place};
 ghost use Rattle.qz_loading.specs.Reading.{IsCatalogFault, IsCatalogRefused, IsPartFault, IsPartRefused};
-ghost use Rattle.qz_shard.specs.Holdings.{is_shard};
+ghost use Rattle.qz_book.specs.Held.{is_shard};
 ghost use Rattle.qz_shard.specs.Keeping as part;
 ghost use Rattle.qz_shard.specs.Loads.{IsListFault};
 

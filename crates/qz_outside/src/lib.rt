@@ -23,6 +23,3 @@ pub use source::Source;
 pub use std_sink::StdSink;
 pub use std_source::StdSource;
 pub use write::write_all;
-
-#[cfg(test)]
-mod tests;

@@ -2,13 +2,13 @@
 use Rattle.std.specs.Prelude.{ℕ, Bool, true, false, List, [], ◌∷◌, ◌++◌, Option, Some, None, if◌then◌else◌, map, flat_map, codes}
 use Rattle.qz_text.specs.Html.{html_of}
 use Rattle.qz_grading.specs.declared.refusal.AttemptId.{AttemptId}
-use Rattle.qz_grading.specs.Words.{mark_text, state_word}
+use Rattle.qz_grading.specs.Words.{attempt_word, mark_text, state_word}
 use Rattle.qz_terms.specs.declared.reply.Done.{Done}
 use Rattle.qz_terms.specs.declared.reply.Done.TheVariants as done
 use Rattle.qz_terms.specs.declared.reply.Part.{Part}
 use Rattle.qz_terms.specs.Parts.{nonempty, shows_feedback}
 use Rattle.qz_pages.specs.Dates.{due_text}
-use Rattle.qz_pages.specs.Shown.{attempt_word, shown_words}
+use Rattle.qz_pages.specs.Shown.{shown_words}
 
 -- what stands between the tags of a paragraph
 abbrev pub paragraph : List ℕ → List ℕ

@@ -1,6 +1,5 @@
 -- How what is shown is spelled.
-use Rattle.std.specs.Prelude.{ℕ, List, ◌++◌, Option, Some, None, ℤ, codes, decimal}
-use Rattle.qz_grading.specs.declared.refusal.AttemptId.{AttemptId}
+use Rattle.std.specs.Prelude.{ℕ, List, Option, Some, None, ℤ, codes}
 use Rattle.qz_grading.specs.Words.{grade_text}
 use Rattle.qz_terms.specs.declared.reply.Shown.{Shown}
 use Rattle.qz_terms.specs.declared.reply.Shown.TheVariants as shown
@@ -10,10 +9,6 @@ abbrev pub shown_words : {A : Type 0} → (A → List ℕ) → Shown A → List 
 shown_words spelling shown.None = codes "-"
 shown_words spelling shown.Hidden = codes "hidden"
 shown_words spelling (shown.Value x) = spelling x
-
--- `USER.NTH`
-abbrev pub attempt_word : AttemptId → List ℕ
-attempt_word a = decimal a.user ++ (codes "." ++ decimal a.nth)
 
 abbrev pub grade_or : List ℕ → Option ℤ → List ℕ
 grade_or nothing None = nothing

@@ -11,8 +11,5 @@ mod tables;
 pub use dates::civil;
 pub use pages::page;
 pub use reports::report_text;
-pub use shown::{attempt_onto, mark_onto};
+pub use shown::mark_onto;
 pub use tables::report_csv;
-
-#[cfg(test)]
-mod tests;

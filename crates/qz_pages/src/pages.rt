@@ -6,8 +6,8 @@ ghost use Rattle.qz_text.specs.Html.{html_of};
 ghost use Rattle.qz_pages.specs.Pages.{due_line, ended, feedback_html, feedbacks_html, heading_line, hint_html, is_page, page_text, slot_line, slot_lines, standing_html, title_line};
 
 use crate::dates::due_onto;
-use crate::shown::{attempt_onto, mark_onto};
-use qz_grading::{AttemptId, State};
+use crate::shown::mark_onto;
+use qz_grading::{AttemptId, State, attempt_onto};
 use qz_terms::{Done, Part};
 use qz_text::{NoMemory, Text, escape};
 use std::alloc::Global;

@@ -1,11 +1,11 @@
-//! How marks and attempts are spelled where they are shown.
+//! How marks are spelled where they are shown.
 
 ghost use Rattle.std.specs.Prelude.{◌≡◌, ◌++◌, OnOk, string_bytes};
 ghost use Rattle.qz_grading.specs.Words.{mark_text};
-ghost use Rattle.qz_pages.specs.Shown.{attempt_word, shown_words};
+ghost use Rattle.qz_pages.specs.Shown.{shown_words};
 
 use qz_decimal::Mark;
-use qz_grading::{AttemptId, Spelled};
+use qz_grading::Spelled;
 use qz_terms::Shown;
 use qz_text::NoMemory;
 
@@ -18,14 +18,4 @@ pub fn mark_onto(out: &mut String, mark: Shown<Mark>) -> Result<(), NoMemory>
         Shown::Hidden => Ok(out.push_str("hidden")?),
         Shown::Value(mark) => mark.spell_onto(out),
     }
-}
-
-/// An attempt as `USER.NTH`.
-pub fn attempt_onto(out: &mut String, attempt: AttemptId) -> Result<(), NoMemory>
-    ensures { OnOk result (string_bytes out.new ≡ string_bytes out.old ++ attempt_word attempt) }
-{
-    let user = attempt.user;
-    let nth = attempt.nth;
-    write!(out, "{user}.{nth}")?;
-    Ok(())
 }

@@ -20,6 +20,3 @@ mod writing;
 pub use fault::RecordFault;
 pub use list_fault::ListFault;
 pub use record::{parse, spell};
-
-#[cfg(test)]
-mod tests;

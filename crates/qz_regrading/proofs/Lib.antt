@@ -2,4 +2,3 @@ pub mod Following
 pub mod Keeping
 pub mod Meeting
 pub mod Telling
-pub mod Examples

@@ -1,4 +1,3 @@
 pub mod Workers
 pub mod Passes
 pub mod Loops
-pub mod ExamplesSchool

@@ -13,6 +13,3 @@ mod worker;
 pub use ends::LoopEnd;
 pub use pass::regrade_loop;
 pub use stop::Stop;
-
-#[cfg(test)]
-mod tests;

@@ -17,7 +17,7 @@ use Rattle.qz_grading.specs.Words.{state_word, mark_or_dash}
 use Rattle.qz_replay.specs.declared.asked.Asked.{Asked}
 use Rattle.qz_replay.specs.declared.asked.Asked.TheVariants as asked
 use Rattle.qz_replay.specs.declared.slot.Slot.{Slot}
-use Rattle.qz_wire.specs.Replies.{refused_words}
+use Rattle.qz_wire.specs.Refusals.{refused_words}
 
 -- a slot, and the steps taken on it
 pub record Play : Type 0 where

@@ -10,6 +10,3 @@ mod saying;
 mod slot;
 
 pub use replaying::replay;
-
-#[cfg(test)]
-mod tests;

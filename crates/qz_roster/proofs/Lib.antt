@@ -5,7 +5,6 @@ pub mod PeopleLemmas
 pub mod QuizLemmas
 pub mod NextLemmas
 pub mod CountLemmas
-pub mod Filled
 pub mod MemberLemmas
 pub mod OverrideCounts
 pub mod OverrideLemmas

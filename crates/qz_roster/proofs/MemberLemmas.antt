@@ -9,8 +9,8 @@ use Rattle.qz_terms.specs.declared.request.Request.TheVariants as request
 use Rattle.qz_terms.specs.Catalog.{asked, is_member, joins_by}
 use Rattle.qz_roster.specs.declared.members.Members.{Members}
 use Rattle.qz_roster.specs.Members.{AreMembers, joined}
-use Rattle.qz_roster.specs.Pairs.{pair_cmp}
-use Rattle.qz_roster.proofs.Filled.{filled}
+use Rattle.qz_room.specs.Pairs.{pair_cmp}
+use Rattle.qz_room.proofs.Filled.{filled_pair}
 use Rattle.qz_roster.proofs.Reading.{some-same}
 
 or-false : (a b : Bool) → (a || (b || false)) ≡ (if b then true else a)
@@ -30,7 +30,7 @@ joins-told None g u m is = absurd cc
 pub members-kept : (c : List Record) (r : Record) (old new : Members) (m : ℕ × ℕ) → AreMembers c old → joined (asked r) ≡ Some m → Updates pair_cmp old.joined new.joined m (Some true) → AreMembers (c ++ r ∷ []) new
 members-kept c r old new m are told u = record {
   each = λ g n.
-      filled old.joined new.joined m true false (g, n) u
+      filled_pair old.joined new.joined m true false (g, n) u
       ∙ ap (λ (b : Bool). if (m.0 == g) && (m.1 == n) then true else b) (are.each g n)
       ∙ sym (is_member-push c r g n ∙ ap (λ (b : Bool). if b then true else is_member c g n) (joins-told (asked r) g n m told));
 }

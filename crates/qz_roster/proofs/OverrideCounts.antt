@@ -4,8 +4,8 @@ use Rattle.std.specs.Int.{from_bool}
 use Rattle.std.specs.List.{last_or, list_all, list_any}
 use Rattle.std.specs.Prelude.{◌==◌, filter_map, if◌then◌else◌, is_some, nat_lt, option_to_list}
 use Rattle.std.proofs.lemmas.Bool.{and_parts, eq-eqb, eqb-false, eqb-true, lt-ltb, ltb-false, ltb-true}
-use Rattle.std.proofs.lemmas.Bool.Decides.{nat_tests}
 use Rattle.std.proofs.lemmas.List.Folds.{list_any-append}
+use Rattle.qz_lemmas.proofs.Numbers.{number-turned}
 use Rattle.qz_terms.specs.declared.access.Override.{Override}
 use Rattle.qz_terms.specs.declared.record.Record.{Record}
 use Rattle.qz_terms.specs.declared.request.Request.{Request}
@@ -270,9 +270,6 @@ is_for_by t (Some u) = same_target t u
 abbrev targets : List Record → List Target
 targets c = filter_map (λ r. overridden (asked r)) c
 
-same-turned : (a b : ℕ) → (a == b) ≡ (b == a)
-same-turned a b = grind (arith, nat_tests)
-
 some-if : {A : Type 0} (b : Bool) (x : A) → is_some (if b then Some x else None) ≡ b
 some-if true x = refl
 some-if false x = refl
@@ -281,8 +278,8 @@ some-if false x = refl
 told-parts : (quiz q number n : ℕ) (k : Bool) (set : Override) → is_some (if (quiz == q) && (k && (number == n)) then Some set else None) ≡ ((q == quiz) && (k && (n == number)))
 told-parts quiz q number n k set =
     some-if ((quiz == q) && (k && (number == n))) set
-    ∙ ap (λ (b : Bool). b && (k && (number == n))) (same-turned quiz q)
-    ∙ ap (λ (b : Bool). (q == quiz) && (k && b)) (same-turned number n)
+    ∙ ap (λ (b : Bool). b && (k && (number == n))) (number-turned quiz q)
+    ∙ ap (λ (b : Bool). (q == quiz) && (k && b)) (number-turned number n)
 
 told-for : (o : Option Request) (q : ℕ) (w : Whom) (n : ℕ) → is_some (override_by q w n o) ≡ is_for_by (target q w n) (overridden o)
 told-for (Some (request.Override quiz whom.User number opens closes limit allowed)) q whom.User n = told-parts quiz q number n true (record { opens = opens; closes = closes; limit = limit; allowed = allowed })

@@ -15,8 +15,8 @@ use Rattle.qz_terms.proofs.Walks.{last_of-push}
 use Rattle.qz_roster.specs.declared.overrides.Overrides.{Overrides}
 use Rattle.qz_roster.specs.declared.told.Target.{Target}
 use Rattle.qz_roster.specs.Overrides.{AreOverrides, set_in, set_otherwise}
-use Rattle.qz_roster.specs.Pairs.{pair_cmp}
-use Rattle.qz_roster.proofs.Filled.{filled}
+use Rattle.qz_room.specs.Pairs.{pair_cmp}
+use Rattle.qz_room.proofs.Filled.{filled_pair}
 use Rattle.qz_roster.proofs.OverrideCounts.{override_count-more, override_count-same}
 use Rattle.qz_roster.proofs.Reading.{some-same}
 
@@ -60,7 +60,7 @@ pub user-set : (old new : Overrides) (t : Target) (set : Override) → t.whom �
 user-set old new t set is u same = record { each = λ q w n. by q w n ∙ ap (λ (v : Whom). if (t.quiz == q) && (same_whom v w && (t.number == n)) then Some set else set_in old q w n) (sym is) }
   where
     by : (q : ℕ) (w : Whom) (n : ℕ) → set_in new q w n ≡ (if (t.quiz == q) && (same_whom whom.User w && (t.number == n)) then Some set else set_in old q w n)
-    by q whom.User n = filled old.users new.users (t.quiz, t.number) (Some set) None (q, n) u
+    by q whom.User n = filled_pair old.users new.users (t.quiz, t.number) (Some set) None (q, n) u
     by q whom.Group n = ap (λ (m : BTreeMap (ℕ × ℕ) (Option Override)). unwrap_or (get pair_cmp m (q, n)) None) same ∙ sym (none-other (t.quiz == q) (t.number == n) (Some set) (set_in old q whom.Group n))
 
 pub group-set : (old new : Overrides) (t : Target) (set : Override) → t.whom ≡ whom.Group → Updates pair_cmp old.groups new.groups (t.quiz, t.number) (Some (Some set)) → new.users ≡ old.users → IsSet old new t set
@@ -68,7 +68,7 @@ group-set old new t set is u same = record { each = λ q w n. by q w n ∙ ap (�
   where
     by : (q : ℕ) (w : Whom) (n : ℕ) → set_in new q w n ≡ (if (t.quiz == q) && (same_whom whom.Group w && (t.number == n)) then Some set else set_in old q w n)
     by q whom.User n = ap (λ (m : BTreeMap (ℕ × ℕ) (Option Override)). unwrap_or (get pair_cmp m (q, n)) None) same ∙ sym (none-other (t.quiz == q) (t.number == n) (Some set) (set_in old q whom.User n))
-    by q whom.Group n = filled old.groups new.groups (t.quiz, t.number) (Some set) None (q, n) u
+    by q whom.Group n = filled_pair old.groups new.groups (t.quiz, t.number) (Some set) None (q, n) u
 
 either : (b : Bool) (set : Override) (o : Option Override) → (if b then Some set else o) ≡ option_or (if b then Some set else None) o
 either true set o = refl

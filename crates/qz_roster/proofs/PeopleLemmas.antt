@@ -11,6 +11,7 @@ use Rattle.std.specs.Prelude.{◌==◌, ◌&&◌, bytes_eq, filter_map, if◌the
 use Rattle.std.proofs.Math.ListN.{set}
 use Rattle.std.proofs.lemmas.List.Quantifiers.{position-Some}
 use Rattle.std.proofs.lemmas.Option.{get_or_from_slice_get, slice_get_cases}
+use Rattle.qz_lemmas.proofs.Lists.{get-kept, position-push}
 use Rattle.qz_grading.specs.Grading.{at_place}
 use Rattle.qz_grading.proofs.StepLemmas.{slice_get-push}
 use Rattle.qz_terms.specs.declared.people.Role.{Role}
@@ -24,7 +25,7 @@ use Rattle.qz_roster.specs.declared.people.Owner.{Owner}
 use Rattle.qz_roster.specs.declared.people.People.{People}
 use Rattle.qz_roster.specs.People.{ArePeopleOf, asked_key, is_asked_with, key_at, key_told, owner_of, owner_told, role_of, role_told, user_at}
 use Rattle.qz_roster.specs.Texts.{value_at}
-use Rattle.qz_roster.proofs.Reading.{get-kept, position-push, set-told, user_of_token-push}
+use Rattle.qz_roster.proofs.Reading.{set-told, user_of_token-push}
 use Rattle.qz_roster.proofs.QuizLemmas.{at-map}
 use Rattle.qz_roster.proofs.Telling.{at-more, count-more}
 

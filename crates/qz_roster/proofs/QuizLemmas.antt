@@ -6,6 +6,8 @@ use Rattle.std.proofs.Math.ListN.{set}
 use Rattle.std.proofs.lemmas.Bool.{and_parts, eq-eqb, eqb-true, leb-true}
 use Rattle.std.proofs.lemmas.List.{length-map, map-append}
 use Rattle.std.proofs.lemmas.Option.{slice_get_within}
+use Rattle.qz_lemmas.proofs.Lists.{get-kept, position-push}
+use Rattle.qz_lemmas.proofs.Options.{or-none}
 use Rattle.qz_grading.proofs.StepLemmas.{slice_get-push}
 use Rattle.qz_grading.specs.declared.outcome.Behaviour.{Behaviour}
 use Rattle.qz_grading.specs.Grading.{at_place, is_place}
@@ -18,8 +20,7 @@ use Rattle.qz_roster.specs.declared.quizzes.Quiz.{Quiz}
 use Rattle.qz_roster.specs.declared.quizzes.Quizzes.{Quizzes}
 use Rattle.qz_roster.specs.declared.quizzes.Slot.{Slot}
 use Rattle.qz_roster.specs.Quizzes.{AreQuizzesOf, IsTold, TellsMore, Told, anew_at, has_its_slot, made, made_at, places, quiz_at, quiz_told, slot_room, told, told_at, untold}
-use Rattle.qz_roster.proofs.Reading.{at-item, at-set, get-kept, position-push, set-read, some-same}
-use Rattle.qz_roster.proofs.TextLemmas.{or-none}
+use Rattle.qz_roster.proofs.Reading.{at-item, at-set, set-read, some-same}
 
 -- ---- a new max mark
 

@@ -1,14 +1,14 @@
 -- What is read of a list with one record more.
 use Rattle.std.proofs.Common.{◌≡◌, ℕ, zero, suc, ◌+◌, ◌-◌, ◌<◌, ◌≤◌, Bool, true, false, List, [], ◌∷◌, ◌++◌, Option, Some, None, option_map, length, get_or, map, refl, sym, ap, ◌∙◌, arith}
-use Rattle.std.specs.List.{enumerate_from, position_from}
+use Rattle.std.specs.List.{enumerate_from}
 use Rattle.std.specs.Option.{option_or}
-use Rattle.std.specs.Prelude.{◌==◌, filter, filter_map, if◌then◌else◌, option_and_then, option_to_list, position, slice_get}
-use Rattle.std.proofs.lemmas.Iterator.Adapters.{position_from-zero}
+use Rattle.std.specs.Prelude.{◌==◌, filter, filter_map, if◌then◌else◌, option_and_then, option_to_list, slice_get}
 use Rattle.std.proofs.lemmas.List.{length-map}
 use Rattle.std.proofs.lemmas.List.FromFn.{length-enumerate_from}
 use Rattle.std.proofs.Math.ListN.{set}
 use Rattle.std.proofs.lemmas.Bool.{eqb-false, eqb-true}
 use Rattle.std.proofs.lemmas.Option.{slice_get-get_or}
+use Rattle.qz_lemmas.proofs.Options.{or-none}
 use Rattle.qz_grading.specs.Grading.{at_place}
 use Rattle.qz_terms.specs.declared.people.User.{User}
 use Rattle.qz_terms.specs.declared.record.Record.{Record}
@@ -16,38 +16,10 @@ use Rattle.qz_terms.specs.Catalog.{Person, has_token, made_user, user_of_token, 
 use Rattle.qz_terms.specs.Lists.{first_of, only_if}
 use Rattle.qz_terms.proofs.Walks.{all_of-push}
 use Rattle.qz_roster.proofs.Telling.{first-more, numbered-more}
-use Rattle.qz_roster.proofs.TextLemmas.{or-none}
 
 -- ---- the first that passes
 
-position_from-push : {A : Type 0} (p : A → Bool) (i : ℕ) (xs : List A) (x : A) → position_from p i (xs ++ x ∷ []) ≡ option_or (position_from p i xs) (if p x then Some (i + length xs) else None)
-position_from-push p i [] x = alone p i x (p x) refl
-  where
-    alone : {A : Type 0} (p : A → Bool) (i : ℕ) (x : A) (b : Bool) → p x ≡ b → position_from p i (x ∷ []) ≡ (if p x then Some (i + 0) else None)
-    alone p i x true is = rw is (ap Some (let same : i ≡ i + 0 = omega arith in same))
-    alone p i x false is = rw is refl
-position_from-push p i (y ∷ xs) x = step p i y xs x (p y) refl (position_from-push p (i + 1) xs x)
-  where
-    step : {A : Type 0} (p : A → Bool) (i : ℕ) (y : A) (xs : List A) (x : A) (b : Bool) → p y ≡ b → position_from p (i + 1) (xs ++ x ∷ []) ≡ option_or (position_from p (i + 1) xs) (if p x then Some (i + 1 + length xs) else None)
-        → position_from p i ((y ∷ xs) ++ x ∷ []) ≡ option_or (position_from p i (y ∷ xs)) (if p x then Some (i + length (y ∷ xs)) else None)
-    step p i y xs x true is rest = rw is refl
-    step p i y xs x false is rest =
-        let long : i + 1 + length xs ≡ i + suc (length xs) = omega arith in
-        rw is (rest ∙ ap (λ n. option_or (position_from p (i + 1) xs) (if p x then Some n else None)) long)
-
-pub position-push : {A : Type 0} (p : A → Bool) (xs : List A) (x : A) → position p (xs ++ x ∷ []) ≡ option_or (position p xs) (if p x then Some (length xs) else None)
-position-push p xs x =
-    let place : 0 + length xs ≡ length xs = omega arith in
-    position_from-zero p (xs ++ x ∷ []) ∙ position_from-push p 0 xs x
-    ∙ ap (λ n. option_or (position_from p 0 xs) (if p x then Some n else None)) place
-    ∙ ap (λ (o : Option ℕ). option_or o (if p x then Some (length xs) else None)) (sym (position_from-zero p xs))
-
 -- ---- what stands at a place
-
-pub get-kept : {A : Type 0} (xs : List A) (x : A) (n : ℕ) → n < length xs → slice_get (xs ++ x ∷ []) n ≡ slice_get xs n
-get-kept [] x n inside = absurd (omega arith)
-get-kept (y ∷ xs) x zero inside = refl
-get-kept (y ∷ xs) x (suc n) inside = get-kept xs x n (let within : suc n < suc (length xs) = inside in omega arith)
 
 get-set_same : {A : Type 0} (xs : List A) (i : ℕ) (y : A) → i < length xs → slice_get (set xs i y) i ≡ Some y
 get-set_same [] i y inside = absurd (omega arith)

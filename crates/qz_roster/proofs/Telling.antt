@@ -9,6 +9,7 @@ use Rattle.std.proofs.lemmas.Bool.{eqb-true, eqb-false}
 use Rattle.std.proofs.lemmas.Bool.Decides.{nat_tests}
 use Rattle.std.proofs.lemmas.List.{length-take-le, take_all}
 use Rattle.std.proofs.lemmas.Option.{slice_get_past, slice_get_cases}
+use Rattle.qz_lemmas.proofs.Options.{or-none}
 use Rattle.qz_grading.specs.Grading.{at_place, is_place}
 use Rattle.qz_grading.specs.declared.refusal.Refusal.{Refusal}
 use Rattle.qz_grading.specs.Behaviours.{when}
@@ -54,10 +55,6 @@ first-more p [] (Some x) = first-alone p x (p x) refl
 first-more p (y ∷ xs) o = first-more-step p y xs o (p y) refl (first-more p xs o)
 
 -- ---- by number
-
-or-none : {A : Type 0} (o : Option A) → option_or o None ≡ o
-or-none None = refl
-or-none (Some x) = refl
 
 get-end : {A : Type 0} (xs : List A) (x : A) (n : ℕ) → slice_get (xs ++ x ∷ []) n ≡ option_or (slice_get xs n) (if length xs == n then Some x else None)
 get-end [] x zero = refl

@@ -1,16 +1,9 @@
 -- One text that has room, or a value, more.
 use Rattle.std.proofs.Common.{◌≡◌, ℕ, Bool, true, false, List, Option, Some, None, cond, refl, sym, ap, ◌∙◌}
 use Rattle.std.specs.Option.{option_or}
-use Rattle.std.specs.Prelude.{bytes_eq, if◌then◌else◌, is_some, option_and_then}
+use Rattle.std.specs.Prelude.{bytes_eq, if◌then◌else◌, option_and_then}
 use Rattle.std.proofs.lemmas.Slice.Eq.{bytes_eq-Decides}
-
-pub none-by : {A : Type 0} (o : Option A) → is_some o ≡ false → o ≡ None
-none-by None is = refl
-none-by (Some x) is = absurd cc
-
-pub or-none : {A : Type 0} (o : Option A) → option_or o None ≡ o
-or-none None = refl
-or-none (Some x) = refl
+use Rattle.qz_lemmas.proofs.Options.{or-none}
 
 -- room at a text that isn't there changes no value
 pub room-kept : {V : Type 0} (f : List ℕ → Option (Option V)) (bs t : List ℕ) (b : Bool) → bytes_eq bs t ≡ b → f bs ≡ None → option_and_then (λ (v : Option V). v) (cond b (Some None) (f t)) ≡ option_and_then (λ (v : Option V). v) (f t)

@@ -3,7 +3,6 @@ pub mod Texts
 pub mod People
 pub mod Quizzes
 pub mod Counts
-pub mod Pairs
 pub mod Members
 pub mod Overrides
 pub mod Roster

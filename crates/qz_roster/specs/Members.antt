@@ -6,7 +6,7 @@ use Rattle.qz_terms.specs.declared.request.Request.{Request}
 use Rattle.qz_terms.specs.declared.request.Request.TheVariants as request
 use Rattle.qz_terms.specs.Catalog.{is_member}
 use Rattle.qz_roster.specs.declared.members.Members.{Members}
-use Rattle.qz_roster.specs.Pairs.{pair_cmp}
+use Rattle.qz_room.specs.Pairs.{pair_cmp}
 
 abbrev pub is_joined : Members → ℕ → ℕ → Bool
 is_joined m group user = unwrap_or (get pair_cmp m.joined (group, user)) false

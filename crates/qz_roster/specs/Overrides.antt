@@ -11,7 +11,7 @@ use Rattle.qz_terms.specs.Catalog.{override}
 use Rattle.qz_terms.specs.Cause.{override_count}
 use Rattle.qz_roster.specs.declared.overrides.Overrides.{Overrides}
 use Rattle.qz_roster.specs.declared.told.Target.{Target}
-use Rattle.qz_roster.specs.Pairs.{pair_cmp}
+use Rattle.qz_room.specs.Pairs.{pair_cmp}
 
 -- of users, or of groups
 abbrev pub of_whom : Overrides → Whom → BTreeMap (ℕ × ℕ) (Option Override)

@@ -6,7 +6,6 @@ mod members;
 mod overrides;
 mod people;
 mod quizzes;
-mod room;
 mod roster;
 mod texts;
 mod told;
@@ -18,6 +17,3 @@ pub use people::{Owner, People};
 pub use quizzes::{Quiz, Quizzes, Slot};
 pub use roster::Roster;
 pub use told::{Named, regrade_by};
-
-#[cfg(test)]
-mod tests;

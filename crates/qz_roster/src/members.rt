@@ -5,8 +5,8 @@ ghost use Rattle.qz_terms.specs.declared.record.Record.{Record};
 ghost use Rattle.qz_terms.specs.Catalog.{asked, is_member};
 ghost use Rattle.qz_roster.specs.Members.{AreMembers, HasMemberRoom, is_joined};
 
-use crate::room::{fill, make};
 use crate::told::joined;
+use qz_room::{fill, make};
 use qz_terms::Record;
 use qz_text::NoMemory;
 use std::alloc::Global;

@@ -7,8 +7,8 @@ ghost use Rattle.qz_terms.specs.Catalog.{asked, «override»};
 ghost use Rattle.qz_terms.specs.Cause.{override_count};
 ghost use Rattle.qz_roster.specs.Overrides.{AreOverrides, HasOverrideRoom, set_in};
 
-use crate::room::{fill, make};
 use crate::told::set_otherwise;
+use qz_room::{fill, make};
 use qz_terms::{Override, Record, Whom};
 use qz_text::NoMemory;
 use std::alloc::Global;

@@ -27,7 +27,7 @@ use Rattle.qz_terms.specs.History as history
 use Rattle.qz_terms.specs.Legal.{Agrees, AllAgree, EventAgrees, IsLegal, IsLegalCatalog, JobAgrees, LearnsFrom}
 use Rattle.qz_catalog.proofs.Accepted.{accepted}
 use Rattle.qz_catalog.proofs.Staying.{front-legal}
-use Rattle.qz_shard.proofs.TargetLemmas.{left}
+use Rattle.qz_book.proofs.TargetLemmas.{left}
 use Rattle.qz_school.specs.Working.{GoesOnWorking}
 use Rattle.qz_school.proofs.Agreeing.{all-push, job-within}
 use Rattle.qz_school.proofs.AlikeInSchool.{front-stays, version-agrees}

@@ -30,7 +30,7 @@ use Rattle.qz_terms.specs.Lists.{first_of}
 use Rattle.qz_terms.specs.History.{attempts, floor, start, time}
 use Rattle.qz_shard.specs.Holdings.{older}
 use Rattle.qz_lives.proofs.Keeping.{start-here}
-use Rattle.qz_shard.proofs.Learning.{learns-new}
+use Rattle.qz_legal.proofs.Learning.{learns-new}
 use Rattle.qz_terms.proofs.Standing.{free-by, never-granted, none-passes, unmapped}
 use Rattle.qz_lives.proofs.Legality.{IsFree}
 

@@ -32,7 +32,7 @@ use Rattle.qz_shard.specs.declared.decision.Decision.TheVariants as decision
 use Rattle.qz_shard.specs.declared.working.Work.TheVariants as work
 use Rattle.qz_shard.specs.Decisions.{IsDecision}
 use Rattle.qz_shard.specs.Gradings.{most_gradings, most_of_work}
-use Rattle.qz_shard.specs.Nexts.{IsPutWith, record_by}
+use Rattle.qz_shard.specs.Puts.{IsPutWith, record_by}
 use Rattle.qz_shard.specs.Works.{IsWork}
 use Rattle.qz_lives.proofs.Legality.{told_event, told-pair}
 

@@ -16,9 +16,10 @@ use Rattle.qz_terms.specs.Answer.{answer_here, list_after, work_after, work_answ
 use Rattle.qz_terms.specs.Legal.{IsLegal}
 use Rattle.qz_terms.specs.Serial.{Held, stays}
 use Rattle.qz_shard.specs.Answering.{IsAnswered, IsPosed}
-use Rattle.qz_shard.specs.Holdings.{Holding, IsHeld}
+use Rattle.qz_shard.specs.Holdings.{Holding}
+use Rattle.qz_book.specs.Held.{IsHeld}
 use Rattle.qz_shard.specs.Keeping.{CountsFew, IsTold}
-use Rattle.qz_shard.specs.Nexts.{IsNext}
+use Rattle.qz_book.specs.Nexts.{IsNext}
 use Rattle.qz_shard.specs.Works.{IsWorked}
 use Rattle.qz_shard.proofs.Alone.{answered_alone}
 use Rattle.qz_lives.proofs.Legality.{legal-push}

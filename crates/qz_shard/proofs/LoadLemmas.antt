@@ -10,10 +10,11 @@ use Rattle.qz_terms.specs.Legal.{IsAllowed, IsLegal}
 use Rattle.qz_terms.specs.Spelling.{spelling}
 use Rattle.qz_terms.proofs.Walks.{take-one_more}
 use Rattle.qz_record.specs.Records.{IsRecord}
-use Rattle.qz_shard.specs.Holdings.{Holding, IsHeld, is_shard}
+use Rattle.qz_shard.specs.Holdings.{Holding}
+use Rattle.qz_book.specs.Held.{IsHeld, is_shard}
 use Rattle.qz_shard.specs.Loads.{IsFirstIllegal, IsLoaded, IsNoneBehind, IsTaken}
-use Rattle.qz_shard.specs.Nexts.{IsNext}
-use Rattle.qz_shard.proofs.StandLemmas.{allowed-asked}
+use Rattle.qz_book.specs.Nexts.{IsNext}
+use Rattle.qz_legal.proofs.StandLemmas.{allowed-asked}
 
 -- ---- the payloads so far
 

@@ -1,10 +1,9 @@
 -- The record that a decision makes may be put next, and what is then answered.
-use Rattle.std.proofs.Common.{◌≡◌, ℕ, suc, ◌+◌, ◌-◌, ◌<◌, ◌≤◌, ◌^◌, max, Bool, true, false, List, [], ◌∷◌, ◌++◌, Option, Some, None, Result, Ok, Err, length, length-append, append-nil, map, refl, sym, ap, subst, ◌∙◌, arith, option_map, All}
-use Rattle.std.specs.Prelude.{IfOk, ◌==◌, filter_map, is_none, if◌then◌else◌, unwrap_or}
+use Rattle.std.proofs.Common.{◌≡◌, ℕ, suc, ◌+◌, ◌-◌, ◌≤◌, max, Bool, true, false, List, [], ◌∷◌, ◌++◌, Option, Some, None, Ok, length, append-nil, map, refl, sym, ap, subst, ◌∙◌, arith, option_map, All}
+use Rattle.std.specs.Prelude.{◌==◌, filter_map, is_none, if◌then◌else◌, unwrap_or}
 use Rattle.std.specs.List.{list_all, last_or}
 use Rattle.std.proofs.lemmas.Bool.{le-leb, leb-true}
-use Rattle.std.proofs.lemmas.List.Elements.{All-cons, All-filter, All-head, All-map, All-nil, All-push, All-tail}
-use Rattle.std.proofs.lemmas.List.Folds.{list_all-append}
+use Rattle.std.proofs.lemmas.List.Elements.{All-cons, All-filter, All-head, All-map, All-nil, All-tail}
 use Rattle.qz_grading.specs.declared.question.Question.{Question}
 use Rattle.qz_grading.specs.declared.refusal.AttemptId.{AttemptId}
 use Rattle.qz_grading.specs.declared.refusal.Refusal.{Refusal}
@@ -36,19 +35,21 @@ use Rattle.qz_terms.specs.Cause.{Denied, Granted, Repeated, by_key, cause_here, 
 use Rattle.qz_terms.specs.Kept.{AreLearned, AreQuestions, IsKept, IsKeptPlan, KeepsAsked, KeepsEvent, has_terms, is_bound, is_moment, is_planned, is_step}
 use Rattle.qz_terms.specs.Legal.{is_plan_for}
 use Rattle.qz_terms.specs.Lists.{once}
-use Rattle.qz_terms.specs.History.{next_attempt, owned_moment, slot_count, time}
+use Rattle.qz_terms.specs.History.{owned_moment, time}
 use Rattle.qz_terms.specs.History as history
 use Rattle.qz_terms.proofs.Standing.{free-by, never-granted}
 use Rattle.qz_terms.proofs.Walks.{last_told_in}
 use Rattle.qz_shard.specs.declared.decision.Decision.TheVariants as decision
 use Rattle.qz_shard.specs.Answering.{IsAnswered, IsPosed}
-use Rattle.qz_shard.specs.Decisions.{IsDecision, IsRepeated, IsSound}
-use Rattle.qz_shard.specs.Holdings.{Holding, IsHeld, StartsHere, is_asked, is_asked_event, is_change, older}
-use Rattle.qz_shard.specs.Nexts.{CanGrow, IsNext, IsPutWith, record_by}
+use Rattle.qz_shard.specs.Decisions.{IsDecision, IsRepeated}
+use Rattle.qz_shard.specs.Holdings.{Holding, StartsHere, is_change, older}
+use Rattle.qz_book.specs.Held.{IsHeld, is_asked_event}
+use Rattle.qz_book.specs.Nexts.{IsNext}
+use Rattle.qz_shard.specs.Puts.{IsPutWith, record_by}
 use Rattle.qz_shard.proofs.Allowing.{IsGranted, IsOn, acted, ask_of, ended, noted, first-none, made_ready, on-allowed, on-step, start-allowed}
 use Rattle.qz_lives.proofs.Keeping.{All-seam, and-left, and-right}
-use Rattle.qz_shard.proofs.Learning.{learned_all}
-use Rattle.qz_lives.proofs.Legality.{legal-push, told_event, told-pair}
+use Rattle.qz_legal.proofs.Learning.{learned_all}
+use Rattle.qz_lives.proofs.Legality.{told_event, told-pair}
 
 -- ---- what is kept of a moment
 
@@ -219,17 +220,6 @@ next-made index count h now user plan who key (request.Settle a) e change here m
     (subst (IsOn a) made (ended a (settled_by plan.settings.handling))) put m.held.kept m.moment m.plan_kept (subst KeepsEvent made tt)
 next-made index count h now user plan who key x e change here m = absurd cc
 
--- ---- the longer list, and the list before
-
-pub held-push : (index count : ℕ) (h : List Record) (r : Record) → IsHeld index count h → IsNext index count h r → length h + 1 < 2 ^ 32 - 1 → IsHeld index count (h ++ r ∷ [])
-held-push index count h r held next room = record {
-  shard = held.shard;
-  legal = legal-push index count h r held.legal next.allowed;
-  kept = All-push IsKept h r held.kept next.kept;
-  asked = list_all-append is_asked h (r ∷ []) ∙ rw (held.asked, next.asked) refl;
-  few = let long = length-append h (r ∷ []) in omega arith;
-}
-
 -- ---- the answer by the verdict
 
 pub answer-denied : (h : List Record) (now : ℕ) (user : User) (plan : Plan) (ask : Ask) (r : Refusal) → verdict_here h (moment_of h now user ask.request) user plan ask ≡ Denied r → (answer_here h now user plan ask ≡ reply.Refused r) × (list_after h now user plan ask ≡ h)
@@ -256,11 +246,6 @@ pub answer-idle : (h : List Record) (now : ℕ) (user : User) (plan : Plan) (ask
 answer-idle h now user plan ask change is none = (rw (is, none, idle-look h (moment_of h now user ask.request) user plan ask.request change) refl, rw (is, none) (append-nil h))
 
 -- ---- a request that was decided
-
--- a fact of an answer that is there
-pub if_ok-more : {A E : Type 0} (r : Result A E) (P Q : A → Type 0) → ((x : A) → P x → Q x) → IfOk r P → IfOk r Q
-if_ok-more (Ok x) P Q more p = more x p
-if_ok-more (Err e) P Q more p = tt
 
 pub repeated-answer : (h : List Record) (now moment : ℕ) (user : User) (plan : Plan) (ask : Ask) (told : Reply) → moment ≡ moment_of h now user ask.request → IsRepeated told (verdict_here h moment user plan ask) → IsAnswered h now user plan ask told h
 repeated-answer h now moment user plan ask told at repeated =
@@ -316,11 +301,3 @@ granted-answer g h new now moment user plan ask e told same at made put =
     granted-answer-here h new now user plan ask e told
     (subst (λ (t : List Record). IsDecision t (moment_of h now user ask.request) user plan ask (decision.Made e)) same (subst (λ (m : ℕ). IsDecision g m user plan ask (decision.Made e)) at_here made))
     (subst (λ (m : ℕ). IsPutWith h new (record_by m user plan ask e) told) at_here put)
-
--- the longer list is one of a shard
-pub grown-sound : (h : List Record) (made r : Record) → CanGrow h r → made ≡ r → length h + 1 < 2 ^ 32 - 1 → IsSound (h ++ made ∷ [])
-grown-sound h made r grows same room = record {
-  index = grows.index;
-  count = grows.count;
-  held = held-push grows.index grows.count h made grows.held (subst (IsNext grows.index grows.count h) (sym same) grows.next) room;
-}

@@ -29,17 +29,17 @@ use Rattle.qz_terms.specs.Kept.{IsKept}
 use Rattle.qz_terms.specs.Legal.{EventIsAllowed, IsPut}
 use Rattle.qz_terms.specs.Spelling.{spelling}
 use Rattle.qz_record.specs.Lengths.{PicksFew, StepsBriefly, TellsBriefly, is_import}
-use Rattle.qz_shard.specs.Allowed.{can_act, can_answer, can_note, can_put_under, is_further, is_in_time, is_own, is_same, slot_refusal, takes}
-use Rattle.qz_shard.specs.Decisions.{IsSound}
-use Rattle.qz_shard.specs.Holdings.{IsHeld, is_asked_event}
-use Rattle.qz_shard.specs.Nexts.{IsNext}
+use Rattle.qz_legal.specs.Allowed.{can_act, can_answer, can_note, can_put_under, is_further, is_in_time, is_own, is_same, slot_refusal, takes}
+use Rattle.qz_book.specs.Held.{IsSound}
+use Rattle.qz_book.specs.Held.{IsHeld, is_asked_event}
+use Rattle.qz_book.specs.Nexts.{IsNext}
 use Rattle.qz_grading.proofs.WeightLemmas.{few_places}
 use Rattle.qz_usage.proofs.RunLemmas.{taken}
 use Rattle.qz_lives.proofs.Keeping.{version-kept}
 use Rattle.qz_lives.proofs.Tellings.{made-of}
 use Rattle.qz_record.proofs.RecordLengths.{learned-few, record-short}
-use Rattle.qz_shard.proofs.PutTold.{none-of, not-false, put-told}
-use Rattle.qz_shard.proofs.TakeLemmas.{place-slot}
+use Rattle.qz_legal.proofs.PutTold.{none-of, not-false, put-told}
+use Rattle.qz_legal.proofs.TakeLemmas.{place-slot}
 
 -- ---- an answer that fits
 

@@ -26,15 +26,17 @@ use Rattle.qz_terms.specs.History.{is_done, learns, question, targets, time, ver
 use Rattle.qz_terms.proofs.Walks.{first_of-push}
 use Rattle.qz_index.specs.Jobs.{done_in}
 use Rattle.qz_shard.specs.declared.working.Work.TheVariants as work
-use Rattle.qz_shard.specs.Holdings.{IsHeld, IsWorkable}
-use Rattle.qz_shard.specs.Nexts.{IsNext, IsPutWith}
+use Rattle.qz_book.specs.Held.{IsHeld}
+use Rattle.qz_shard.specs.Holdings.{IsWorkable}
+use Rattle.qz_book.specs.Nexts.{IsNext}
+use Rattle.qz_shard.specs.Puts.{IsPutWith}
 use Rattle.qz_shard.specs.Works.{IsWork, IsWorked}
 use Rattle.qz_shard.proofs.Allowing.{time-again}
 use Rattle.qz_lives.proofs.Keeping.{all-at, start-here}
-use Rattle.qz_shard.proofs.Learning.{learns-new}
+use Rattle.qz_legal.proofs.Learning.{learns-new}
 use Rattle.qz_shard.proofs.Making.{learned-kept, time-kept}
-use Rattle.qz_shard.proofs.Placing.{version-more}
-use Rattle.qz_shard.proofs.TargetLemmas.{IsLeft, left, none-left}
+use Rattle.qz_book.proofs.Placing.{version-more}
+use Rattle.qz_book.proofs.TargetLemmas.{IsLeft, left, none-left}
 
 -- ---- whether a job is done
 

@@ -10,19 +10,14 @@ use Rattle.qz_terms.specs.declared.record.Record.{Record}
 use Rattle.qz_terms.specs.declared.reply.Reply.{Reply}
 use Rattle.qz_terms.specs.declared.request.Request.{Request}
 use Rattle.qz_terms.specs.declared.request.Request.TheVariants as request
-use Rattle.qz_terms.specs.Answer.{event_here, named_user, said}
-use Rattle.qz_terms.specs.Cause.{Verdict, Denied, Granted, Repeated, cause_here, verdict_here}
-use Rattle.qz_shard.specs.Holdings.{IsHeld}
+use Rattle.qz_terms.specs.Answer.{event_here, named_user, said, stepped_by}
+use Rattle.qz_terms.specs.Cause.{Verdict, Denied, Granted, Repeated, cause_here, verdict_here, answering_cause}
 use Rattle.qz_shard.specs.declared.decision.Decision.{Decision}
 use Rattle.qz_shard.specs.declared.decision.Decision.TheVariants as decision
 use Rattle.qz_shard.specs.declared.keys.Found.{Found}
 use Rattle.qz_shard.specs.declared.keys.Found.TheVariants as found
-
--- the list of some shard
-pub record IsSound (h : List Record) : Type 0 where
-  pub index : ℕ
-  pub count : ℕ
-  pub held : IsHeld index count h
+use Rattle.qz_grading.specs.declared.refusal.AttemptId.{AttemptId}
+use Rattle.qz_grading.specs.declared.response.Step.{Step}
 
 -- what was said of a record is told again
 pub record IsRepeated (told : Reply) (v : Verdict) : Type 0 where
@@ -42,6 +37,12 @@ abbrev pub IsFate : List Record → ℕ → User → Plan → Request → Result
 IsFate h moment user plan x fate = MatchResult fate
     (λ e. (cause_here h moment user plan x ≡ None) × (event_here h moment user plan x ≡ option_map (λ d. (named_user user x, d)) e))
     (λ r. cause_here h moment user plan x ≡ Some r)
+
+-- the event of a step on a slot, or the first cause behind the key
+abbrev pub IsStepFate : List Record → ℕ → User → Plan → AttemptId → ℕ → Step → Result (Option Event) Refusal → Type 0
+IsStepFate h moment user plan a k x fate = MatchResult fate
+    (λ e. (answering_cause h moment user plan a k x ≡ None) × (e ≡ Some (stepped_by h a k x)))
+    (λ r. answering_cause h moment user plan a k x ≡ Some r)
 
 -- the plan of a start has a question for each slot
 abbrev pub IsWhole : Plan → Request → Type 0

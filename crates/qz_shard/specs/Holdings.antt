@@ -1,6 +1,5 @@
 -- What a shard is seen as, what is asked of it, and how it answers.
-use Rattle.std.specs.Prelude.{◌≡◌, ℕ, ◌<◌, ◌-◌, ◌^◌, ◌⊎◌, Bool, true, false, List, [], ◌∷◌, ◌++◌, length, if◌then◌else◌, nat_lt, nat_le, ◌&&◌, Some, None, Option, All}
-use Rattle.std.specs.List.{list_all}
+use Rattle.std.specs.Prelude.{◌≡◌, ℕ, ◌-◌, ◌⊎◌, Bool, true, false, List, [], ◌∷◌, ◌++◌, length, if◌then◌else◌, nat_lt, Some, None, Option}
 use Rattle.qz_grading.specs.declared.question.Question.{Question}
 use Rattle.qz_grading.specs.declared.refusal.Refusal.TheVariants as refusal
 use Rattle.qz_grading.specs.Grading.{at_place}
@@ -9,8 +8,6 @@ use Rattle.qz_terms.specs.declared.people.User.{User}
 use Rattle.qz_terms.specs.declared.plan.Job.{Job}
 use Rattle.qz_terms.specs.declared.plan.Plan.{Plan}
 use Rattle.qz_terms.specs.declared.plan.Planned.{Planned}
-use Rattle.qz_terms.specs.declared.record.Event.{Event}
-use Rattle.qz_terms.specs.declared.record.Event.TheVariants as event
 use Rattle.qz_terms.specs.declared.record.Record.{Record}
 use Rattle.qz_terms.specs.declared.reply.Reply.{Reply}
 use Rattle.qz_terms.specs.declared.reply.Reply.TheVariants as reply
@@ -19,7 +16,7 @@ use Rattle.qz_terms.specs.declared.request.Request.TheVariants as request
 use Rattle.qz_terms.specs.Answer.{answer_here, list_after, said, work_after, work_answer}
 use Rattle.qz_terms.specs.Cause.{forbidden, is_keyed, is_student, missing_here, spells}
 use Rattle.qz_terms.specs.History as history
-use Rattle.qz_terms.specs.Kept.{IsKept, IsKeptPlan, KeepsAsked, is_moment}
+use Rattle.qz_terms.specs.Kept.{IsKeptPlan, KeepsAsked, is_moment}
 use Rattle.qz_terms.specs.Legal.{IsLegal, is_here, is_plan_for}
 use Rattle.qz_isolation.specs.Isolation.{AreAlike}
 
@@ -28,33 +25,6 @@ pub record Holding : Type 0 where
   pub index : ℕ
   pub count : ℕ
   pub records : List Record
-
--- ---- what every shard keeps
-
--- there are from 1 to 64 shards
-abbrev pub is_shard : ℕ → ℕ → Bool
-is_shard index count = nat_lt index count && nat_le count 64
-
--- what a request to a shard puts, also a worker's
-abbrev pub is_asked_event : Event → Bool
-is_asked_event (event.Started quiz nth behaviour bounds learned) = true
-is_asked_event (event.Acted a k x) = true
-is_asked_event (event.Noted a k x) = true
-is_asked_event (event.Ended a how) = true
-is_asked_event (event.Rebound job a k bound learned) = true
-is_asked_event (event.Skipped job a k bound newer) = true
-is_asked_event (event.JobDone job quiz position) = true
-is_asked_event e = false
-
-abbrev pub is_asked : Record → Bool
-is_asked r = is_asked_event r.event
-
-pub record IsHeld (index count : ℕ) (h : List Record) : Type 0 where
-  pub shard : is_shard index count ≡ true
-  pub legal : IsLegal index count h
-  pub kept : All IsKept h
-  pub asked : list_all is_asked h ≡ true
-  pub few : length h < 2 ^ 32 - 1
 
 -- ---- what is asked
 

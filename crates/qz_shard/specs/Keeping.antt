@@ -16,7 +16,7 @@ use Rattle.qz_terms.specs.declared.request.Request.{Request}
 use Rattle.qz_terms.specs.History as history
 use Rattle.qz_terms.specs.Serial.{Held, Mended}
 use Rattle.qz_shard.specs.Answering.{IsAnswered}
-use Rattle.qz_shard.specs.Grades.{graded}
+use Rattle.qz_looks.specs.Grades.{graded}
 use Rattle.qz_shard.specs.Holdings.{Holding, IsAlone, older}
 use Rattle.qz_shard.specs.Loads.{IsLoaded}
 

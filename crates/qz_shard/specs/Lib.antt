@@ -1,15 +1,9 @@
-pub mod Readings
 pub mod Holdings
 pub mod Decisions
-pub mod Plays
-pub mod Books
+pub mod Untold
 pub mod Gradings
-pub mod Nexts
+pub mod Puts
 pub mod Answering
-pub mod Grades
 pub mod Works
-pub mod Cursors
-pub mod Pages
-pub mod Allowed
 pub mod Loads
 pub mod Keeping

@@ -6,8 +6,9 @@ use Rattle.qz_terms.specs.Spelling.{spelling}
 use Rattle.qz_record.specs.declared.list_fault.ListFault.{ListFault}
 use Rattle.qz_record.specs.declared.list_fault.ListFault.TheVariants as fault
 use Rattle.qz_record.specs.Records.{IsRecord}
-use Rattle.qz_shard.specs.Holdings.{Holding, IsHeld}
-use Rattle.qz_shard.specs.Nexts.{IsNext}
+use Rattle.qz_shard.specs.Holdings.{Holding}
+use Rattle.qz_book.specs.Held.{IsHeld}
+use Rattle.qz_book.specs.Nexts.{IsNext}
 
 -- the shard with this index, of so many, whose records these payloads spell, in order
 pub record IsLoaded (index count : ℕ) (payloads : List (List ℕ)) (s : Holding) : Type 0 where

@@ -1,21 +1,12 @@
--- What a worker's request to a shard comes to, and the first slot that a job has left.
-use Rattle.std.specs.Prelude.{◌≡◌, ℕ, true, false, Bool, List, Option, None, Some, filter, is_some}
-use Rattle.qz_grading.specs.declared.refusal.AttemptId.{AttemptId}
+-- What a worker's request to a shard comes to.
+use Rattle.std.specs.Prelude.{◌≡◌, ℕ, true, false, List, None, Some}
 use Rattle.qz_terms.specs.declared.plan.Job.{Job}
 use Rattle.qz_terms.specs.declared.record.Record.{Record}
 use Rattle.qz_terms.specs.declared.reply.Reply.{Reply}
 use Rattle.qz_terms.specs.Answer.{done_place, put_by_job, work_after, work_answer}
-use Rattle.qz_terms.specs.History.{is_done, is_target, slot_count}
-use Rattle.qz_terms.specs.Lists.{first_of, places_to}
+use Rattle.qz_terms.specs.History.{is_done}
 use Rattle.qz_shard.specs.declared.working.Work.{Work}
 use Rattle.qz_shard.specs.declared.working.Work.TheVariants as work
-
--- the first slot of an attempt that a job has left
-abbrev pub first_left : List Record → ℕ → ℕ → AttemptId → Option ℕ
-first_left h job position a = first_of (filter (is_target h job position a) (places_to (slot_count h a)))
-
-abbrev pub has_left : List Record → ℕ → ℕ → AttemptId → Bool
-has_left h job position a = is_some (first_left h job position a)
 
 -- the job is done already, or the plan has no slot for its first target, or this record is put
 abbrev pub IsWork : List Record → ℕ → ℕ → Job → Work → Type 0

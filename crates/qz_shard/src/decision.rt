@@ -1,20 +1,20 @@
 //! What is done with a request: it is refused, it is answered again, or it makes an event.
 
-ghost use Rattle.std.specs.Prelude.{◌≡◌, length, true, option_map, unwrap_or, Some, None, IfOk};
+ghost use Rattle.std.specs.Prelude.{◌≡◌, true, Some, None, IfOk};
 ghost use Rattle.qz_index.specs.Keys.{AreKeys};
-ghost use Rattle.qz_terms.specs.Answer.{named_user};
 ghost use Rattle.qz_terms.specs.Cause.{missing_here};
 ghost use Rattle.qz_terms.specs.declared.request.Request.TheVariants as request;
-ghost use Rattle.qz_shard.specs.Decisions.{IsSound, IsFate, IsDecision, IsWhole};
+ghost use Rattle.qz_book.specs.Held.{IsSound};
+ghost use Rattle.qz_shard.specs.Decisions.{IsFate, IsDecision, IsWhole};
 ghost use Rattle.qz_shard.specs.Holdings.{is_change};
 
-use crate::book::Book;
 use crate::fates::{Fate, fate_of_finish, fate_of_settle, fate_of_start};
 use crate::keys::{Found, by_key};
-use crate::missing::missing_here;
 use crate::stepping::{fate_of_mark, fate_of_step};
+use qz_book::Book;
 use qz_grading::{Answer, Refusal, Response, Step};
 use qz_index::Keys;
+use qz_looks::missing_here;
 use qz_terms::{Ask, Event, Plan, Reply, Request, User, forbidden};
 use qz_text::{NoMemory, TryCopy};
 use std::alloc::Global;

@@ -3,12 +3,12 @@
 ghost use Rattle.std.specs.Prelude.{◌≡◌, IfOk};
 ghost use Rattle.qz_index.specs.Keys.{AreKeys};
 ghost use Rattle.qz_terms.specs.Cause.{by_key, same_slot, same_step, spells};
-ghost use Rattle.qz_terms.specs.History.{same_attempt};
 ghost use Rattle.qz_shard.specs.Decisions.{IsFound};
 
-use crate::book::Book;
+use qz_book::Book;
 use qz_grading::{AttemptId, Step, same_answer};
 use qz_index::Keys;
+use qz_legal::is_same;
 use qz_terms::{Ask, Event, Record, Reply, Request};
 use qz_text::{NoMemory, TryCopy};
 use std::alloc::Global;
@@ -19,13 +19,6 @@ pub(crate) enum Found {
     Same(Reply),
     /// Another one, whose reply had this place.
     Other(u64),
-}
-
-/// Whether two attempts are one.
-pub(crate) fn is_same(one: AttemptId, other: AttemptId) -> bool
-    ensures { result ≡ same_attempt one other }
-{
-    one.user == other.user && one.nth == other.nth
 }
 
 /// Whether a request is about this slot.

@@ -1,34 +1,17 @@
-//! One shard: the records of its users' attempts, what is asked of them, and what is answered.
+//! One shard: what is asked of the records of its users' attempts, and what is answered. A request is decided, the record that it makes is
+//! put, and what is said of it is kept with its key.
 #![tactic(auto)]
 
-mod attempts;
-mod book;
-mod cursors;
 mod decision;
 mod fates;
-mod feedback;
-mod job_puts;
 mod keys;
-mod known;
 pub mod laws;
-mod legal;
-mod listing;
 mod looking;
-mod missing;
-mod new_versions;
-mod pages;
 mod putting;
-mod replies;
-mod request_puts;
-mod review;
-mod rows;
 mod shard;
 mod shard_core;
-mod slots;
 mod starting;
 mod stepping;
-mod targets;
-mod viewing;
 mod working;
 
 pub use shard::{Older, Shard};

@@ -5,16 +5,12 @@ ghost use Rattle.qz_terms.specs.Answer.{looked_by, sees_grade};
 ghost use Rattle.qz_terms.specs.Cause.{missing_here};
 ghost use Rattle.qz_terms.specs.Kept.{IsKeptPlan};
 ghost use Rattle.qz_shard.specs.Answering.{IsAnswered};
-ghost use Rattle.qz_shard.specs.Decisions.{IsSound};
+ghost use Rattle.qz_book.specs.Held.{IsSound};
 ghost use Rattle.qz_shard.specs.Holdings.{is_look, IsAsked};
 
-use crate::book::Book;
-use crate::missing::missing_here;
-use crate::pages::page;
 use crate::putting::moment_of;
-use crate::review::{shown_grade, shows_grade};
-use crate::stepping::sees_marks;
-use crate::viewing::{standing_of, viewed};
+use qz_book::Book;
+use qz_looks::{missing_here, page, sees_marks, shown_grade, shows_grade, standing_of, viewed};
 use qz_terms::{
     Ask, Done, Plan, Reply, Request, Settings, User, forbidden, is_student, named_user,
 };

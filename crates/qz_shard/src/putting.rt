@@ -4,12 +4,12 @@ ghost use Rattle.std.specs.Prelude.{◌≡◌, Some, IfOk, slice_get};
 ghost use Rattle.qz_index.specs.Keys.{AreKeys};
 ghost use Rattle.qz_terms.specs.Answer.{moment_of, said};
 ghost use Rattle.qz_terms.specs.declared.record.Record.{Record};
-ghost use Rattle.qz_shard.specs.Books.{IsUntold};
-ghost use Rattle.qz_shard.specs.Nexts.{record_by};
+ghost use Rattle.qz_shard.specs.Untold.{IsUntold};
+ghost use Rattle.qz_shard.specs.Puts.{record_by};
 
-use crate::book::Book;
-use crate::replies::said;
+use qz_book::Book;
 use qz_index::Keys;
+use qz_looks::said;
 use qz_terms::{Ask, Event, Plan, Record, Reply, Request, Terms, User, copy_of_text, named_user};
 use qz_text::NoMemory;
 use std::alloc::Global;

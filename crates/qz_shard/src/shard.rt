@@ -9,7 +9,8 @@ ghost use Rattle.qz_terms.specs.History.{live_after};
 ghost use Rattle.qz_terms.specs.Legal.{IsLegal};
 ghost use Rattle.qz_terms.specs.declared.reply.Reply.TheVariants as reply;
 ghost use Rattle.qz_shard.specs.Answering.{IsPosed};
-ghost use Rattle.qz_shard.specs.Holdings.{is_shard, is_change, is_look, IsAsked, IsWorkable, StartsHere};
+ghost use Rattle.qz_book.specs.Held.{is_shard};
+ghost use Rattle.qz_shard.specs.Holdings.{is_change, is_look, IsAsked, IsWorkable, StartsHere};
 ghost use Rattle.qz_shard.specs.Keeping.{CallsFor, CountsFew, IsOlder, IsOpened, IsSamePart, IsSeen, IsTold, Replies, TellsQuiz, TellsRows, shard_over};
 ghost use Rattle.qz_shard.specs.Gradings.{most_gradings, most_of_work};
 ghost use Rattle.qz_shard.specs.Loads.{IsListFault};
@@ -49,7 +50,7 @@ pub struct Shard<K: Keeper> {
 impl<K: Keeper> Model for Shard<K> {
     ghost use Rattle.qz_keeper.specs.Lists.{IsKeptList, held_in};
     ghost use Rattle.qz_shard.specs.Keeping.{Keeping};
-    ghost use Rattle.qz_shard.specs.Nexts.{IsNext};
+    ghost use Rattle.qz_book.specs.Nexts.{IsNext};
 
     ghost Value = { Keeping K };
 

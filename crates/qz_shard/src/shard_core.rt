@@ -1,6 +1,6 @@
 //! A shard in memory and what is asked of it.
 
-ghost use Rattle.std.specs.Prelude.{◌≡◌, ◌⊎◌, ◌+◌, ◌<◌, ◌≤◌, ◌++◌, ◌∷◌, List, [], length, map, true, false, Ok, Some, None, option_map, IfOk, IfErr, OnOk, OnErr, MatchResult};
+ghost use Rattle.std.specs.Prelude.{◌≡◌, ◌+◌, ◌<◌, ◌≤◌, ◌++◌, ◌∷◌, [], length, map, true, false, Ok, Some, None, IfOk, IfErr, OnOk, OnErr};
 ghost use Rattle.qz_decimal.specs.Numbers.{IsMaxSum, IsQuizGrade};
 ghost use Rattle.qz_grading.specs.declared.refusal.Refusal.TheVariants as refusal;
 ghost use Rattle.qz_terms.specs.declared.reply.Done.TheVariants as done;
@@ -10,28 +10,29 @@ ghost use Rattle.qz_terms.specs.Answer.{list_after, named_user, work_after};
 ghost use Rattle.qz_terms.specs.History.{live_after, place, quiz, takers};
 ghost use Rattle.qz_terms.specs.Legal.{IsLegal};
 ghost use Rattle.qz_shard.specs.Answering.{IsAnswered, IsPosed};
-ghost use Rattle.qz_shard.specs.Grades.{graded};
-ghost use Rattle.qz_shard.specs.Holdings.{IsHeld, is_shard, is_change, is_look, IsAsked, StartsHere, older, Answers, IsAlone, IsAnsweredAgain, IsWorkable, Works};
+ghost use Rattle.qz_looks.specs.Grades.{graded};
+ghost use Rattle.qz_book.specs.Held.{IsHeld, is_shard};
+ghost use Rattle.qz_shard.specs.Holdings.{is_change, is_look, IsAsked, StartsHere, older, Answers, IsAlone, IsWorkable, Works};
 ghost use Rattle.qz_lives.specs.Changes.{gradings_by};
 ghost use Rattle.qz_shard.specs.Gradings.{most_gradings, most_of_work};
 ghost use Rattle.qz_shard.specs.Loads.{IsListFault, IsLoaded, IsTaken};
-ghost use Rattle.qz_shard.specs.Nexts.{IsNext, IsPutWith};
+ghost use Rattle.qz_book.specs.Nexts.{IsNext};
+ghost use Rattle.qz_shard.specs.Puts.{IsPutWith};
 ghost use Rattle.qz_shard.specs.Works.{IsWorked};
 
-use crate::book::Book;
-use crate::cursors::Cursors;
 use crate::decision::{Decision, decide};
-use crate::legal::is_allowed;
 use crate::looking::seen;
 use crate::putting::{moment_of, record_of, tell};
-use crate::rows::rows;
 use crate::shard::Older;
 use crate::working::{Work, work_on};
+use qz_book::{Book, Cursors};
 use qz_decimal::Grade;
 use qz_disks::KeepErr;
 use qz_grading::{AttemptId, Refusal, Steps, Thing};
 use qz_index::Keys;
 use qz_keeper::{Recorder, Unrecorded};
+use qz_legal::is_allowed;
+use qz_looks::rows;
 use qz_record::{ListFault, RecordFault, parse};
 use qz_terms::{Ask, Done, Job, Plan, Policy, Record, Reply, Request, User, named_user};
 use qz_text::{Bytes, Listed, NoMemory};
@@ -67,7 +68,7 @@ impl Model for ShardCore {
 
     ghost Value = { Holding };
 
-    ghost use Rattle.qz_shard.specs.Books.{IsAnswering};
+    ghost use Rattle.qz_legal.specs.Beside.{IsAnswering};
 
     ghost view = { λ s. record { index = s.index; count = s.count; records = s.book } };
 

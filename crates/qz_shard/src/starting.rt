@@ -1,12 +1,11 @@
 //! What a start puts into the list.
 
-ghost use Rattle.std.specs.Prelude.{◌≡◌, ◌&&◌, not, is_none, length, map, zip, take, IfOk};
-ghost use Rattle.std.specs.List.{list_any};
+ghost use Rattle.std.specs.Prelude.{◌≡◌, ◌&&◌, is_none, length, map, zip, IfOk};
 ghost use Rattle.qz_terms.specs.Answer.{bind, learned_as, new_versions, started_by};
 ghost use Rattle.qz_terms.specs.History.{version};
-ghost use Rattle.qz_shard.specs.Readings.{is_new, stands_in};
+ghost use Rattle.qz_legal.specs.Readings.{is_new, stands_in};
 
-use crate::book::Book;
+use qz_book::Book;
 use qz_grading::Question;
 use qz_terms::{Bound, Event, Learned, Plan, Planned, User};
 use qz_text::{Listed, NoMemory, TryCopy};

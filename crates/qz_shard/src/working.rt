@@ -5,16 +5,13 @@ ghost use Rattle.qz_grading.specs.Grading.{at_place};
 ghost use Rattle.qz_grading.specs.Questions.{IsQuestion};
 ghost use Rattle.qz_grading.specs.Shapes.{same_shape};
 ghost use Rattle.qz_terms.specs.Answer.{learned_as, new_versions, put_target, rebound_or_skipped, record_of_job, target_event};
-ghost use Rattle.qz_terms.specs.History.{question};
-ghost use Rattle.qz_terms.specs.Kept.{IsKept};
-ghost use Rattle.qz_shard.specs.Cursors.{AreCursors};
-ghost use Rattle.qz_shard.specs.Decisions.{IsSound};
+ghost use Rattle.qz_book.specs.Cursors.{AreCursors};
+ghost use Rattle.qz_book.specs.Held.{IsSound};
 ghost use Rattle.qz_shard.specs.Works.{IsWork};
 
-use crate::book::Book;
-use crate::cursors::Cursors;
-use crate::targets::next_target;
-use qz_grading::{AttemptId, Question, Shape, shape_of};
+use qz_book::{Book, Cursors, next_target, question_of};
+use qz_grading::{AttemptId, Question, shape_of};
+use qz_legal::same_shape;
 use qz_terms::{Bound, Event, Job, Learned, Planned, Record};
 use qz_text::{Listed, NoMemory, TryCopy};
 use std::alloc::Global;
@@ -46,15 +43,6 @@ fn question_at(questions: &[Question], slot: u16) -> Option<&Question>
     questions.get(place)
 }
 
-/// The question that is bound to a slot of an attempt now.
-pub(crate) fn question_of(book: &Book, attempt: AttemptId, slot: u16) -> Option<&Question>
-    ensures value { option_copied result ≡ question book.now attempt slot }
-    ensures kept { All IsKept book.now → IfSome result (λ q. IsQuestion q.now) }
-{
-    let bound = book.bound(attempt, slot)?;
-    book.version(bound.entry, bound.version)
-}
-
 /// What the shard learns where it binds this version.
 fn learned_of(
     alloc: Global,
@@ -73,13 +61,6 @@ fn learned_of(
         })?;
     }
     Ok(Listed { items })
-}
-
-/// Whether two shapes are one, so that the same answers fit.
-pub(crate) fn same_shape(one: Shape, other: Shape) -> bool
-    ensures { result ≡ same_shape one other }
-{
-    one == other
 }
 
 /// The event of a target: a newer version of the same shape is bound to it, and one of another shape is skipped.

@@ -16,7 +16,7 @@ use Rattle.qz_grading.specs.declared.refusal.Refusal.TheVariants as refusal
 use Rattle.qz_grading.specs.Grading.{at_place}
 use Rattle.qz_keeper.specs.Lists.{EachMayStand, Looks}
 use Rattle.qz_keeper.specs.Recording.{HasFailed}
-use Rattle.qz_shard.specs.Grades.{graded}
+use Rattle.qz_looks.specs.Grades.{graded}
 use Rattle.qz_shard.specs.Keeping as part
 use Rattle.qz_terms.specs.declared.ask.Ask.{Ask}
 use Rattle.qz_terms.specs.declared.grades.Policy.{Policy}

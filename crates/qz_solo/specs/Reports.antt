@@ -7,7 +7,7 @@ use Rattle.qz_grading.specs.declared.refusal.Refusal.{Refusal}
 use Rattle.qz_grading.specs.declared.refusal.Refusal.TheVariants as refusal
 use Rattle.qz_grading.specs.Grading.{at_place}
 use Rattle.qz_serial.specs.Reports.{MendedUpTo}
-use Rattle.qz_shard.specs.Grades.{graded}
+use Rattle.qz_looks.specs.Grades.{graded}
 use Rattle.qz_shard.specs.Keeping as part
 use Rattle.qz_terms.specs.declared.grades.Policy.{Policy}
 use Rattle.qz_terms.specs.declared.record.Record.{Record}

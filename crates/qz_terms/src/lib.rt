@@ -16,8 +16,6 @@ mod request;
 mod room;
 mod routes;
 mod sameness;
-#[cfg(test)]
-mod tests;
 
 pub use access::{Handling, Override, Review, Settings};
 pub use ask::{Ask, copy_of_text};

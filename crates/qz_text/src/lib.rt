@@ -22,6 +22,3 @@ pub use memory::NoMemory;
 pub use pattern::Pattern;
 pub use text::Text;
 pub use typed::Typed;
-
-#[cfg(test)]
-mod tests;

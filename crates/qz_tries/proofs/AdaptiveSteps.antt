@@ -9,6 +9,8 @@ use Rattle.std.proofs.lemmas.List.{map-append}
 use Rattle.std.proofs.lemmas.List.Folds.{find-append}
 use Rattle.std.proofs.lemmas.List.Sums.{fold-append}
 use Rattle.std.proofs.lemmas.Slice.Eq.{bytes_eq-Decides}
+use Rattle.qz_lemmas.proofs.Lists.{enumerate-append}
+use Rattle.qz_lemmas.proofs.Bools.{and-false}
 use Rattle.qz_grading.specs.declared.outcome.Behaviour.{Behaviour}
 use Rattle.qz_grading.specs.declared.outcome.Behaviour.TheVariants.{Adaptive, AdaptiveNoPenalty}
 use Rattle.qz_grading.specs.declared.outcome.Outcome.{Outcome}
@@ -22,10 +24,10 @@ use Rattle.qz_grading.specs.declared.response.Step.TheVariants as step
 use Rattle.qz_grading.specs.Grading.{same, same_answer, gradable, grade}
 use Rattle.qz_grading.specs.Steps.{is_finish, has_finish, last, last_of}
 use Rattle.qz_grading.specs.Behaviours.{complete_under, handed_in, ends_complete, ends_incomplete, is_right, graded, changed, changed_after, further, submitted_tries, adaptive_tries, best_try, penalty_under, adaptive_state, adaptive, outcome}
-use Rattle.qz_grading.proofs.StepLemmas.{has_finish-push, has_finish-finished, before-finished, has_finish-closed, before-closed, handed_in-complete, ends_in_submit-push}
+use Rattle.qz_grading.proofs.StepLemmas.{before-closed, before-finished, ends_in_submit-push, handed_in-complete, has_finish-closed, has_finish-finished, has_finish-push, or-false}
 use Rattle.qz_tries.specs.Progress.{is_adaptive}
 use Rattle.qz_tries.specs.Parts.{is_new, gradable_last}
-use Rattle.qz_tries.proofs.MoreSteps.{gradable_last-none, gradable_last-some, without_last-push, enumerate_from-append, and-false}
+use Rattle.qz_tries.proofs.MoreSteps.{gradable_last-none, gradable_last-some, without_last-push}
 
 -- ---- responses that are the same are equal
 
@@ -81,7 +83,7 @@ pub best_try-push : (b : Behaviour) (q : Question) (tries : List Response) (r : 
 best_try-push b q tries r =
     let worth : ℕ × Response → ℤ = λ (t : ℕ × Response). grade q t.1 -ℤ pos t.0 *ℤ penalty_under b q in
     let count : 0 + length tries ≡ length tries = omega arith in
-    ap (λ (ts : List (ℕ × Response)). fold int_max (pos 0) (map worth ts)) (enumerate_from-append 0 tries (r ∷ []))
+    ap (λ (ts : List (ℕ × Response)). fold int_max (pos 0) (map worth ts)) (enumerate-append 0 tries (r ∷ []))
     ∙ ap (fold int_max (pos 0)) (map-append worth (enumerate_from 0 tries) (enumerate_from (0 + length tries) (r ∷ [])))
     ∙ fold-append int_max (pos 0) (map worth (enumerate_from 0 tries)) (map worth (enumerate_from (0 + length tries) (r ∷ [])))
     ∙ ap (λ (n : ℕ). int_max (best_try b q tries) (grade q r -ℤ pos n *ℤ penalty_under b q)) count
@@ -90,10 +92,6 @@ best_try-push b q tries r =
 
 abbrev adaptive_outcome : Behaviour → Question → List Step → Outcome
 adaptive_outcome b q s = record { state = adaptive_state b q s; fraction = (adaptive b q s).1; ended = has_finish s; needs_again = false; tries = length (adaptive_tries b q s) }
-
-or-false : (b : Bool) → (b || false) ≡ b
-or-false true = refl
-or-false false = refl
 
 pub outcome_is : (b : Behaviour) (q : Question) (s : List Step) → is_adaptive b ≡ true → outcome b q s ≡ adaptive_outcome b q s
 outcome_is Adaptive q s plays = rw or-false refl

@@ -4,6 +4,8 @@ use Rattle.std.specs.Prelude.{find, if◌then◌else◌, ◌==◌}
 use Rattle.std.specs.List.{enumerate_from}
 use Rattle.std.specs.Option.{option_or}
 use Rattle.std.proofs.lemmas.List.Folds.{find-append}
+use Rattle.qz_lemmas.proofs.Lists.{enumerate-append}
+use Rattle.qz_lemmas.proofs.Bools.{and-false}
 use Rattle.qz_grading.specs.declared.outcome.Behaviour.TheVariants.{Interactive}
 use Rattle.qz_grading.specs.declared.outcome.Outcome.{Outcome}
 use Rattle.qz_grading.specs.declared.outcome.State.TheVariants as state
@@ -16,7 +18,7 @@ use Rattle.qz_grading.specs.Steps.{is_finish, has_finish, before, last}
 use Rattle.qz_grading.specs.Behaviours.{complete_under, handed_in, ends_complete, ends_incomplete, ending_try, tries_allowed, is_right, graded, penalised, outcome}
 use Rattle.qz_grading.proofs.StepLemmas.{has_finish-push, has_finish-finished, before-open, before-finished, has_finish-closed, before-closed, handed_in-complete, ends_in_submit-push}
 use Rattle.qz_tries.specs.Parts.{gradable_last}
-use Rattle.qz_tries.proofs.MoreSteps.{gradable_last-none, gradable_last-some, enumerate_from-append, and-false}
+use Rattle.qz_tries.proofs.MoreSteps.{gradable_last-none, gradable_last-some}
 
 -- a try, with its number, that ends the slot
 abbrev pub ends : Question → ℕ × Response → Bool
@@ -46,7 +48,7 @@ waits q s x incomplete (Some t) ending still other same partial is =
 ending_of-push : (q : Question) (tries : List Response) (r : Response) → ending_of q (tries ++ r ∷ []) ≡ option_or (ending_of q tries) (if ends q (length tries + 1, r) then Some (length tries + 1, r) else None)
 ending_of-push q tries r =
     let count : 1 + length tries ≡ length tries + 1 = omega arith in
-    ap (find (ends q)) (enumerate_from-append 1 tries (r ∷ []))
+    ap (find (ends q)) (enumerate-append 1 tries (r ∷ []))
     ∙ find-append (ends q) (enumerate_from 1 tries) (enumerate_from (1 + length tries) (r ∷ []))
     ∙ ap (λ (n : ℕ). option_or (ending_of q tries) (if ends q (n, r) then Some (n, r) else None)) count
 

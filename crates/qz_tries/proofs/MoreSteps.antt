@@ -28,16 +28,6 @@ pub without_last-push : (s : List Step) (x : Step) → without_last (s ++ x ∷ 
 without_last-push [] x = refl
 without_last-push (y ∷ s) x = without_last-push-cons y s x (without_last-push s x)
 
-pub enumerate_from-append : {A : Type 0} (n : ℕ) (xs ys : List A) → enumerate_from n (xs ++ ys) ≡ enumerate_from n xs ++ enumerate_from (n + length xs) ys
-enumerate_from-append {A = A} n [] ys = rw add-zero refl
-enumerate_from-append {A = A} n (x ∷ xs) ys =
-    let count : n + 1 + length xs ≡ n + length (x ∷ xs) = omega arith in
-    ap (λ (t : List (ℕ × A)). (n, x) ∷ t) (enumerate_from-append (n + 1) xs ys ∙ ap (λ (m : ℕ). enumerate_from (n + 1) xs ++ enumerate_from m ys) count)
-
-pub and-false : (b : Bool) → (b && false) ≡ false
-and-false true = refl
-and-false false = refl
-
 pub and-true : (b : Bool) → (b && true) ≡ b
 and-true true = refl
 and-true false = refl

@@ -8,6 +8,3 @@ mod machine;
 mod places;
 
 pub use machine::TryMachine;
-
-#[cfg(test)]
-mod tests;

@@ -7,5 +7,4 @@ pub mod Splitting
 pub mod Joining
 pub mod Closing
 pub mod Dealing
-pub mod Gathering
 pub mod Turning

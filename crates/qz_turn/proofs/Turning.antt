@@ -1,14 +1,12 @@
 -- A turn: it comes, an errand goes, and it is given on.
-use Rattle.std.proofs.Common.{◌≡◌, ℕ, [], ◌∷◌, Option, Some, ap, sym, ◌∙◌, subst}
+use Rattle.std.proofs.Common.{◌≡◌, ℕ, [], ◌∷◌, Some, ap, sym, ◌∙◌, subst}
+use Rattle.qz_lemmas.proofs.Options.{same-some}
 use Rattle.atomic_table.specs.Table.{Me}
 use Rattle.qz_turn.specs.declared.view.Tale.{Tale}
 use Rattle.qz_turn.specs.declared.view.View.{View}
 use Rattle.qz_turn.specs.Tales.{Follows}
 use Rattle.qz_turn.specs.Steps.{Comes, Ends, HasServed, IsKeyed, MayEnd, Went, served, serving}
 use Rattle.qz_turn.proofs.Serving.{carried_one}
-
-one_key : {K : Type 0} (o : Option K) (k l : K) → o ≡ Some k → o ≡ Some l → k ≡ l
-one_key o k l one other = cc
 
 module _ {I K S E : Type 0} (tells : S → Tale I) (fits : K → S → Type 0) (can : K → Tale I → E → Type 0) (does : E → S → S → E → Type 0) where
   -- what is known once the errand went
@@ -39,7 +37,7 @@ module _ {I K S E : Type 0} (tells : S → Tale I) (fits : K → S → Type 0) (
         begins = begins;
         grows = w.grows;
         fits_before = fitted;
-        fits_after = λ key is. w.fits_still.still key m.0.seen (fitted key is) begins (subst (λ k. can k m.0.seen errand) (one_key m.0.key may.key key may.keyed is) may.of_key);
+        fits_after = λ key is. w.fits_still.still key m.0.seen (fitted key is) begins (subst (λ k. can k m.0.seen errand) (same-some m.0.key may.key key may.keyed is) may.of_key);
       }
 
   -- the turn may be given on

@@ -15,6 +15,3 @@ pub use pass::Pass;
 pub use told::{Errand, Told};
 pub use turns::Turns;
 pub use view::Tale;
-
-#[cfg(test)]
-mod tests;

@@ -7,6 +7,3 @@ mod usage;
 
 pub use slot_run::SlotRun;
 pub use usage::Usage;
-
-#[cfg(test)]
-mod tests;

@@ -10,3 +10,4 @@ pub mod BankLemmas
 pub mod DescribedLemmas
 pub mod RequestLemmas
 pub mod BriefLemmas
+pub mod SpacedLemmas

@@ -9,4 +9,5 @@ pub mod Requests
 pub mod Brief
 pub mod Asking
 pub mod Escapes
-pub mod Replies
+pub mod Spaced
+pub mod Refusals

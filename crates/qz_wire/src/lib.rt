@@ -1,5 +1,5 @@
-//! The words of lines: what the words of a request, an answer or a response spell, read from their bytes, and the words of replies
-//! and refusals, spelled onto a text.
+//! The words of lines: what the words of a request, an answer or a response spell, read from their bytes, and the words of refusals,
+//! spelled onto a text or one by one.
 #![tactic(auto)]
 
 mod answers;
@@ -10,7 +10,8 @@ mod bank_words;
 mod catalog_requests;
 mod escapes;
 mod lines;
-mod replies;
+mod listed;
+mod refusals;
 mod verbs;
 mod words;
 
@@ -19,11 +20,7 @@ pub use asking::{ask_of_line, request};
 pub use bank_words::{behaviour_in, only_question, penalty_in};
 pub use escapes::{text_in, text_word_onto};
 pub use lines::{after, number, split_line};
-pub use replies::{
-    grade_onto, how_word, line_of, moment_onto, refused_onto, row_onto, status_word, thing_number,
-};
+pub use listed::{attempt_onto, behind_onto, number_onto, word_onto};
+pub use refusals::{refusal_number, refusal_onto, refused_onto, shape_onto};
 pub use verbs::{Verb, takes_key, verb_in};
 pub use words::{WordFault, attempt_in, cut, first_word, next_word, token_in};
-
-#[cfg(test)]
-mod tests;

@@ -2,7 +2,8 @@ use Rattle.std.proofs.Common.{◌≡◌, Option, None, refl, sym, ap, ◌∙◌,
 use Rattle.std.specs.BTreeMap.{get_by_text}
 use Rattle.std.specs.Prelude.{bytes_eq, option_and_then}
 use Rattle.std.proofs.lemmas.Map.Text.{btree_map_updates_text}
-use Rattle.qz_roster.proofs.TextLemmas.{none-by, room-kept}
+use Rattle.qz_lemmas.proofs.Options.{none-by}
+use Rattle.qz_roster.proofs.TextLemmas.{room-kept}
 use Rattle.qz_roster.proofs.texts.make_room.Goals as goal
 
 pub returns-clause-unchanged : goal.returns-clause-unchanged

@@ -1,7 +1,7 @@
 use Rattle.std.proofs.Common.{◌≡◌, None, subst}
 use Rattle.qz_terms.specs.declared.request.Request.{Request}
 use Rattle.qz_terms.specs.Cause.{missing_here, missing_slot}
-use Rattle.qz_shard.proofs.StepLemmas.{slot-some}
+use Rattle.qz_book.proofs.SlotLemmas.{slot-some}
 use Rattle.qz_shard.proofs.looking.looked_by.Goals as goal
 
 pub viewed-requires : goal.viewed-requires

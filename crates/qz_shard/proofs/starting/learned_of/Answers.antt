@@ -2,7 +2,7 @@ use Rattle.std.proofs.Common.{◌∷◌, [], ◌++◌, List, take, sym, ap, ◌�
 use Rattle.qz_grading.specs.declared.question.Question.{Question}
 use Rattle.qz_terms.specs.declared.record.Learned.{Learned}
 use Rattle.qz_terms.specs.Answer.{learned_as, new_versions}
-use Rattle.qz_shard.proofs.Learning.{learned_all, new_versions-new, new_versions-old, learned-whole}
+use Rattle.qz_legal.proofs.Learning.{learned_all, new_versions-new, new_versions-old, learned-whole}
 use Rattle.qz_shard.proofs.starting.learned_of.Goals.{then-is_new+in_ok-try_copy+in_ok-push, else-is_new}
 use Rattle.qz_shard.proofs.starting.learned_of.Goals as goal
 

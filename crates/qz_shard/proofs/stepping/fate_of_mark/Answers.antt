@@ -1,4 +1,4 @@
-use Rattle.qz_shard.proofs.StepLemmas.{slot-some}
+use Rattle.qz_book.proofs.SlotLemmas.{slot-some}
 use Rattle.qz_shard.proofs.stepping.fate_of_mark.Goals as goal
 
 pub slot_there-played-requires : goal.slot_there-played-requires

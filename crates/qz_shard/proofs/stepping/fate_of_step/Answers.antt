@@ -3,8 +3,9 @@ use Rattle.qz_grading.specs.declared.outcome.Moved.{Moved}
 use Rattle.qz_grading.specs.declared.refusal.Refusal.{Refusal}
 use Rattle.qz_lives.specs.Attempts.{slot_of}
 use Rattle.qz_terms.specs.History.{slot}
-use Rattle.qz_shard.specs.Plays.{IsMove, IsSlot}
-use Rattle.qz_shard.proofs.StepLemmas.{fate-taken, slot-some}
+use Rattle.qz_book.specs.Plays.{IsMove, IsSlot}
+use Rattle.qz_shard.proofs.StepLemmas.{fate-taken}
+use Rattle.qz_book.proofs.SlotLemmas.{slot-some}
 use Rattle.qz_shard.proofs.stepping.fate_of_step.Goals as goal
 
 pub slot_there-played-requires : goal.slot_there-played-requires

@@ -1,6 +1,6 @@
 use Rattle.std.proofs.Common.{ℕ, Some, true, subst}
 use Rattle.std.specs.BTreeMap.{Updates}
-use Rattle.qz_index.specs.Versions.{pair_cmp}
+use Rattle.qz_room.specs.Pairs.{pair_cmp}
 use Rattle.qz_index.proofs.OrderLemmas.{ordered-put}
 use Rattle.qz_index.proofs.order.Order.put.Goals as goal
 

@@ -1,13 +1,14 @@
 use Rattle.std.proofs.Common.{◌≡◌, None, sym, ◌∙◌}
-use Rattle.qz_index.specs.Versions.{origin, pair_cmp}
-use Rattle.qz_index.proofs.Filled.{filled_kept}
-use Rattle.qz_index.proofs.TextLemmas.{nothing}
+use Rattle.qz_lemmas.proofs.Options.{none-by}
+use Rattle.qz_room.specs.Pairs.{pair_cmp}
+use Rattle.qz_index.specs.Versions.{origin}
+use Rattle.qz_room.proofs.Filled.{filled_kept}
 use Rattle.qz_index.proofs.VersionLemmas.{origin_learned}
 use Rattle.qz_index.proofs.versions.Versions.learn.Goals as goal
 
 pub returns-then-is_none-clause-learned : goal.returns-then-is_none-clause-learned
 returns-then-is_none-clause-learned c =
-    let none : origin c.args.self.now c.args.entry c.args.version ≡ None = sym c.origin.ensures ∙ nothing c.origin.result c.if-is_none.ensures in
+    let none : origin c.args.self.now c.args.entry c.args.version ≡ None = sym c.origin.ensures ∙ none-by c.origin.result c.if-is_none.ensures in
     origin_learned c.args.self.now (record { origins = c.fill.new.map }) c.args.entry c.args.version c.args.at c.fill.ensures none
 
 pub returns-then-is_none-clause-kept : goal.returns-then-is_none-clause-kept

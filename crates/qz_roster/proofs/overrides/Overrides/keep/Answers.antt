@@ -3,7 +3,7 @@ use Rattle.std.specs.BTreeMap.{get}
 use Rattle.std.specs.Prelude.{is_some}
 use Rattle.qz_terms.specs.declared.request.Whom.{Whom}
 use Rattle.qz_roster.specs.Overrides.{of_whom}
-use Rattle.qz_roster.specs.Pairs.{pair_cmp}
+use Rattle.qz_room.specs.Pairs.{pair_cmp}
 use Rattle.qz_roster.proofs.OverrideCounts.{override_count-few}
 use Rattle.qz_roster.proofs.OverrideLemmas.{group-set, overrides-kept, overrides-same, user-set}
 use Rattle.qz_roster.proofs.Telling.{more-few}

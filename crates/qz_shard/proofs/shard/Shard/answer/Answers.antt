@@ -5,7 +5,7 @@ use Rattle.qz_terms.specs.declared.reply.Reply.TheVariants as reply
 use Rattle.qz_terms.specs.Answer.{answer_here, list_after}
 use Rattle.qz_shard.specs.Answering.{IsPosed}
 use Rattle.qz_shard.specs.Keeping.{IsTold, Keeping, shard_over}
-use Rattle.qz_shard.specs.Nexts.{IsNext}
+use Rattle.qz_book.specs.Nexts.{IsNext}
 use Rattle.qz_shard.proofs.KeptCalls.{answer_ends, answer_told, kept_there, ready_for}
 use Rattle.qz_shard.proofs.shard.Shard.answer.Goals as goal
 

@@ -1,6 +1,6 @@
 use Rattle.std.proofs.Common.{subst, sym}
 use Rattle.qz_keeper.proofs.Settling.{stored}
-use Rattle.qz_shard.specs.Nexts.{IsNext}
+use Rattle.qz_book.specs.Nexts.{IsNext}
 use Rattle.qz_shard.proofs.shard.Shard.into_keeper.Goals as goal
 
 pub returns-clause-stored : goal.returns-clause-stored

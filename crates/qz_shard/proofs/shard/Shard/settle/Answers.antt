@@ -5,7 +5,7 @@ use Rattle.qz_keeper.specs.Lists.{IsKeptList}
 use Rattle.qz_terms.specs.declared.record.Record.{Record}
 use Rattle.qz_shard.specs.Holdings.{Holding}
 use Rattle.qz_shard.proofs.KeptCalls.{found_next, kept_there}
-use Rattle.qz_shard.specs.Nexts.{IsNext}
+use Rattle.qz_book.specs.Nexts.{IsNext}
 use Rattle.qz_shard.proofs.shard.Shard.settle.Goals as goal
 
 pub invariant_of-self : goal.invariant_of-self

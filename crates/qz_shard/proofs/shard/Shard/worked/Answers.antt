@@ -3,7 +3,7 @@ use Rattle.qz_keeper.proofs.Calls.{recorded_call}
 use Rattle.qz_keeper.proofs.Settling.{call_kept, list_ends, ready_of}
 use Rattle.qz_terms.specs.declared.reply.Reply.TheVariants as reply
 use Rattle.qz_terms.specs.Answer.{work_answer, work_after}
-use Rattle.qz_shard.specs.Nexts.{IsNext}
+use Rattle.qz_book.specs.Nexts.{IsNext}
 use Rattle.qz_shard.specs.Works.{IsWorked}
 use Rattle.qz_shard.proofs.KeptCalls.{kept_there, ready_for, work_ends}
 use Rattle.qz_shard.proofs.shard.Shard.worked.Goals as goal

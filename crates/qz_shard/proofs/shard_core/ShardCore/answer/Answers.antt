@@ -8,7 +8,8 @@ use Rattle.qz_shard.specs.declared.decision.Decision.TheVariants as decision
 use Rattle.qz_shard.specs.Answering.{IsAnswered, IsPosed}
 use Rattle.qz_shard.specs.Decisions.{IsDecision, IsRepeated}
 use Rattle.qz_shard.specs.Holdings.{Holding}
-use Rattle.qz_shard.specs.Nexts.{IsNext, record_by}
+use Rattle.qz_book.specs.Nexts.{IsNext}
+use Rattle.qz_shard.specs.Puts.{record_by}
 use Rattle.qz_shard.proofs.Counting.{few-made}
 use Rattle.qz_shard.proofs.Making.{decided-next, granted-answer, idle-answer, repeated-answer}
 use Rattle.qz_shard.proofs.shard_core.ShardCore.answer.Goals as goal

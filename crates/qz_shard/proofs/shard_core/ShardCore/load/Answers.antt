@@ -1,5 +1,6 @@
 use Rattle.std.proofs.Common.{List, Bool, ℕ, subst}
-use Rattle.qz_shard.specs.Holdings.{Holding, IsHeld}
+use Rattle.qz_shard.specs.Holdings.{Holding}
+use Rattle.qz_book.specs.Held.{IsHeld}
 use Rattle.qz_shard.specs.Loads.{IsTaken}
 use Rattle.qz_shard.proofs.LoadLemmas.{read-illegal, read-more, read-none, read-whole}
 use Rattle.qz_shard.proofs.shard_core.ShardCore.load.Goals as goal

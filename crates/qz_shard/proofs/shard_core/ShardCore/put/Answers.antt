@@ -2,11 +2,12 @@ use Rattle.std.proofs.Common.{◌≡◌, ℕ, ◌∷◌, ◌++◌, [], List, len
 use Rattle.std.proofs.lemmas.Option.{get_or_from_slice_get}
 use Rattle.qz_terms.specs.declared.record.Record.{Record}
 use Rattle.qz_terms.specs.Answer.{said}
-use Rattle.qz_shard.specs.Cursors.{AreCursors, cursor_at, followed}
-use Rattle.qz_shard.specs.Holdings.{Holding, IsHeld}
-use Rattle.qz_shard.specs.Nexts.{IsNext}
-use Rattle.qz_shard.proofs.CursorLemmas.{cursors-follow}
-use Rattle.qz_shard.proofs.Making.{held-push}
+use Rattle.qz_book.specs.Cursors.{AreCursors, cursor_at, followed}
+use Rattle.qz_shard.specs.Holdings.{Holding}
+use Rattle.qz_book.specs.Held.{IsHeld}
+use Rattle.qz_book.specs.Nexts.{IsNext}
+use Rattle.qz_book.proofs.CursorLemmas.{cursors-follow}
+use Rattle.qz_book.proofs.Growing.{held-push}
 use Rattle.qz_shard.proofs.PutLemmas.{stands-at, untold}
 use Rattle.qz_shard.proofs.shard_core.ShardCore.put.Goals as goal
 

@@ -1,7 +1,7 @@
 use Rattle.std.proofs.Common.{◌≡◌, ◌+◌, ◌≤◌, ◌∷◌, ◌++◌, [], List, refl, sym, ap, subst}
 use Rattle.qz_keeper.specs.Recording.{one_put}
 use Rattle.qz_terms.specs.Answer.{said}
-use Rattle.qz_shard.specs.Nexts.{IsNext}
+use Rattle.qz_book.specs.Nexts.{IsNext}
 use Rattle.qz_terms.specs.declared.record.Record.{Record}
 use Rattle.qz_shard.specs.declared.working.Work.{Work}
 use Rattle.qz_shard.specs.declared.working.Work.TheVariants as work

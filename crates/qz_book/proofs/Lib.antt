@@ -1,0 +1,10 @@
+pub mod Effects
+pub mod Placing
+pub mod PlayLemmas
+pub mod Following
+pub mod SlotLemmas
+pub mod ReadingLemmas
+pub mod Growing
+pub mod TargetLemmas
+pub mod SearchLemmas
+pub mod CursorLemmas

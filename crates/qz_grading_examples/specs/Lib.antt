@@ -1,0 +1,4 @@
+pub mod Examples
+pub mod ExamplesReplays
+pub mod ExamplesQuestions
+pub mod ExamplesCanonical

@@ -1,0 +1,7 @@
+pub mod Learning
+pub mod LearnTests
+pub mod PutTold
+pub mod PutMade
+pub mod BeginLemmas
+pub mod StandLemmas
+pub mod TakeLemmas

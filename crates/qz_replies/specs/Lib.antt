@@ -1,0 +1,4 @@
+pub mod Replies
+pub mod Said
+pub mod Lines
+pub mod Examples

@@ -1,6 +1,0 @@
-use Rattle.std.proofs.Common.{◌≡◌, map, take}
-use Rattle.qz_shard.specs.Grades.{graded}
-use Rattle.qz_shard.proofs.rows.grades_of.Given as goal
-
-abbrev pub invariant-loop-user : goal.invariant-loop-user
-invariant-loop-user l = l.items.items ≡ map (graded l.book l.quiz l.policy) (take l.user-index l.users)

@@ -1,0 +1,152 @@
+use qz_command::{Command, WordsFault, command_of};
+use qz_text::{NoMemory, Text};
+use std::alloc::Global;
+use std::test::Fail;
+
+/// What the command that these words are says of itself, or that they are none.
+fn told(alloc: Global, words: &[Text]) -> Result<String, NoMemory> {
+    Ok(match command_of(alloc, words) {
+        Ok(Command::Replay) => String::from_str(alloc, "replay")?,
+        Ok(Command::GiftCheck) => String::from_str(alloc, "check")?,
+        Ok(Command::GiftFormat) => String::from_str(alloc, "format")?,
+        Ok(Command::Script { folder }) => format!(in alloc; "script in {}", folder.as_str())?,
+        Ok(
+            Command::Found {
+                folder,
+                shards,
+                token,
+            },
+        ) => format!(in alloc;
+            "{shards} shards in {} by {}",
+            folder.as_str(),
+            token.as_str()
+        )?,
+        Ok(
+            Command::Serve {
+                folder,
+                port,
+                workers,
+                regraders,
+                links,
+            },
+        ) => {
+            let folder = folder.as_str();
+            format!(in alloc; "{folder} at {port} by {workers} and {regraders} until {links}")?
+        }
+        Ok(Command::Bulk { count }) => format!(in alloc; "bulk of {count}")?,
+        Err(WordsFault::BadWords) => String::from_str(alloc, "none")?,
+        Err(WordsFault::Memory) => return Err(NoMemory),
+    })
+}
+
+/// The same of the words of a line, which have one space between each two.
+fn told_of_line(alloc: Global, line: &str) -> Result<String, NoMemory> {
+    let mut words = Vec::new(alloc);
+    for word in line.split(' ') {
+        words.push(Text::of(alloc, word)?)?;
+    }
+    told(alloc, words.as_slice())
+}
+
+#[test]
+fn each_command_is_told(rt: HostRuntime) -> Result<(), Fail> {
+    let alloc = rt.alloc();
+    for (line, want) in [
+        ("replay", "replay"),
+        ("gift check", "check"),
+        ("gift fmt", "format"),
+        ("script memory", "script in memory"),
+        ("script a-b", "script in a-b"),
+        ("found help 1 t", "1 shards in help by t"),
+        ("found /x 64 Ann_B-7", "64 shards in /x by Ann_B-7"),
+        ("serve memory 1 1 0 1", "memory at 1 by 1 and 0 until 1"),
+        (
+            "serve s 65535 16 8 1000000000",
+            "s at 65535 by 16 and 8 until 1000000000",
+        ),
+        ("bulk 1", "bulk of 1"),
+        ("bulk 2000", "bulk of 2000"),
+    ] {
+        let said = told_of_line(alloc, line)?;
+        assert!(rt; said.as_str() == want, "{line}");
+    }
+    Ok(())
+}
+
+#[test]
+fn other_words_are_no_command(rt: HostRuntime) -> Result<(), Fail> {
+    let alloc = rt.alloc();
+    assert!(rt; told(alloc, &[])?.as_str() == "none");
+    for line in [
+        "",
+        "Replay",
+        "help",
+        "--help",
+        "-h",
+        "replay ",
+        "replay x",
+        "replay --help",
+        "gift",
+        "gift Check",
+        "gift check x",
+        "gift --help",
+        "script",
+        "script ",
+        "script -",
+        "script -x",
+        "script --",
+        "script a b",
+        "found a 1",
+        "found a 1 t x",
+        "found a 0 t",
+        "found a 65 t",
+        "found a 01 t",
+        "found a 1 -t",
+        "found a 1 t.t",
+        "found a 1 ",
+        "found  1 t",
+        "serve a 1 1 0",
+        "serve a 1 1 0 1 1",
+        "serve a 0 1 0 1",
+        "serve a 65536 1 0 1",
+        "serve a 1 0 0 1",
+        "serve a 1 17 0 1",
+        "serve a 1 1 9 1",
+        "serve a 1 1 00 1",
+        "serve a 1 1 0 0",
+        "serve a 1 1 0 1000000001",
+        "serve a 1 1 -0 1",
+        "serve a 080 1 0 1",
+        "serve a 1 1 0 --",
+        "bulk",
+        "bulk 0",
+        "bulk 2001",
+        "bulk 02",
+        "bulk +2",
+        "bulk 2 2",
+    ] {
+        let said = told_of_line(alloc, line)?;
+        assert!(rt; said.as_str() == "none", "{line}");
+    }
+    Ok(())
+}
+
+/// What is told of `found` with a folder and a token of so many bytes.
+fn told_of_long(alloc: Global, folder: usize, token: usize) -> Result<String, NoMemory> {
+    let folder = "f".repeat(alloc, folder)?;
+    let token = "t".repeat(alloc, token)?;
+    told_of_line(
+        alloc,
+        format!(in alloc; "found {folder} 1 {token}")?.as_str(),
+    )
+}
+
+#[test]
+fn long_words_are_no_names(rt: HostRuntime) -> Result<(), Fail> {
+    let alloc = rt.alloc();
+    for (folder, token, is_command) in [(4096, 64, true), (4097, 64, false), (4096, 65, false)] {
+        let said = told_of_long(alloc, folder, token)?;
+        assert!(rt; (said.as_str() != "none") == is_command, "{folder} {token}");
+    }
+    Ok(())
+}
