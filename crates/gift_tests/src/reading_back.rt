@@ -1,14 +1,24 @@
 //! Texts of every kind of question, read and then written in their canonical form.
 
-use crate::writing::EXPORTED;
 use gift_read::{GiftFault, read};
 use gift_write::spell;
 use qz_text::NoMemory;
 use std::alloc::Global;
 use std::test::Fail;
 
+/// The canonical text of a bank as a Moodle site exports it.
+const EXPORTED: &str = "$CATEGORY: $course$/top/Week 1\n\
+\n\
+::Capital::[html]<p>Capital of France?</p>{\n\
+\t=Paris#Yes\n\
+\t~Lyon#No\n\
+\t~%50%Paris area\n\
+\t####See page 4\n\
+}\n\
+\n";
+
 /// The canonical text of what a text is read as, or its fault.
-pub(crate) fn canonical(alloc: Global, text: &str) -> Result<String, NoMemory> {
+fn canonical(alloc: Global, text: &str) -> Result<String, NoMemory> {
     match read(alloc, text.as_bytes()) {
         Ok(bank) => {
             let text = spell(alloc, &bank)?;

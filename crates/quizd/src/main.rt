@@ -3,34 +3,14 @@
 
 ghost use Rattle.std.specs.Prelude.{◌≡◌, length, IfOk};
 
-#[cfg(test)]
-mod beside_tests;
 mod bulk;
 mod folders;
-#[cfg(test)]
-mod folders_tests;
 mod gift;
-#[cfg(test)]
-mod gift_tests;
-#[cfg(test)]
-mod held_disk;
-#[cfg(test)]
-mod prompt_tests;
-#[cfg(test)]
-mod regrading_tests;
 mod run;
-#[cfg(test)]
-mod running;
 mod script;
 mod script_input;
 mod script_line;
-#[cfg(test)]
-mod script_tests;
 mod serve;
-#[cfg(test)]
-mod stops_tests;
-#[cfg(test)]
-mod usage_tests;
 
 pub use bulk::bulk;
 pub use folders::{script_folder, serve_folder};

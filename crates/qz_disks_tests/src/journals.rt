@@ -1,11 +1,21 @@
 ghost use Rattle.std.specs.Prelude.{◌≡◌, None, IfOk};
 
-use crate::made::disk_of;
-use qz_disks::{Fill, KeepErr, Keeper, MemoryDisk};
+use qz_disks::{Fill, Keeper, MemoryDisk};
 use qz_journal::{Journal, JournalFault};
-use qz_text::{Bytes, Listed};
+use qz_text::{Bytes, Listed, NoMemory};
 use std::alloc::Global;
 use std::test::Fail;
+
+fn listed(alloc: Global, numbers: &[u64]) -> Result<Listed<u64>, NoMemory> {
+    Ok(Listed {
+        items: Vec::from_slice(alloc, numbers)?,
+    })
+}
+
+// A disk on which these bytes stand, whose calls of these numbers fail.
+fn disk_of(alloc: Global, bytes: &[u8], failing: &[u64]) -> Result<MemoryDisk, NoMemory> {
+    MemoryDisk::holding(alloc, bytes, listed(alloc, failing)?)
+}
 
 type Loaded = Result<(Journal<MemoryDisk>, Listed<Bytes>), JournalFault>;
 
@@ -69,48 +79,6 @@ fn images_are_judged(rt: HostRuntime) -> Result<(), Fail> {
     ];
     for (image, told) in rows {
         assert_eq!(rt; judged(alloc, image), told);
-    }
-    Ok(())
-}
-
-// How many payloads it finds in its file.
-fn count(alloc: Global, journal: &mut Journal<MemoryDisk>) -> Result<usize, KeepErr>
-    ensures { IfOk result (λ _. journal.new.doubt ≡ None) }
-{
-    Ok(journal.reopen(alloc)?.items.len())
-}
-
-// What an append answers of which a call fails, how many payloads there are then, and how many after the next append, here and in
-// the file.
-fn appended(
-    alloc: Global,
-    failing: u64,
-) -> Result<(Result<(), KeepErr>, usize, usize, usize), Fail> {
-    let (mut journal, _) = loaded(alloc, b"", &[failing])?;
-    let answer = journal.append(alloc, b"one");
-    let after = count(alloc, &mut journal)?;
-    journal.append(alloc, b"two")?;
-    let next = count(alloc, &mut journal)?;
-    let (_, payloads) = loaded(alloc, journal.into_disk().bytes(), &[])?;
-    Ok((answer, after, next, payloads.items.len()))
-}
-
-#[test]
-fn each_call_fails_in_turn(rt: HostRuntime) -> Result<(), Fail> {
-    let alloc = rt.alloc();
-    // Loading an empty file makes five calls: sync, size, cut, write, sync.
-    for number in 1..6 {
-        let fault = loaded(alloc, b"", &[number]).err();
-        assert_eq!(rt; fault, Some(JournalFault::Fault), "call {number}");
-    }
-    // An append makes four: frame, sync, gate, sync. Only where the last one fails is the payload kept.
-    for (number, after, next) in [(6, 0, 1), (7, 0, 1), (8, 0, 1), (9, 1, 2)] {
-        let told = appended(alloc, number)?;
-        assert_eq!(rt;
-            told,
-            (Err(KeepErr::Fault), after, next, next),
-            "call {number}"
-        );
     }
     Ok(())
 }

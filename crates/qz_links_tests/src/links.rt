@@ -1,9 +1,5 @@
-ghost use Rattle.std.specs.Prelude.{◌≡◌};
-
-use crate::made::listed;
 use qz_links::{
-    BindFault, Clock, Door, Gate, Gates, Link, MemoryClock, MemoryDoor, MemoryLink, StdClock,
-    TcpDoor, TcpLink, send_all,
+    BindFault, Clock, Door, Gate, Gates, Link, MemoryLink, StdClock, TcpDoor, TcpLink, send_all,
 };
 use qz_outside::{Failed, MemorySink, MemorySource};
 use qz_text::{Bytes, Listed, NoMemory};
@@ -16,112 +12,17 @@ use std::thread::Threads;
 use std::time::Duration;
 use std::{io, thread, time};
 
+fn listed(alloc: Global, numbers: &[u64]) -> Result<Listed<u64>, NoMemory> {
+    Ok(Listed {
+        items: Vec::from_slice(alloc, numbers)?,
+    })
+}
+
 // A link whose peer sends these bytes, three by three, with room for six, which it takes two by two.
 fn link_of(alloc: Global, bytes: &[u8], read: u64, write: u64) -> Result<MemoryLink, NoMemory> {
     let source = MemorySource::new(Bytes::of(alloc, bytes)?, listed(alloc, &[read])?, 3);
     let sink = MemorySink::new(alloc, 6, listed(alloc, &[write])?, 2)?;
     Ok(MemoryLink::new(source, sink))
-}
-
-type Answer = Result<usize, Failed>;
-
-type Talk = (Answer, Answer, Answer, Answer);
-
-// What two reads and two writes answer, in turn.
-fn talk<L: Link>(link: &mut L) -> Talk {
-    let mut room = [0; 4];
-    let first = link.read(&mut room);
-    let second = link.write(b"xyz");
-    let third = link.read(&mut room);
-    (first, second, third, link.write(b"xyz"))
-}
-
-// The same of a link whose read and whose write of these numbers fail, with what is left, what was written, and the faults.
-fn talked(alloc: Global, read: u64, write: u64) -> Result<(Talk, usize, usize, u64), NoMemory> {
-    let mut link = link_of(alloc, b"abcde", read, write)?;
-    let answers = talk(&mut link);
-    Ok((
-        answers,
-        link.left().len(),
-        link.bytes().len(),
-        link.faults(),
-    ))
-}
-
-#[test]
-fn each_call_of_a_link_fails_in_turn(rt: HostRuntime) -> Result<(), Fail> {
-    let alloc = rt.alloc();
-    for (read, write, ended) in [
-        (9, 9, ((Ok(3), Ok(2), Ok(2), Ok(2)), 0, 4, 0)),
-        (1, 9, ((Err(Failed), Ok(2), Ok(3), Ok(2)), 2, 4, 1)),
-        (2, 9, ((Ok(3), Ok(2), Err(Failed), Ok(2)), 2, 4, 1)),
-        (9, 1, ((Ok(3), Err(Failed), Ok(2), Ok(2)), 0, 2, 1)),
-        (9, 2, ((Ok(3), Ok(2), Ok(2), Err(Failed)), 0, 2, 1)),
-        (1, 2, ((Err(Failed), Ok(2), Ok(3), Err(Failed)), 2, 2, 2)),
-    ] {
-        let told = talked(alloc, read, write)?;
-        assert!(rt; told == ended, "{read} {write}");
-    }
-    Ok(())
-}
-
-// What sending these bytes answers where a write fails, whether the link then holds the others, and how many faults it has counted.
-fn sent(
-    alloc: Global,
-    failing: u64,
-    text: &str,
-    written: &str,
-) -> Result<(Result<(), Failed>, bool, u64), NoMemory> {
-    let mut link = link_of(alloc, b"?", 9, failing)?;
-    let answer = send_all(&mut link, text.as_bytes());
-    Ok((answer, link.bytes() == written.as_bytes(), link.faults()))
-}
-
-#[test]
-fn bytes_are_sent_whole(rt: HostRuntime) -> Result<(), Fail> {
-    let alloc = rt.alloc();
-    // The write that fails, the bytes, what the link holds then, the answer, and how many faults were counted.
-    for (failing, text, written, answer, faults) in [
-        (9, "", "", Ok(()), 0),
-        (9, "abcdef", "abcdef", Ok(()), 0),
-        (1, "abcdef", "", Err(Failed), 1),
-        (3, "abcdef", "abcd", Err(Failed), 1),
-        (9, "abcdefg", "abcdef", Err(Failed), 1),
-    ] {
-        let told = sent(alloc, failing, text, written)?;
-        assert!(rt; told == (answer, true, faults), "{text}");
-    }
-    Ok(())
-}
-
-// A link whose second read waits at a gate that a write opens, a thousand looks long, has this write fail, and is talked
-// with: whether the gate stayed closed so long, and whether it is open in the end.
-fn waited(alloc: Global, opens: u64, fails: u64) -> Result<(bool, bool), NoMemory> {
-    let gate = Gate::new(alloc)?;
-    let reads = Gates::none().looking(1_000).waiting(2, gate.try_share()?);
-    let writes = Gates::none().opening(opens, gate.try_share()?);
-    let mut link = link_of(alloc, b"abcde", 9, fails)?.gated(reads, writes);
-    let (first, _, second, _) = talk(&mut link);
-    if (first, second) != (Ok(3), Ok(2)) {
-        return Err(NoMemory);
-    }
-    Ok((link.ran_out(), gate.is_open()))
-}
-
-#[test]
-fn a_read_waits_for_a_write(rt: HostRuntime) -> Result<(), Fail> {
-    let alloc = rt.alloc();
-    // A write that fails opens nothing.
-    for (opens, fails, ended) in [
-        (1, 9, (false, true)),
-        (2, 9, (true, true)),
-        (3, 9, (true, false)),
-        (1, 1, (true, false)),
-    ] {
-        let told = waited(alloc, opens, fails)?;
-        assert!(rt; told == ended, "{opens} {fails}");
-    }
-    Ok(())
 }
 
 // Reads once of the first link, and tells whether the gate is open then; meanwhile it writes once to the second.
@@ -174,61 +75,6 @@ fn pass_one<D: Door>(door: &mut D) -> Result<bool, Failed> {
         }
         None => Ok(false),
     }
-}
-
-// What four calls answer at a door with two links, of which the one of this number fails, and whether both links come back
-// in order.
-fn passed(alloc: Global, failing: u64) -> Result<([Result<bool, Failed>; 4], bool), NoMemory> {
-    let mut items = Vec::new(alloc);
-    items.push(link_of(alloc, b"a", 9, 9)?)?;
-    items.push(link_of(alloc, b"b", 9, 9)?)?;
-    let mut door = MemoryDoor::new(alloc, Listed { items }, listed(alloc, &[failing])?)?;
-    let first = pass_one(&mut door);
-    let second = pass_one(&mut door);
-    let third = pass_one(&mut door);
-    let answers = [first, second, third, pass_one(&mut door)];
-    let in_order = match door.returned() {
-        [first, second] => first.left() == b"a".as_slice() && second.left() == b"b".as_slice(),
-        _ => false,
-    };
-    Ok((answers, in_order && door.faults() == u64::from(failing < 9)))
-}
-
-#[test]
-fn links_come_in_order(rt: HostRuntime) -> Result<(), Fail> {
-    let alloc = rt.alloc();
-    for (failing, answers) in [
-        (9, [Ok(true), Ok(true), Ok(false), Ok(false)]),
-        (1, [Err(Failed), Ok(true), Ok(true), Ok(false)]),
-        (2, [Ok(true), Err(Failed), Ok(true), Ok(false)]),
-        (3, [Ok(true), Ok(true), Err(Failed), Ok(false)]),
-    ] {
-        let told = passed(alloc, failing)?;
-        assert!(rt; told == (answers, true), "{failing}");
-    }
-    Ok(())
-}
-
-// What three calls tell.
-fn told<C: Clock>(clock: &mut C) -> (u64, u64, u64) {
-    let first = clock.now();
-    let second = clock.now();
-    (first, second, clock.now())
-}
-
-#[test]
-fn moments_come_in_order(rt: HostRuntime) -> Result<(), Fail> {
-    let alloc = rt.alloc();
-    for (moments, told_of_them) in [
-        ([].as_slice(), (0, 0, 0)),
-        ([5].as_slice(), (5, 5, 5)),
-        ([3, 9].as_slice(), (3, 9, 9)),
-        ([9, 3, 4, 5].as_slice(), (9, 3, 4)),
-    ] {
-        let told = told(&mut MemoryClock::new(listed(alloc, moments)?));
-        assert!(rt; told == told_of_them);
-    }
-    Ok(())
 }
 
 // A clock that can't be read while it stands at 0.

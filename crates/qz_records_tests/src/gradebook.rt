@@ -1,4 +1,4 @@
-ghost use Rattle.std.specs.Prelude.{◌≡◌, ◌<◌, pos, IfSome};
+ghost use Rattle.std.specs.Prelude.{◌<◌, IfSome};
 ghost use Rattle.qz_gradebook.specs.Totals.{IsTotal};
 
 use qz_decimal::{Grade, Mark, ONE};
@@ -43,35 +43,5 @@ fn grades_by_each_method(rt: HostRuntime) -> Result<(), Fail> {
     assert!(rt; has_grade(&rows, Method::First, Some(Grade(333_333))));
     assert!(rt; has_grade(&rows, Method::Highest, Some(Grade(666_667))));
     assert!(rt; has_grade(&rows, Method::Last, Some(Grade(666_667))));
-    Ok(())
-}
-
-/// The totals 2 and 0, then 2 and none, then 1 and none.
-#[test]
-fn follows_a_change(rt: HostRuntime) -> Result<(), Fail> {
-    let mut rows = Rows::new(rt.alloc());
-    put(&mut rows, 2, Some(Mark(0)))?;
-    put(&mut rows, 1, Some(Mark(2 * ONE)))?;
-    assert!(rt; has_grade(&rows, Method::Average, Some(Grade(333_333))));
-    put(&mut rows, 2, None)?;
-    assert!(rt; has_grade(&rows, Method::Average, Some(Grade(666_667))));
-    assert!(rt; has_grade(&rows, Method::Last, None));
-    put(&mut rows, 1, Some(Mark(ONE)))?;
-    assert!(rt; has_grade(&rows, Method::Highest, Some(Grade(333_333))));
-    Ok(())
-}
-
-#[test]
-fn tells_the_total_of_an_attempt(rt: HostRuntime) -> Result<(), Fail> {
-    let mut rows = Rows::new(rt.alloc());
-    let attempt = AttemptId { user: USER, nth: 2 };
-    assert!(rt; rows.total(QUIZ, attempt).is_none());
-    put(&mut rows, 2, Some(Mark(5)))?;
-    put(&mut rows, 1, None)?;
-    assert!(rt; rows.total(QUIZ, attempt) == Some(Mark(5)));
-    assert!(rt; rows.total(QUIZ + 1, attempt).is_none());
-    assert!(rt; rows.total(QUIZ, AttemptId { user: USER, nth: 1 }).is_none());
-    put(&mut rows, 2, Some(Mark(7)))?;
-    assert!(rt; rows.total(QUIZ, attempt) == Some(Mark(7)));
     Ok(())
 }

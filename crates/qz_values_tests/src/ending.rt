@@ -1,8 +1,6 @@
-//! The exit status of each stop, and what a stop comes from.
+//! The exit status of each stop.
 
 use qz_ending::Stop;
-use qz_outside::ReadStop;
-use qz_text::NoMemory;
 
 #[test]
 fn each_stop_has_its_status(rt: HostRuntime) {
@@ -20,16 +18,4 @@ fn each_stop_has_its_status(rt: HostRuntime) {
     ] {
         assert_eq!(rt; stop.status(), status, "{stop:?}");
     }
-}
-
-#[test]
-fn what_ends_a_reading_ends_a_command(rt: HostRuntime) {
-    for (read, stop) in [
-        (ReadStop::Fault, Stop::SourceFault),
-        (ReadStop::TooLong, Stop::TooLong),
-        (ReadStop::Memory, Stop::Memory),
-    ] {
-        assert_eq!(rt; Stop::from(read), stop, "{read:?}");
-    }
-    assert_eq!(rt; Stop::from(NoMemory), Stop::Memory);
 }

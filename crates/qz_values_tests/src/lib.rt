@@ -1,4 +1,5 @@
-//! Tests of numbers, texts, the outside and the ends of commands. In a crate of their own, so that they are proved without proving what they test once more.
+//! Tests of numbers, texts, the outside and the ends of commands. In a crate of their own, so that they are proved
+//! without proving what they test once more.
 #![tactic(auto)]
 
 #[cfg(test)]

@@ -1,23 +1,7 @@
-//! Copies, patterns and blank texts.
+//! Patterns that fit typed texts, each a copy.
 
-use qz_text::{Bytes, Listed, NoMemory, Pattern, Text, TryCopy, Typed};
+use qz_text::{NoMemory, Pattern, TryCopy, Typed};
 use std::test::Fail;
-
-#[test]
-fn copies_are_made(rt: HostRuntime) -> Result<(), Fail> {
-    let alloc = rt.alloc();
-    let text = Text::of(alloc, "Zürich").ok().ok_or("memory")?;
-    let copy = text.try_copy(alloc).ok().ok_or("memory")?;
-    assert_eq!(rt; copy.as_str(), "Zürich");
-    let bytes = Bytes::of(alloc, b"ab").ok().ok_or("memory")?;
-    let copy = bytes.try_copy(alloc).ok().ok_or("memory")?;
-    assert_eq!(rt; copy.as_slice(), b"ab".as_slice());
-    let mut list = Listed::empty(alloc);
-    list.items.push(3u8)?;
-    let copy = list.try_copy(alloc).ok().ok_or("memory")?;
-    assert_eq!(rt; copy.as_slice(), [3].as_slice());
-    Ok(())
-}
 
 /// Whether a copy of the typed text fits a copy of the pattern.
 fn fits(rt: &HostRuntime, pattern: &str, typed: &str) -> Result<bool, NoMemory> {
@@ -68,20 +52,6 @@ fn patterns_fit(rt: HostRuntime) -> Result<(), Fail> {
             want,
             "{pattern} at {typed}"
         );
-    }
-    Ok(())
-}
-
-#[test]
-fn blank_is_told(rt: HostRuntime) -> Result<(), Fail> {
-    for (text, want) in [
-        ("", true),
-        (" \t\u{2003}\n", true),
-        ("\u{200b}", false),
-        (" a ", false),
-    ] {
-        let typed = Typed::of(rt.alloc(), text).ok().ok_or("memory")?;
-        assert_eq!(rt; typed.is_blank(), want, "{text}");
     }
     Ok(())
 }

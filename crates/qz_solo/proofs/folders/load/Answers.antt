@@ -1,5 +1,5 @@
 use Rattle.qz_loading.specs.declared.fault.LoadFault.TheVariants.{Fault}
-use Rattle.qz_restart.proofs.Restarting.{loaded-same, refused-by}
+use Rattle.qz_solo.proofs.Restarting.{loaded-same, refused-by}
 use Rattle.qz_solo.proofs.Beginning.{caused_ok, loaded_solo, sound_ok}
 use Rattle.qz_solo.proofs.folders.load.Goals as goal
 

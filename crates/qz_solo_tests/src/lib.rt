@@ -1,5 +1,0 @@
-//! Tests of a school asked by one alone. In a crate of their own, so that they are proved without proving what they test once more.
-#![tactic(auto)]
-
-#[cfg(test)]
-mod tests;
