@@ -112,15 +112,8 @@ impl Gates {
         }
     }
 
-    /// The call that waits looks this often at most.
-    pub fn looking(self, looks: u32) -> Gates
-        ensures { result ≡ self }
-    {
-        Gates { looks, ..self }
-    }
-
     /// The call of this number waits: before it does anything else it looks at the gate until that is open,
-    /// 100,000,000 times at most where nothing else was said.
+    /// 100,000,000 times at most.
     pub fn waiting(self, call: u64, gate: Gate) -> Gates
         ensures { result ≡ record self { waits = Some call } }
     {
