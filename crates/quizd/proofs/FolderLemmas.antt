@@ -31,9 +31,9 @@ use Rattle.qz_regrading.specs.declared.ends.LoopEnd.TheVariants as ends
 use Rattle.qz_regrading.specs.Loops.{AllDone}
 use Rattle.qz_regrading.specs.Loops as loops
 use Rattle.qz_shard.specs.Keeping as part
-use Rattle.qz_solo.specs.Answering.{IsServed}
-use Rattle.qz_solo.specs.Solos.{Fails, GoOn, School, faults_of, held_of, lists_in}
-use Rattle.qz_solo.proofs.Keepers.{go_both, go_none}
+use Rattle.qz_school.specs.Answering.{IsServed}
+use Rattle.qz_school.specs.Solos.{Fails, GoOn, School, faults_of, held_of, lists_in}
+use Rattle.qz_school.proofs.Keepers.{go_both, go_none}
 use Rattle.qz_serial.specs.Once.{AskedOnce}
 use Rattle.qz_serial.proofs.Staying.{asks_grow}
 use Rattle.qz_stations.specs.declared.ends.ServeEnd.{ServeEnd}

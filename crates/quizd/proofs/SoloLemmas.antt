@@ -3,7 +3,7 @@ use Rattle.std.proofs.Common.{◌≤◌, ℕ, List, [], None, Some, Option, IfSo
 use Rattle.std.specs.Prelude.{unwrap_or}
 use Rattle.qz_outside.specs.Causes.{HasRisen}
 use Rattle.qz_serial.specs.Once.{AskedOnce}
-use Rattle.qz_solo.specs.Answering.{MayBeAsked}
+use Rattle.qz_school.specs.Answering.{MayBeAsked}
 use Rattle.qz_terms.specs.declared.ask.Ask.{Ask}
 use Rattle.qz_terms.specs.declared.reply.Reply.{Reply}
 use Rattle.qz_terms.specs.Serial.{Lists}

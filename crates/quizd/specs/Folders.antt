@@ -14,7 +14,7 @@ use Rattle.qz_opening.specs.Unloaded.{UnloadedBy}
 use Rattle.qz_outside.specs.Causes.{HasRisen}
 use Rattle.qz_regrading.specs.Loops.{AllDone}
 use Rattle.qz_shard.specs.Keeping as part
-use Rattle.qz_solo.specs.Solos.{GoOn, School, faults_of, lists_in}
+use Rattle.qz_school.specs.Solos.{GoOn, School, faults_of, lists_in}
 use Rattle.qz_stations.specs.declared.ends.ServeEnd.{ServeEnd}
 use Rattle.qz_stations.specs.Passing.{ServesNone, ServesSchool}
 use Rattle.qz_stations.specs.Stations.{Serving}

@@ -7,3 +7,8 @@ pub mod Leaning
 pub mod AlikeInSchool
 pub mod Floors
 pub mod Working
+pub mod Calls
+pub mod Keepers
+pub mod Planning
+pub mod Missing
+pub mod Rows

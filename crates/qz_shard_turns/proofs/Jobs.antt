@@ -12,7 +12,7 @@ use Rattle.qz_serial.proofs.Longer.{staying_law}
 use Rattle.qz_shard.specs.Holdings.{IsWorkable}
 use Rattle.qz_shard.specs.Keeping as part
 use Rattle.qz_shard.specs.Works.{IsWorked}
-use Rattle.qz_solo.proofs.Calls.{call_stands, stand_as, stand_both}
+use Rattle.qz_school.proofs.Calls.{call_stands, stand_as, stand_both}
 use Rattle.qz_terms.specs.declared.plan.Job.{Job}
 use Rattle.qz_terms.specs.declared.record.Record.{Record}
 use Rattle.qz_terms.specs.declared.reply.Reply.{Reply}

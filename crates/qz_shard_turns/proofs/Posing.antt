@@ -20,8 +20,8 @@ use Rattle.qz_serial.proofs.Seats.{mended_grows}
 use Rattle.qz_shard.specs.declared.shard.Older.{Older}
 use Rattle.qz_shard.specs.Holdings.{IsAsked}
 use Rattle.qz_shard.specs.Keeping as part
-use Rattle.qz_solo.proofs.Calls.{call_grows, call_stands, stand_as, stand_both, stands_mended}
-use Rattle.qz_solo.proofs.Planning.{planned_means}
+use Rattle.qz_school.proofs.Calls.{call_grows, call_stands, stand_as, stand_both, stands_mended}
+use Rattle.qz_school.proofs.Planning.{planned_means}
 use Rattle.qz_terms.specs.declared.ask.Ask.{Ask}
 use Rattle.qz_terms.specs.declared.people.User.{User}
 use Rattle.qz_terms.specs.declared.plan.Plan.{Plan}

@@ -7,7 +7,7 @@ use mathlib.Core.List.{IsPrefix}
 use Rattle.qz_grading.specs.declared.refusal.Refusal.{Refusal}
 use Rattle.qz_keeper.specs.Lists.{EachMayStand, Looks, OneCall}
 use Rattle.qz_shard.specs.Keeping as part
-use Rattle.qz_solo.proofs.Calls.{look_stands}
+use Rattle.qz_school.proofs.Calls.{look_stands}
 use Rattle.qz_school.proofs.Agreeing.{all-longer}
 use Rattle.qz_terms.specs.declared.record.Record.{Record}
 use Rattle.qz_terms.specs.Legal.{AllAgree, IsLegalCatalog}

@@ -11,8 +11,8 @@ use Rattle.qz_shard.specs.declared.shard.Older.{Older}
 use Rattle.qz_shard.specs.Answering.{IsAnswered}
 use Rattle.qz_shard.specs.Holdings.{Holding, StartsHere, older}
 use Rattle.qz_shard.specs.Keeping as part
-use Rattle.qz_solo.specs.Answering.{MayBeAsked}
-use Rattle.qz_solo.specs.Planning.{asks_shard}
+use Rattle.qz_school.specs.Answering.{MayBeAsked}
+use Rattle.qz_school.specs.Planning.{asks_shard}
 use Rattle.qz_terms.specs.declared.ask.Ask.{Ask}
 use Rattle.qz_terms.specs.declared.people.User.{User}
 use Rattle.qz_terms.specs.declared.plan.Plan.{Plan}

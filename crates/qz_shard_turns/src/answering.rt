@@ -6,7 +6,7 @@ ghost use Rattle.qz_keeper.specs.Recording.{GoesOn, HasFailed};
 ghost use Rattle.qz_serial.specs.Calls.{ShardAnswers};
 ghost use Rattle.qz_shard.specs.Holdings.{IsAsked, StartsHere, is_look};
 ghost use Rattle.qz_shard.specs.Keeping.{IsOlder, IsSamePart, shard_over};
-ghost use Rattle.qz_solo.specs.Planning.{asks_shard};
+ghost use Rattle.qz_school.specs.Planning.{asks_shard};
 ghost use Rattle.qz_terms.specs.declared.reply.Reply.TheVariants as reply;
 ghost use Rattle.qz_terms.specs.Legal.{IsLegal};
 ghost use Rattle.qz_turn.specs.Turns.{UnderKey};

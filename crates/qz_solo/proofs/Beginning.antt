@@ -25,8 +25,8 @@ use Rattle.qz_terms.specs.Serial.{Held, Lists, with_list}
 use Rattle.qz_terms.specs.Spelling.{spelling}
 use Rattle.qz_school.proofs.Agreeing.{all-empty}
 use Rattle.qz_solo.specs.Memory.{AreClear, AreFresh, founded_lists}
-use Rattle.qz_solo.proofs.Calls.{stands_alone}
-use Rattle.qz_solo.specs.Solos.{IsSolo, School, held_of, lists_in}
+use Rattle.qz_school.proofs.Calls.{stands_alone}
+use Rattle.qz_school.specs.Solos.{IsSolo, School, held_of, lists_in}
 
 -- ---- the catalogue
 

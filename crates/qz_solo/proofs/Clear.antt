@@ -15,10 +15,10 @@ use Rattle.qz_serial.specs.Once.{AskedOnce}
 use Rattle.qz_serial.specs.Paths.{with_part}
 use Rattle.qz_serial.proofs.Composing.{mended_same}
 use Rattle.qz_serial.proofs.Seats.{set_same}
-use Rattle.qz_solo.specs.Answering.{IsServed}
+use Rattle.qz_school.specs.Answering.{IsServed}
 use Rattle.qz_solo.specs.Memory.{AreClear, is_memory}
-use Rattle.qz_solo.specs.Solos.{AreSound, School, held_of, lists_in}
-use Rattle.qz_solo.proofs.Keepers.{get_set}
+use Rattle.qz_school.specs.Solos.{AreSound, School, held_of, lists_in}
+use Rattle.qz_school.proofs.Keepers.{get_set}
 use Rattle.qz_solo.proofs.Standing.{held_there, lists_part}
 
 -- ---- a mending of them does nothing

@@ -1,7 +1,4 @@
-pub mod Calls
-pub mod Keepers
 pub mod Standing
-pub mod Planning
 pub mod UnderPlans
 pub mod Serving
 pub mod Steps

@@ -8,9 +8,9 @@ use Rattle.qz_terms.specs.declared.request.Request.{Request}
 use Rattle.qz_terms.specs.declared.request.Request.TheVariants as request
 use Rattle.qz_terms.specs.CatalogAnswer.{asks_catalog}
 use Rattle.qz_serial.specs.Paths.{IsKnown}
-use Rattle.qz_solo.specs.Answering.{IsServed, Serves}
-use Rattle.qz_solo.specs.Planning.{asks_shard}
-use Rattle.qz_solo.specs.Solos.{School, lists_in}
+use Rattle.qz_school.specs.Answering.{IsServed, Serves}
+use Rattle.qz_school.specs.Planning.{asks_shard}
+use Rattle.qz_school.specs.Solos.{School, lists_in}
 
 pub seen_from : {K : Type 0} (sound : K → Type 0) (faults : K → ℕ) (l a b : School K) (now : ℕ) (ask : Ask) (r : Reply) → a ≡ l → IsServed sound faults a b now ask r → IsServed sound faults l b now ask r
 seen_from sound faults l a b now ask r view served = subst (λ (x : School _). IsServed sound faults x b now ask r) view served

@@ -17,7 +17,6 @@ use Rattle.qz_terms.specs.declared.request.Request.{Request}
 use Rattle.qz_terms.specs.declared.request.Request.TheVariants as request
 use Rattle.qz_terms.specs.Answer.{named_user}
 use Rattle.qz_terms.specs.CatalogAnswer.{asks_catalog}
-use Rattle.qz_terms.specs.Cause.{forbidden}
 use Rattle.qz_terms.specs.SchoolAnswer.{first_refusal, part_of, refusal_among}
 use Rattle.qz_terms.specs.Serial.{Asks, Held, Lists, Mended, reads_catalog, stays}
 use Rattle.qz_serial.specs.Calls.{CatalogAnswers, ShardAnswers}
@@ -26,10 +25,10 @@ use Rattle.qz_serial.specs.Paths.{FindsUser, IsAskable, IsGoing, IsKnown, goes_t
 use Rattle.qz_serial.proofs.Acting.{asked_once, token_reads}
 use Rattle.qz_serial.proofs.Composing.{calls_mean, mended_same}
 use Rattle.qz_serial.proofs.Tokens.{tokens_law}
-use Rattle.qz_solo.specs.Answering.{IsServed, MayBeAsked, PartAnswers, PartTells, Serves}
-use Rattle.qz_solo.specs.Planning.{asks_shard}
-use Rattle.qz_solo.specs.Solos.{Fails, IsSolo, School, held_of, lists_in}
-use Rattle.qz_solo.proofs.Keepers.{fails_part, fails_records, fails_then, go_both, go_none, go_part, go_records}
+use Rattle.qz_school.specs.Answering.{IsServed, MayBeAsked, PartAnswers, PartTells, Serves}
+use Rattle.qz_school.specs.Planning.{asks_shard}
+use Rattle.qz_school.specs.Solos.{Fails, IsSolo, School, held_of, lists_in}
+use Rattle.qz_school.proofs.Keepers.{fails_part, fails_records, fails_then, go_both, go_none, go_part, go_records}
 use Rattle.qz_solo.proofs.Standing.{count_held, held_there, lists_both}
 
 pub askable : {K : Type 0} (c : records.Keeping K) (ss : List (part.Keeping K)) (ask : Ask) (now : ℕ) → IsSolo c ss → MayBeAsked ask now → let a : School K = record { catalog = c; parts = ss } in IsAskable (lists_in a) ask
@@ -133,9 +132,6 @@ pub either_served : {K : Type 0} (sound : K → Type 0) (faults : K → ℕ) (c 
     → asks_catalog ask.request ≡ false → (r ≡ refusal.Memory) ⊎ (first_refusal c.held.list user ask.request ≡ Some r) → IsServed sound faults (record { catalog = c; parts = ss }) (record { catalog = c; parts = ss }) now ask (reply.Refused r)
 either_served sound faults c ss now ask user r solo may known other (inl memory) = rw memory (wants_served sound faults c ss now ask user solo may known)
 either_served sound faults c ss now ask user r solo may known other (inr first) = refused_served sound faults c ss now ask user r solo may known other first
-
-pub forbidden_first : (c : List Record) (user : User) (ask : Ask) (r : Refusal) → forbidden user ask.request ≡ Some r → first_refusal c user ask.request ≡ Some r
-forbidden_first c user ask r is = rw is refl
 
 -- ---- one shard
 

@@ -37,14 +37,14 @@ use Rattle.qz_serial.proofs.Composing.{calls_mean, look_ends, looks_are_calls}
 use Rattle.qz_serial.proofs.Seats.{all_stay, set_get, set_twice}
 use Rattle.qz_serial.proofs.Settling.{settling_law}
 use Rattle.qz_serial.proofs.Workers.{workers_law}
-use Rattle.qz_solo.specs.Answering.{IsServed, MayBeAsked, PartAnswers, PartLooks}
-use Rattle.qz_solo.specs.Solos.{Fails, GoOn, IsSolo, School, held_of, lists_in}
-use Rattle.qz_solo.proofs.Calls.{look_told, means_there, stand_as}
-use Rattle.qz_solo.proofs.Keepers.{fails_part, fails_records, fails_then, go_both, go_none, go_part, go_records}
-use Rattle.qz_solo.proofs.Planning.{plan_there}
+use Rattle.qz_school.specs.Answering.{IsServed, MayBeAsked, PartAnswers, PartLooks}
+use Rattle.qz_school.specs.Solos.{Fails, GoOn, IsSolo, School, held_of, lists_in}
+use Rattle.qz_school.proofs.Calls.{look_told, means_there, stand_as}
+use Rattle.qz_school.proofs.Keepers.{fails_part, fails_records, fails_then, go_both, go_none, go_part, go_records}
+use Rattle.qz_school.proofs.Planning.{plan_there}
 use Rattle.qz_solo.proofs.Serving.{RecordsAnswer, askable}
 use Rattle.qz_solo.proofs.Standing.{count_held, held_there, lists_both, lists_part}
-use Rattle.qz_solo.proofs.Steps.{job_absent, job_present}
+use Rattle.qz_school.proofs.Missing.{job_absent, job_present}
 
 pub worker_asks : {K : Type 0} (c : records.Keeping K) (ss : List (part.Keeping K)) (ask : Ask) (now : ℕ) (x : Request) → IsSolo c ss → MayBeAsked ask now → ask.caller ≡ caller.Worker → ask.request ≡ x → let a : School K = record { catalog = c; parts = ss } in IsWorkers (lists_in a) ask x
 worker_asks c ss ask now x solo may by is = record { askable = askable c ss ask now solo may; caller_is = by; request_is = is }
@@ -77,18 +77,6 @@ worker_refused sound faults c ss now ask r solo may by forbids =
     let a : School _ = record { catalog = c; parts = ss } in
     let why = forbids-by ask.request (may_ask worker ask.request) r refl forbids in
     record { once = rw why.1 ((workers_law (Fails sound faults a a)).refused (lists_in a) now ask (worker_asks c ss ask now ask.request solo may by refl) why.0); goes_on = go_none sound faults a }
-
--- ---- the jobs
-
-jobs-by : (x : Request) → forbidden worker x ≡ None → ((shard : ℕ) (a : AttemptId) → x ≡ request.Live shard a → ⊥) → ((job shard : ℕ) → x ≡ request.Work job shard → ⊥) → ((a : AttemptId) → x ≡ request.Settle a → ⊥) → x ≡ request.Jobs
-jobs-by request.Jobs may live work settle = refl
-jobs-by (request.Live shard a) may live work settle = absurd (live shard a refl)
-jobs-by (request.Work job shard) may live work settle = absurd (work job shard refl)
-jobs-by (request.Settle a) may live work settle = absurd (settle a refl)
-jobs-by x may live work settle = absurd cc
-
-pub jobs_left : (x : Request) → forbidden worker x ≡ None → ((shard : ℕ) (a : AttemptId) → x ≡ request.Live shard a → ⊥) → ((job shard : ℕ) → x ≡ request.Work job shard → ⊥) → ((a : AttemptId) → x ≡ request.Settle a → ⊥) → x ≡ request.Jobs
-jobs_left x may live work settle = jobs-by x may live work settle
 
 pub jobs_served : {K : Type 0} (sound : K → Type 0) (faults : K → ℕ) (c d : records.Keeping K) (ss : List (part.Keeping K)) (now : ℕ) (ask : Ask) (told : Reply) → IsSolo c ss → MayBeAsked ask now → ask.caller ≡ caller.Worker → ask.request ≡ request.Jobs
     → RecordsAnswer sound faults reply.Refused (records.IsTold now worker ask) c d told → IsServed sound faults (record { catalog = c; parts = ss }) (record { catalog = d; parts = ss }) now ask told

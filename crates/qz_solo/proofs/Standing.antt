@@ -24,10 +24,10 @@ use Rattle.qz_school.proofs.Agreeing.{all-longer}
 use Rattle.qz_serial.proofs.Growing.{Grows, grown_records}
 use Rattle.qz_serial.proofs.Seats.{set_get}
 use Rattle.qz_serial.specs.Paths.{with_both, with_part, with_records}
-use Rattle.qz_solo.specs.Answering.{PartAnswers, PartLooks}
-use Rattle.qz_solo.specs.Solos.{IsSolo, School, held_of, lists_in}
-use Rattle.qz_solo.proofs.Calls.{call_grows, look_grows, look_stands, stand_as}
-use Rattle.qz_solo.proofs.Keepers.{get_set}
+use Rattle.qz_school.specs.Answering.{PartAnswers, PartLooks}
+use Rattle.qz_school.specs.Solos.{IsSolo, School, held_of, lists_in}
+use Rattle.qz_school.proofs.Calls.{call_grows, look_grows, look_stands, stand_as}
+use Rattle.qz_school.proofs.Keepers.{get_set}
 
 -- ---- one shard
 

@@ -1,14 +1,10 @@
 -- The attempts of a shard that go on, and steps of jobs, in a school.
-use Rattle.std.proofs.Common.{◌≡◌, ◌⊎◌, inl, inr, ℕ, ◌<◌, ◌≤◌, true, false, List, Option, Some, None, refl, sym, ◌∙◌, arith}
-use Rattle.std.specs.Prelude.{is_none, is_some, nat_le, option_and_then}
-use Rattle.std.proofs.lemmas.Bool.Decides.{nat_tests}
+use Rattle.std.proofs.Common.{◌≡◌, ◌⊎◌, inl, inr, ℕ, ◌<◌, true, false, List, Some, None, refl, sym, ◌∙◌}
 use Rattle.qz_catalog.specs.Keeping.{IsJob}
 use Rattle.qz_grading.specs.declared.refusal.AttemptId.{AttemptId}
 use Rattle.qz_grading.specs.declared.refusal.Refusal.{Refusal}
 use Rattle.qz_grading.specs.declared.refusal.Refusal.TheVariants as refusal
 use Rattle.qz_grading.specs.declared.refusal.Thing.TheVariants as thing
-use Rattle.qz_grading.specs.Behaviours.{when}
-use Rattle.qz_grading.specs.Grading.{at_place}
 use Rattle.qz_keeper.specs.Lists.{EachMayStand, Looks}
 use Rattle.qz_shard.specs.Holdings.{IsWorkable}
 use Rattle.qz_shard.specs.Keeping as part
@@ -23,23 +19,16 @@ use Rattle.qz_terms.specs.declared.request.Request.TheVariants as request
 use Rattle.qz_terms.specs.Answer.{live_answer}
 use Rattle.qz_terms.specs.Catalog as catalog
 use Rattle.qz_terms.specs.CatalogAnswer.{asks_catalog}
-use Rattle.qz_terms.specs.Cause.{forbidden, missing_in}
+use Rattle.qz_terms.specs.Cause.{forbidden}
 use Rattle.qz_terms.specs.Kept.{is_moment}
 use Rattle.qz_terms.specs.Legal.{AllAgree, IsLegalCatalog}
-use Rattle.qz_terms.specs.SchoolAnswer.{first_refusal, refusal_among}
+use Rattle.qz_terms.specs.SchoolAnswer.{first_refusal}
 use Rattle.qz_school.proofs.Working.{working_law}
 use Rattle.qz_serial.specs.Calls.{ShardAnswers}
-use Rattle.qz_solo.specs.Answering.{PartAnswers}
-use Rattle.qz_solo.proofs.Calls.{stand_as}
+use Rattle.qz_school.specs.Answering.{PartAnswers}
+use Rattle.qz_school.proofs.Calls.{stand_as}
 use Rattle.qz_solo.proofs.Serving.{GoesTo, part_means}
-
--- ---- a shard of this number
-
-pub shard_missing : (n number : ℕ) → n ≤ number → nat_le n number ≡ true
-shard_missing n number past = grind (arith, nat_tests)
-
-pub shard_there : (n number : ℕ) → number < n → nat_le n number ≡ false
-shard_there n number inside = grind (arith, nat_tests)
+use Rattle.qz_school.proofs.Missing.{job_absent, job_present, shard_there}
 
 -- ---- the attempts that go on
 
@@ -54,37 +43,11 @@ live_goes c n ask user number k a is may there =
     let inside = shard_there n number there.1 in
     record { goes = rw is refl; among = rw (is, free, inside) refl; part_is = rw is (sym there.0) }
 
-pub live_nowhere : (c : List Record) (n : ℕ) (ask : Ask) (user : User) (number : ℕ) (a : AttemptId) → ask.request ≡ request.Live number a → forbidden user ask.request ≡ None → n ≤ number → refusal_among c n user ask.request ≡ Some (refusal.Unknown thing.Shard)
-live_nowhere c n ask user number a is may past =
-    let free : forbidden user (request.Live number a) ≡ None = rw is at may in
-    let missing = shard_missing n number past in
-    rw (is, free, missing) refl
-
 pub live_means : {K : Type 0} (sound : K → Type 0) (faults : K → ℕ) (c : List Record) (now : ℕ) (ask : Ask) (user : User) (number : ℕ) (a : AttemptId) (s g : part.Keeping K) (told : Reply) → ask.request ≡ request.Live number a → forbidden user ask.request ≡ None
     → PartAnswers sound faults (Looks (λ h t. t ≡ live_answer h a)) s g told → PartAnswers sound faults (ShardAnswers c now user ask) s g told
 live_means sound faults c now ask user number a s g told is may call =
     let free : forbidden user (request.Live number a) ≡ None = rw is at may in
     part_means sound faults (Looks (λ h t. t ≡ live_answer h a)) (ShardAnswers c now user ask) s g told (λ h t l says. (says.0 ∙ rw (is, free) refl, says.1 ∙ rw (is, free) refl)) call
-
--- ---- whether a job is there
-
-present-by : (c : List Record) (number : ℕ) (job : Job) (o : Option (ℕ × ℕ)) → at_place (catalog.jobs c) number ≡ o → option_and_then (catalog.job_with c number) o ≡ Some job → when (is_none o) (refusal.Unknown thing.Job) ≡ None
-present-by c number job None is told = absurd cc
-present-by c number job (Some x) is told = refl
-
-pub job_present : (c : List Record) (number shard : ℕ) (job : Job) → catalog.job c number ≡ Some job → missing_in c (request.Work number shard) ≡ None
-job_present c number shard job told = present-by c number job (at_place (catalog.jobs c) number) refl told
-
-some-none : {A : Type 0} (o : Option A) → is_some o ≡ true → o ≡ None → ⊥
-some-none None some none = absurd cc
-some-none (Some x) some none = absurd cc
-
-absent-by : (c : List Record) (number shard : ℕ) (o : Option (ℕ × ℕ)) → IsLegalCatalog c → at_place (catalog.jobs c) number ≡ o → catalog.job c number ≡ None → missing_in c (request.Work number shard) ≡ Some (refusal.Unknown thing.Job)
-absent-by c number shard None legal is none = rw is refl
-absent-by c number shard (Some x) legal is none = absurd (some-none (catalog.job c number) (working_law.there c number shard legal (rw is refl)) none)
-
-pub job_absent : (c : List Record) (number shard : ℕ) → IsLegalCatalog c → catalog.job c number ≡ None → missing_in c (request.Work number shard) ≡ Some (refusal.Unknown thing.Job)
-job_absent c number shard legal none = absent-by c number shard (at_place (catalog.jobs c) number) legal refl none
 
 pub job_refused : (c : List Record) (ask : Ask) (user : User) (number shard : ℕ) (r : Refusal) → IsLegalCatalog c → ask.request ≡ request.Work number shard → forbidden user ask.request ≡ None
     → (r ≡ refusal.Memory) ⊎ ((r ≡ refusal.Unknown thing.Job) × (catalog.job c number ≡ None)) → (r ≡ refusal.Memory) ⊎ (first_refusal c user ask.request ≡ Some r)
@@ -102,13 +65,6 @@ work_goes c n ask user number shard k job is may there inside =
     let present = job_present c number shard job there in
     let within = shard_there n shard inside.1 in
     record { goes = rw is refl; among = rw (is, free, present, within) refl; part_is = rw is (sym inside.0) }
-
-pub work_nowhere : (c : List Record) (n : ℕ) (ask : Ask) (user : User) (number shard : ℕ) (job : Job) → ask.request ≡ request.Work number shard → forbidden user ask.request ≡ None → catalog.job c number ≡ Some job → n ≤ shard → refusal_among c n user ask.request ≡ Some (refusal.Unknown thing.Shard)
-work_nowhere c n ask user number shard job is may there past =
-    let free : forbidden user (request.Work number shard) ≡ None = rw is at may in
-    let present = job_present c number shard job there in
-    let missing = shard_missing n shard past in
-    rw (is, free, present, missing) refl
 
 pub workable : {K : Type 0} (c : List Record) (number : ℕ) (job : Job) (moment : ℕ) (s : part.Keeping K) → IsLegalCatalog c → IsJob c number job → is_moment moment ≡ true → EachMayStand (AllAgree c) s.held → EachMayStand (λ h. IsWorkable h job moment) s.held
 workable c number job moment s legal there in_range agree = stand_as (λ h. IsWorkable h job moment) (AllAgree c) s.held

@@ -32,11 +32,11 @@ use Rattle.qz_school.proofs.Putting.{agreeing_law}
 use Rattle.qz_school.proofs.Working.{working_law}
 use Rattle.qz_serial.specs.Calls.{ShardAnswers}
 use Rattle.qz_serial.proofs.Composing.{after_settled, calls_mean, look_ends, looks_are_calls}
-use Rattle.qz_solo.specs.Answering.{IsPosed, MayBeAsked, PartAnswers, PartLooks}
-use Rattle.qz_solo.specs.Planning.{ArePlanned, IsPlanned}
-use Rattle.qz_solo.proofs.Calls.{call_stands, look_stands, look_told, means_there, stand_as, stand_both, stands_alone, stands_mended}
-use Rattle.qz_solo.proofs.Keepers.{failed_then}
-use Rattle.qz_solo.proofs.Planning.{absent_means, plan_there, planned_means, plans_named}
+use Rattle.qz_school.specs.Answering.{IsPosed, MayBeAsked, PartAnswers, PartLooks}
+use Rattle.qz_school.specs.Planning.{ArePlanned, IsPlanned}
+use Rattle.qz_school.proofs.Calls.{call_stands, look_stands, look_told, means_there, stand_as, stand_both, stands_alone, stands_mended}
+use Rattle.qz_school.proofs.Keepers.{failed_then}
+use Rattle.qz_school.proofs.Planning.{absent_means, plan_there, planned_means, plans_named}
 
 -- ---- what a shard's answer leaves agrees
 

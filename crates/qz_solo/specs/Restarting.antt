@@ -11,7 +11,7 @@ use Rattle.qz_record.specs.Records.{IsRecord}
 use Rattle.qz_terms.specs.declared.record.Record.{Record}
 use Rattle.qz_terms.specs.Legal.{IsSchool}
 use Rattle.qz_terms.specs.Spelling.{spelling}
-use Rattle.qz_solo.specs.Solos.{School}
+use Rattle.qz_school.specs.Solos.{School}
 
 -- a file tells, and stands for the spellings of these records
 pub record StandsFor (file : File) (l : List Record) : Type 0 where

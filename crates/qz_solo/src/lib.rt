@@ -2,7 +2,6 @@
 #![tactic(auto)]
 
 mod answering;
-mod asker;
 mod folders;
 mod founding;
 mod marking;
@@ -15,9 +14,7 @@ mod unkept;
 mod workers;
 mod working;
 
-pub use asker::{index_of, worker};
 pub use folders::{close, load};
 pub use memory::MemorySchool;
-pub use report::{in_order, named};
 pub use solo::Solo;
 pub use unkept::Unkept;

@@ -3,7 +3,7 @@
 ghost use Rattle.std.specs.Prelude.{◌≡◌, ◌<◌, ◌++◌, ◌%◌, length, OnOk};
 ghost use Rattle.qz_solo.specs.Marks.{marks_of};
 ghost use Rattle.qz_solo.specs.Memory.{AreClear};
-ghost use Rattle.qz_solo.specs.Solos.{lists_in};
+ghost use Rattle.qz_school.specs.Solos.{lists_in};
 ghost use Rattle.qz_terms.specs.Serial.{part_list};
 
 use crate::Solo;

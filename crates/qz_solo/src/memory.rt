@@ -1,7 +1,7 @@
 //! A school in memory.
 
 ghost use Rattle.std.specs.Prelude.{◌≡◌, ◌<◌, ◌≤◌, ◌++◌, ◌∷◌, ◌%◌, [], length, IfOk, OnOk, None};
-ghost use Rattle.qz_solo.specs.Answering.{MayBeAsked};
+ghost use Rattle.qz_school.specs.Answering.{MayBeAsked};
 ghost use Rattle.qz_solo.specs.Marks.{marks_of};
 ghost use Rattle.qz_solo.specs.Memory.{AreClear, founded_lists, is_memory};
 ghost use Rattle.qz_terms.specs.Serial.{lists_over, part_list};
@@ -26,7 +26,7 @@ pub struct MemorySchool {
 impl Model for MemorySchool {
     ghost use Rattle.qz_terms.specs.Serial.{Lists};
     ghost use Rattle.qz_solo.specs.Memory.{AreClear};
-    ghost use Rattle.qz_solo.specs.Solos.{lists_in};
+    ghost use Rattle.qz_school.specs.Solos.{lists_in};
 
     ghost Value = { Lists };
 

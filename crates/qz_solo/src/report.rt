@@ -1,6 +1,6 @@
 //! The grades of a quiz over all shards.
 
-ghost use Rattle.std.specs.Prelude.{◌≡◌, ◌<◌, ◌++◌, None, Some, IfErr, IfOk, OnOk, map};
+ghost use Rattle.std.specs.Prelude.{◌≡◌, ◌<◌, ◌++◌, None, IfErr, IfOk, OnOk};
 ghost use Rattle.qz_decimal.specs.Numbers.{IsMaxSum, IsQuizGrade};
 ghost use Rattle.qz_serial.specs.Paths.{IsKnown};
 ghost use Rattle.qz_terms.specs.declared.request.Request.TheVariants as request;
@@ -8,19 +8,19 @@ ghost use Rattle.qz_terms.specs.Cause.{forbidden};
 ghost use Rattle.qz_terms.specs.Legal.{IsLegal};
 ghost use Rattle.qz_keeper.specs.Lists.{EachMayStand};
 ghost use Rattle.qz_shard.specs.Keeping.{TellsRows};
-ghost use Rattle.qz_solo.specs.Answering.{MayBeAsked, PartLooks, Serves};
-ghost use Rattle.qz_solo.specs.Reports.{RowsAre, RowsStop, named_row, rows_in_order};
-ghost use Rattle.qz_solo.specs.Solos.{lists_in};
+ghost use Rattle.qz_school.specs.Answering.{MayBeAsked, PartLooks, Serves};
+ghost use Rattle.qz_school.specs.Reports.{RowsAre, RowsStop};
+ghost use Rattle.qz_school.specs.Solos.{lists_in};
 
 use crate::Solo;
 use qz_decimal::Grade;
 use qz_disks::Keeper;
 use qz_grading::{Refusal, Steps};
+use qz_school::{in_order, named};
 use qz_shard::Shard;
-use qz_terms::{Ask, Done, Policy, Reply, Row, User};
-use qz_text::{Listed, NoMemory, Text, TryCopy};
+use qz_terms::{Ask, Done, Policy, Reply, User};
+use qz_text::{Listed, NoMemory};
 use std::alloc::Global;
-use std::collections::BTreeMap;
 use std::marker::Brand;
 use std::sync::ledger::{Blank, Ledger};
 
@@ -80,55 +80,6 @@ fn rows_of_all<K: Keeper>(
         added(&mut all, rows.as_slice())?;
     }
     Ok(all)
-}
-
-/// Rows in order of user, of which the first of each user counts. They are put from behind.
-pub fn in_order(
-    alloc: Global,
-    rows: &[(u32, Option<Grade>)],
-) -> Result<BTreeMap<u32, Option<Grade>>, NoMemory>
-    ensures { IfOk result (λ found. found.entries ≡ rows_in_order rows.now) }
-{
-    let mut found = BTreeMap::new(alloc);
-    let mut rest = rows;
-    while let [before @ .., row] = rest {
-        found.insert(row.0, row.1)?;
-        rest = before;
-    }
-    Ok(found)
-}
-
-/// The name of the user with this number, or the empty one.
-fn name_at(alloc: Global, names: &[Text], user: u32) -> Result<Text, NoMemory>
-    ensures { IfOk result (λ name. name ≡ (named_row names.now (user, None)).name) }
-{
-    if user == 0 {
-        return Text::of(alloc, "");
-    }
-    match names.get(user as usize - 1) {
-        Some(name) => name.try_copy(alloc),
-        None => Text::of(alloc, ""),
-    }
-}
-
-/// The rows of a report, with their users' names: of names in order of number. A user whom they don't have has the empty name.
-pub fn named(
-    alloc: Global,
-    grades: &BTreeMap<u32, Option<Grade>>,
-    names: &[Text],
-) -> Result<Listed<Row>, NoMemory>
-    ensures { IfOk result (λ named. named ≡ map (named_row names.now) grades.now.entries) }
-{
-    let mut items = Vec::new(alloc);
-    for (user, grade) in grades {
-        let name = name_at(alloc, names, *user)?;
-        items.push(Row {
-            user: *user,
-            name,
-            grade: *grade,
-        })?;
-    }
-    Ok(Listed { items })
 }
 
 impl<K: Keeper> Solo<K> {

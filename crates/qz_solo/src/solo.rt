@@ -5,8 +5,8 @@ ghost use Rattle.qz_grading.specs.Grading.{at_place};
 ghost use Rattle.qz_keeper.specs.Lists.{EachMayStand};
 ghost use Rattle.qz_terms.specs.Legal.{IsLegalCatalog};
 ghost use Rattle.qz_terms.specs.Serial.{held_in};
-ghost use Rattle.qz_solo.specs.Answering.{IsServed, MayBeAsked};
-ghost use Rattle.qz_solo.specs.Solos.{IsSolo, faults_of, lists_in};
+ghost use Rattle.qz_school.specs.Answering.{IsServed, MayBeAsked};
+ghost use Rattle.qz_school.specs.Solos.{IsSolo, faults_of, lists_in};
 
 use qz_catalog::Catalog;
 use qz_disks::Keeper;
@@ -27,7 +27,7 @@ pub struct Solo<K: Keeper> {
 }
 
 impl<K: Keeper> Model for Solo<K> {
-    ghost use Rattle.qz_solo.specs.Solos.{IsSolo, School};
+    ghost use Rattle.qz_school.specs.Solos.{IsSolo, School};
 
     ghost Value = { School K };
 

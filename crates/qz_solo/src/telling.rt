@@ -9,8 +9,8 @@ ghost use Rattle.qz_terms.specs.Answer.{attempt_named};
 ghost use Rattle.qz_terms.specs.Catalog.{user_of};
 ghost use Rattle.qz_terms.specs.Cause.{forbidden};
 ghost use Rattle.qz_terms.specs.Legal.{AllAgree};
-ghost use Rattle.qz_solo.specs.Answering.{IsPosed, MayBeAsked, PartAnswers, PartTells};
-ghost use Rattle.qz_solo.specs.Planning.{ArePlanned, asks_shard};
+ghost use Rattle.qz_school.specs.Answering.{IsPosed, MayBeAsked, PartAnswers, PartTells};
+ghost use Rattle.qz_school.specs.Planning.{ArePlanned, asks_shard};
 
 use qz_catalog::CatalogCore;
 use qz_disks::Keeper;

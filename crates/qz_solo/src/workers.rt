@@ -4,14 +4,14 @@ ghost use Rattle.std.specs.Prelude.{◌≡◌};
 ghost use Rattle.qz_terms.specs.declared.people.Caller.TheVariants as caller;
 ghost use Rattle.qz_terms.specs.declared.request.Request.TheVariants as request;
 ghost use Rattle.qz_terms.specs.Catalog.{worker};
-ghost use Rattle.qz_solo.specs.Answering.{MayBeAsked, Serves};
+ghost use Rattle.qz_school.specs.Answering.{MayBeAsked, Serves};
 
 use crate::Solo;
-use crate::asker::{index_of, worker};
 use crate::telling::told_under;
 use crate::working::{live, work};
 use qz_disks::Keeper;
 use qz_grading::{AttemptId, Refusal};
+use qz_school::{index_of, worker};
 use qz_terms::{Ask, Reply, Request, User, forbidden};
 use std::alloc::Global;
 

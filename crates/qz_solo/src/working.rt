@@ -5,7 +5,7 @@ ghost use Rattle.qz_keeper.specs.Lists.{EachMayStand, Looks};
 ghost use Rattle.qz_shard.specs.Holdings.{IsWorkable};
 ghost use Rattle.qz_shard.specs.Works.{IsWorked};
 ghost use Rattle.qz_terms.specs.Answer.{live_answer};
-ghost use Rattle.qz_solo.specs.Answering.{PartAnswers};
+ghost use Rattle.qz_school.specs.Answering.{PartAnswers};
 
 use qz_disks::Keeper;
 use qz_grading::{AttemptId, Steps};

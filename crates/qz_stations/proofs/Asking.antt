@@ -9,7 +9,7 @@ use Rattle.qz_doors.specs.Links.{Peer}
 use Rattle.qz_doors.proofs.Carrying.{Carries, carries_door}
 use Rattle.qz_doors.proofs.Following.{by_door}
 use Rattle.qz_http.specs.Items.{IsAskable}
-use Rattle.qz_solo.specs.Answering.{MayBeAsked}
+use Rattle.qz_school.specs.Answering.{MayBeAsked}
 use Rattle.qz_terms.specs.declared.ask.Ask.{Ask}
 use Rattle.qz_terms.specs.declared.reply.Reply.{Reply}
 use Rattle.qz_terms.specs.Kept.{is_moment}

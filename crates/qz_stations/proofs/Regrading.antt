@@ -7,8 +7,8 @@ use Rattle.qz_outside.specs.Causes.{HasRisen}
 use Rattle.qz_regrading.specs.Workers.{CountsFault, IsFront, KeepsParts, ServesWorkers, TellsWorker, worker_asks}
 use Rattle.qz_regrading.proofs.Keeping.{front-same, keeps-more}
 use Rattle.qz_regrading.proofs.Telling.{served_by_rules, telling_law}
-use Rattle.qz_solo.specs.Answering.{IsServed}
-use Rattle.qz_solo.specs.Solos.{faults_of, lists_in}
+use Rattle.qz_school.specs.Answering.{IsServed}
+use Rattle.qz_school.specs.Solos.{faults_of, lists_in}
 use Rattle.qz_stations.proofs.Asking.{Visiting}
 use Rattle.qz_terms.specs.declared.ask.Ask.{Ask}
 use Rattle.qz_terms.specs.declared.record.Record.{Record}

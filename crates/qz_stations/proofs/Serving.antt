@@ -12,11 +12,13 @@ use Rattle.qz_doors.specs.Doors as turns
 use Rattle.qz_doors.specs.Links.{Peer}
 use Rattle.qz_http.specs.declared.items.LinkEnd.{LinkEnd}
 use Rattle.qz_serial.proofs.Seats.{within_there}
-use Rattle.qz_solo.specs.Solos.{IsSolo, School}
+use Rattle.qz_catalog.specs.Keeping as records
+use Rattle.qz_school.specs.Solos.{IsSolo, School, school_of}
+use Rattle.qz_shard.specs.Keeping as part
 use Rattle.qz_terms.specs.declared.ask.Ask.{Ask}
 use Rattle.qz_terms.specs.declared.reply.Reply.{Reply}
 use Rattle.qz_turn.specs.Rule.{HasEvery, below}
-use Rattle.qz_visit.specs.Closing.{HaveEvery}
+use Rattle.qz_visit.specs.Closing.{Closes, HaveEvery}
 use Rattle.qz_visit.specs.Holding.{GoesOn}
 use Rattle.qz_visit.specs.Opening.{Opens, told_by}
 use Rattle.qz_visit.specs.Seeing.{FollowAll}
@@ -200,6 +202,13 @@ beside_kept serves told Kept Known count old new end to so = record {
 
 pub told_opened : {K : Type 0} (faults : K → ℕ) (seats : ℕ) (a : School K) (s : Locks) (p : Seats) → Opens faults seats a s p → seen_in p ≡ told_by faults a
 told_opened faults seats a s p o = λ i. record { records = (o.records i).seen; parts = o.parts.seen i }
+
+-- of a school that was taken apart
+pub told_whole : {K : Type 0} (faults : K → ℕ) (seats : ℕ) (c : records.Keeping K) (ss : List (part.Keeping K)) (a : School K) (s : Locks) (p : Seats) → c ≡ a.catalog → ss ≡ a.parts → Opens faults seats (school_of c ss) s p → seen_in p ≡ told_by faults a
+told_whole faults seats c ss a s p one other o = told_opened faults seats (school_of c ss) s p o ∙ (λ i. told_by faults (record { catalog = one i; parts = other i }))
+
+pub closes_whole : {K : Type 0} (faults : K → ℕ) (c : records.Keeping K) (ss : List (part.Keeping K)) (a b : School K) → c ≡ a.catalog → ss ≡ a.parts → Closes faults (told_by faults (school_of c ss)) b → Closes faults (told_by faults a) b
+closes_whole faults c ss a b one other is = subst (λ (t : Tellings). Closes faults t b) (λ i. told_by faults (record { catalog = one i; parts = other i })) is
 
 pub match_mean : {A E : Type 0} (P Q : A → Type 0) (R : E → Type 0) (r : Result A E) → ((a : A) → P a → Q a) → MatchResult r P R → MatchResult r Q R
 match_mean P Q R (Ok a) to is = to a is

@@ -3,8 +3,8 @@ use Rattle.std.specs.Prelude.{◌≡◌, ℕ, ◌<◌, List, [], ◌∷◌, Opti
 use Rattle.qz_asking.specs.Following.{Follows}
 use Rattle.qz_regrading.specs.declared.ends.LoopEnd.{LoopEnd}
 use Rattle.qz_regrading.specs.Loops.{LoopEnds}
-use Rattle.qz_solo.specs.Answering.{IsServed}
-use Rattle.qz_solo.specs.Solos.{School, faults_of, lists_in}
+use Rattle.qz_school.specs.Answering.{IsServed}
+use Rattle.qz_school.specs.Solos.{School, faults_of, lists_in}
 use Rattle.qz_stations.specs.declared.ends.ServeEnd.{ServeEnd}
 use Rattle.qz_stations.specs.Stations.{ServesBeside, Serving}
 use Rattle.qz_visit.specs.Closing.{Closes}

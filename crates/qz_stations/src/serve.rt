@@ -198,14 +198,14 @@ where
         crew.workers doors.old.items doors.new.items)
         (λ _. doors.new.items ≡ doors.old.items) }
 {
-    // There are as many shards as it was founded with.
-    let _records = solo.len();
     let seats = u32::from(crew.workers) + u32::from(crew.regraders);
-    match School::open(alloc, solo, seats) {
+    let (catalog, shards) = solo.into_parts();
+    match School::open(alloc, catalog, shards, seats) {
         Ok((school, passes)) => {
             let (passes, served) = serve_beside(rt, alloc, &school, passes, crew, doors, clocks);
-            (school.close(passes), served)
+            let (catalog, shards) = school.close(passes);
+            (Solo::of(catalog, shards), served)
         }
-        Err((solo, NoMemory)) => (solo, Err(NoMemory)),
+        Err((catalog, shards)) => (Solo::of(catalog, shards), Err(NoMemory)),
     }
 }

@@ -20,8 +20,8 @@ use Rattle.qz_serial.proofs.Longer.{staying_law}
 use Rattle.qz_serial.proofs.Seats.{mended_grows, set_get, set_twice}
 use Rattle.qz_serial.proofs.Tokens.{tokens_law}
 use Rattle.qz_serial.proofs.Workers.{err-is}
-use Rattle.qz_solo.specs.Answering.{MayBeAsked}
-use Rattle.qz_solo.proofs.Serving.{forbidden_first}
+use Rattle.qz_school.specs.Answering.{MayBeAsked}
+use Rattle.qz_school.proofs.Missing.{forbidden_first}
 use Rattle.qz_terms.specs.declared.ask.Ask.{Ask}
 use Rattle.qz_terms.specs.declared.people.Caller.{Caller}
 use Rattle.qz_terms.specs.declared.people.Caller.TheVariants as caller

@@ -13,8 +13,8 @@ use Rattle.qz_serial.proofs.Seats.{within_there}
 use Rattle.qz_shard.specs.Keeping as part
 use Rattle.qz_shard_turns.specs.Tying.{Behind, IsTied, Placed}
 use Rattle.qz_shard_turns.proofs.Tying.{agree-on, joined-more, joined-second}
-use Rattle.qz_solo.specs.Solos as solos
-use Rattle.qz_solo.proofs.Calls.{stand_as}
+use Rattle.qz_school.specs.Solos as solos
+use Rattle.qz_school.proofs.Calls.{stand_as}
 use Rattle.qz_terms.specs.declared.record.Record.{Record}
 use Rattle.qz_terms.specs.Catalog as catalog
 use Rattle.qz_terms.specs.Legal.{AllAgree}

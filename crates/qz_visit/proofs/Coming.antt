@@ -17,9 +17,9 @@ use Rattle.qz_shard.specs.Keeping.{TellsQuiz}
 use Rattle.qz_shard.specs.Works.{IsWorked}
 use Rattle.qz_shard_turns.specs.Tying.{SeesMore}
 use Rattle.qz_shard_turns.proofs.Tying.{agree-on}
-use Rattle.qz_solo.specs.Planning.{NamesQuiz, grades, starts}
-use Rattle.qz_solo.proofs.Planning.{absent_means, named_free, plan_there, quiz_free, refused_quiz}
-use Rattle.qz_solo.proofs.Steps.{job_absent, job_present}
+use Rattle.qz_school.specs.Planning.{NamesQuiz, grades, starts}
+use Rattle.qz_school.proofs.Planning.{absent_means, named_free, plan_there, quiz_free, refused_quiz}
+use Rattle.qz_school.proofs.Missing.{job_absent, job_present}
 use Rattle.qz_terms.specs.declared.ask.Ask.{Ask}
 use Rattle.qz_terms.specs.declared.people.User.{User}
 use Rattle.qz_terms.specs.declared.record.Record.{Record}

@@ -6,7 +6,7 @@ use Rattle.std.proofs.lemmas.Option.{slice_get_within}
 use Rattle.qz_serial.proofs.Seats.{within_there}
 use Rattle.qz_shard_turns.specs.Tying.{SeesMore}
 use Rattle.qz_shard_turns.proofs.Tying.{joined-first}
-use Rattle.qz_solo.specs.Solos.{IsSolo, School}
+use Rattle.qz_school.specs.Solos.{IsSolo, School}
 use Rattle.qz_terms.specs.declared.ask.Ask.{Ask}
 use Rattle.qz_terms.specs.declared.reply.Reply.{Reply}
 use Rattle.qz_terms.specs.Catalog.{shards}

@@ -9,9 +9,9 @@ use Rattle.qz_serial.proofs.Growing.{quiz-append}
 use Rattle.qz_shard.specs.Holdings.{StartsHere}
 use Rattle.qz_shard_turns.specs.Posing.{CanPose, IsPlannedBy, shard_at}
 use Rattle.qz_shard_turns.proofs.Tying.{agree-on}
-use Rattle.qz_solo.specs.Answering.{MayBeAsked}
-use Rattle.qz_solo.specs.Planning.{IsPlanned, NamesQuiz, grades, starts}
-use Rattle.qz_solo.proofs.Planning.{named_kind, plans_named, plans_quiz, quiz_kind}
+use Rattle.qz_school.specs.Answering.{MayBeAsked}
+use Rattle.qz_school.specs.Planning.{IsPlanned, NamesQuiz, grades, starts}
+use Rattle.qz_school.proofs.Planning.{named_kind, plans_named, plans_quiz, quiz_kind}
 use Rattle.qz_terms.specs.declared.ask.Ask.{Ask}
 use Rattle.qz_terms.specs.declared.people.User.{User}
 use Rattle.qz_terms.specs.declared.plan.Plan.{Plan}

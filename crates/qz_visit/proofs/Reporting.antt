@@ -19,11 +19,11 @@ use Rattle.qz_serial.proofs.Composing.{look_ends}
 use Rattle.qz_serial.proofs.Reports.{one_more, reports_law}
 use Rattle.qz_serial.proofs.Seats.{set_apart, set_get, set_twice}
 use Rattle.qz_shard.specs.Keeping.{TellsRows}
-use Rattle.qz_solo.specs.Answering.{MayBeAsked}
-use Rattle.qz_solo.specs.Reports.{all_rows, named_row, rows_in, rows_in_order}
-use Rattle.qz_solo.proofs.Calls.{look_told}
-use Rattle.qz_solo.proofs.Keepers.{get_set}
-use Rattle.qz_solo.proofs.Reporting.{EachLegal, report_done}
+use Rattle.qz_school.specs.Answering.{MayBeAsked}
+use Rattle.qz_school.specs.Reports.{all_rows, named_row, rows_in, rows_in_order}
+use Rattle.qz_school.proofs.Calls.{look_told}
+use Rattle.qz_school.proofs.Keepers.{get_set}
+use Rattle.qz_school.proofs.Rows.{EachLegal, report_done}
 use Rattle.qz_terms.specs.declared.ask.Ask.{Ask}
 use Rattle.qz_terms.specs.declared.grades.Policy.{Policy}
 use Rattle.qz_terms.specs.declared.people.User.{User}

@@ -6,7 +6,7 @@ use Rattle.qz_catalog_turns.specs.Turning.{tale_of}
 use Rattle.qz_serial.proofs.Seats.{within_there}
 use Rattle.qz_shard.specs.Keeping as part
 use Rattle.qz_shard_turns.proofs.Tying.{joined-first, joined-second}
-use Rattle.qz_solo.specs.Solos.{School}
+use Rattle.qz_school.specs.Solos.{School}
 use Rattle.qz_terms.specs.declared.ask.Ask.{Ask}
 use Rattle.qz_terms.specs.declared.record.Record.{Record}
 use Rattle.qz_turn.specs.declared.view.Tale.{Tale}

@@ -14,11 +14,11 @@ use Rattle.qz_keeper.specs.Lists.{Looks}
 use Rattle.qz_outside.specs.Causes.{HasRisen}
 use Rattle.qz_serial.proofs.Composing.{look_ends}
 use Rattle.qz_shard_turns.specs.Tying.{Placed, SeesMore}
-use Rattle.qz_solo.specs.Answering.{MayBeAsked}
+use Rattle.qz_school.specs.Answering.{MayBeAsked}
 use Rattle.qz_terms.specs.declared.ask.Ask.{Ask}
-use Rattle.qz_solo.proofs.Calls.{look_told}
-use Rattle.qz_solo.proofs.Keepers.{get_set}
-use Rattle.qz_solo.proofs.Steps.{job_absent, live_nowhere, work_nowhere}
+use Rattle.qz_school.proofs.Calls.{look_told}
+use Rattle.qz_school.proofs.Keepers.{get_set}
+use Rattle.qz_school.proofs.Missing.{job_absent, live_nowhere, work_nowhere}
 use Rattle.qz_terms.specs.declared.people.User.{User}
 use Rattle.qz_terms.specs.declared.plan.Job.{Job}
 use Rattle.qz_terms.specs.declared.record.Record.{Record}

@@ -15,7 +15,7 @@ use Rattle.qz_shard.specs.Keeping.{TellsQuiz}
 use Rattle.qz_shard.specs.Works.{IsWorked}
 use Rattle.qz_shard_turns.specs.Posing.{CanPose}
 use Rattle.qz_shard_turns.specs.Tying.{Placed, SeesMore}
-use Rattle.qz_solo.proofs.Calls.{look_told}
+use Rattle.qz_school.proofs.Calls.{look_told}
 use Rattle.qz_terms.specs.declared.ask.Ask.{Ask}
 use Rattle.qz_terms.specs.declared.people.User.{User}
 use Rattle.qz_terms.specs.declared.plan.Job.{Job}

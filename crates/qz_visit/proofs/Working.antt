@@ -21,9 +21,9 @@ use Rattle.qz_serial.proofs.Settling.{settling_law}
 use Rattle.qz_serial.proofs.Workers.{err-is, workers_law}
 use Rattle.qz_shard.specs.Keeping.{TellsQuiz}
 use Rattle.qz_shard_turns.specs.Tying.{SeesMore}
-use Rattle.qz_solo.specs.Answering.{MayBeAsked}
-use Rattle.qz_solo.proofs.Calls.{look_told}
-use Rattle.qz_solo.proofs.Steps.{job_absent, job_present}
+use Rattle.qz_school.specs.Answering.{MayBeAsked}
+use Rattle.qz_school.proofs.Calls.{look_told}
+use Rattle.qz_school.proofs.Missing.{job_absent, job_present}
 use Rattle.qz_terms.specs.declared.ask.Ask.{Ask}
 use Rattle.qz_terms.specs.declared.people.Caller.TheVariants as caller
 use Rattle.qz_terms.specs.declared.plan.Job.{Job}

@@ -4,7 +4,7 @@ use Rattle.qz_catalog_turns.specs.Turning.{tale_of}
 use Rattle.qz_keeper.specs.Lists.{EachMayStand}
 use Rattle.qz_shard.specs.Keeping as part
 use Rattle.qz_shard_turns.specs.Tying.{Placed}
-use Rattle.qz_solo.specs.Solos.{School}
+use Rattle.qz_school.specs.Solos.{School}
 use Rattle.qz_terms.specs.declared.record.Record.{Record}
 use Rattle.qz_terms.specs.Catalog.{shards}
 use Rattle.qz_terms.specs.Legal.{AllAgree}

@@ -8,7 +8,7 @@ use Rattle.qz_outside.specs.Causes.{HasRisen}
 use Rattle.qz_serial.specs.Reports.{MendedUpTo}
 use Rattle.qz_shard.specs.Keeping.{TellsRows}
 use Rattle.qz_shard_turns.specs.Tying.{Placed}
-use Rattle.qz_solo.specs.Reports.{all_rows}
+use Rattle.qz_school.specs.Reports.{all_rows}
 use Rattle.qz_terms.specs.declared.grades.Policy.{Policy}
 use Rattle.qz_terms.specs.declared.record.Record.{Record}
 use Rattle.qz_terms.specs.Legal.{IsLegal}

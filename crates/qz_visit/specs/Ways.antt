@@ -15,8 +15,8 @@ use Rattle.qz_shard.specs.Keeping.{TellsQuiz}
 use Rattle.qz_shard.specs.Works.{IsWorked}
 use Rattle.qz_shard_turns.specs.Posing.{IsPlannedBy}
 use Rattle.qz_shard_turns.specs.Tying.{IsTiedTo, Placed, SeesMore}
-use Rattle.qz_solo.specs.Answering.{MayBeAsked}
-use Rattle.qz_solo.specs.Planning.{asks_shard}
+use Rattle.qz_school.specs.Answering.{MayBeAsked}
+use Rattle.qz_school.specs.Planning.{asks_shard}
 use Rattle.qz_terms.specs.declared.ask.Ask.{Ask}
 use Rattle.qz_terms.specs.declared.people.User.{User}
 use Rattle.qz_terms.specs.declared.plan.Job.{Job}

@@ -2,8 +2,8 @@
 
 ghost use Rattle.std.specs.Prelude.{◌≡◌, ◌<◌, ◌%◌, true, false, None, Some, IfSome, length};
 ghost use Rattle.qz_serial.specs.Paths.{goes_to_part};
-ghost use Rattle.qz_solo.specs.Answering.{MayBeAsked};
-ghost use Rattle.qz_solo.specs.Planning.{NamesQuiz};
+ghost use Rattle.qz_school.specs.Answering.{MayBeAsked};
+ghost use Rattle.qz_school.specs.Planning.{NamesQuiz};
 ghost use Rattle.qz_terms.specs.declared.request.Request.TheVariants as request;
 ghost use Rattle.qz_terms.specs.Answer.{attempt_named};
 ghost use Rattle.qz_terms.specs.Cause.{forbidden};

@@ -1,7 +1,7 @@
 //! Requests at the catalogue and at one shard that are answered under the plan of a quiz.
 
 ghost use Rattle.std.specs.Prelude.{◌≡◌, None, Some, MatchResult};
-ghost use Rattle.qz_solo.specs.Answering.{MayBeAsked};
+ghost use Rattle.qz_school.specs.Answering.{MayBeAsked};
 ghost use Rattle.qz_terms.specs.Answer.{attempt_named};
 ghost use Rattle.qz_terms.specs.Cause.{forbidden};
 ghost use Rattle.qz_terms.specs.Catalog.{user_of};

@@ -1,6 +1,7 @@
 //! Passes are joined, and a school is closed.
 
 ghost use Rattle.std.specs.Prelude.{◌≡◌, ◌+◌, ◌<◌, ◌≤◌, Some, length, reverse, vec_len, vec_capacity};
+ghost use Rattle.qz_school.specs.Solos.{IsSolo, school_of};
 ghost use Rattle.qz_terms.specs.Catalog as catalog;
 ghost use Rattle.qz_turn.specs.Rule.{HasEvery};
 ghost use Rattle.qz_visit.specs.Closing.{AllJoin, AreClosed, AreLocked, ArePasses, ArePlaced, Closes, ClosesBefore, HasFounding, HaveEach, HaveEvery, JoinsAll, KeepsAll};
@@ -9,11 +10,11 @@ ghost use Rattle.qz_visit.specs.Visits.{seen_by, seen_in};
 
 use crate::passes::{Passes, Seats};
 use crate::school::School;
+use qz_catalog::Catalog;
 use qz_catalog_turns::Records;
 use qz_disks::Keeper;
 use qz_shard::Shard;
 use qz_shard_turns::Part;
-use qz_solo::Solo;
 use qz_turn::{Pass, Turns};
 
 /// Joins passes into others, each into the one at its place.
@@ -64,14 +65,14 @@ fn close_parts<K: Keeper>(
     shards
 }
 
-/// The school again, whose first shards are behind locks. The others stand with the last one first.
+/// The catalogue and the shards in order, of which the first are behind locks. The others stand with the last one first.
 pub(crate) fn close_all<K: Keeper>(
     records: Turns<Records<K>>,
     mut seen: Pass<Records<K>>,
     shards: Vec<Shard<K>>,
     parts: Vec<Turns<Part<K>>>,
     passes: Vec<Pass<Part<K>>>,
-) -> Solo<K>
+) -> (Catalog<K>, Vec<Shard<K>>)
     requires seen { seen.lock ≡ records.lock }
     requires numbers { HasEvery records.seats seen.numbers }
     requires placed { ArePlaced records.lock (length passes.items + length shards.items)
@@ -83,11 +84,13 @@ pub(crate) fn close_all<K: Keeper>(
     requires founded { catalog.shards seen.seen.list ≡ Some (length passes.items + length shards.items) }
     requires left { AreClosed K.faults seen.seen.list (length passes.items + length shards.items)
         (length passes.items) (tales K.faults (reverse shards.items)) (reverse shards.items) }
-    ensures { Closes K.faults (half_told K.faults seen passes.items shards.items) result }
+    ensures closes { Closes K.faults (half_told K.faults seen passes.items shards.items)
+        (school_of result.0 result.1.items) }
+    ensures solo { IsSolo result.0 result.1.items }
 {
     let shards = close_parts(&records, &mut seen, parts, passes, shards);
     let catalog = records.close(seen).into_catalog();
-    Solo::of(catalog, shards)
+    (catalog, shards)
 }
 
 impl<K: Keeper> School<K> {
@@ -112,11 +115,12 @@ impl<K: Keeper> School<K> {
         self.join_seats(&mut passes.seats, other.seats);
     }
 
-    fn close_seats(self, seats: Seats<K>) -> Solo<K>
+    fn close_seats(self, seats: Seats<K>) -> (Catalog<K>, Vec<Shard<K>>)
         requires own { ArePasses self seats }
         requires every { HaveEvery self seats }
         requires founded { HasFounding self seats }
-        ensures { Closes K.faults (seen_in seats) result }
+        ensures closes { Closes K.faults (seen_in seats) (school_of result.0 result.1.items) }
+        ensures solo { IsSolo result.0 result.1.items }
     {
         let School {
             records,
@@ -130,12 +134,15 @@ impl<K: Keeper> School<K> {
         close_all(records, seen, room, parts, passes)
     }
 
-    /// The school, from the passes that have every number. Each of its lists goes on from what they have seen. It takes no memory.
-    pub fn close(self, passes: Passes<K>) -> Solo<K>
+    /// The catalogue and the shards in order, from the passes that have every number. Each list goes on from what they have seen. It takes
+    /// no memory.
+    pub fn close(self, passes: Passes<K>) -> (Catalog<K>, Vec<Shard<K>>)
         requires own { ArePasses self passes.seats }
         requires every { HaveEvery self passes.seats }
         requires founded { HasFounding self passes.seats }
-        ensures { Closes K.faults (seen_in passes.seats) result }
+        ensures closes { Closes K.faults (seen_in passes.seats)
+            (school_of result.0 result.1.items) }
+        ensures solo { IsSolo result.0 result.1.items }
     {
         self.close_seats(passes.seats)
     }

@@ -2,7 +2,7 @@
 
 ghost use Rattle.std.specs.Prelude.{◌≡◌, ◌+◌, ◌≤◌, [], length, reverse, IfOk, IfErr, vec_len, vec_capacity};
 ghost use Rattle.qz_keeper.specs.Lists.{EachMayStand};
-ghost use Rattle.qz_solo.specs.Solos.{AgreeAll, ArePlaced, IsSolo};
+ghost use Rattle.qz_school.specs.Solos.{AgreeAll, ArePlaced, IsSolo, school_of};
 ghost use Rattle.qz_terms.specs.Legal.{AllAgree, IsLegalCatalog};
 ghost use Rattle.qz_visit.specs.Closing.{Closes};
 ghost use Rattle.qz_visit.specs.Opening.{HalfOpens, IsOpened, Opens, told_by};
@@ -16,7 +16,6 @@ use qz_catalog_turns::Records;
 use qz_disks::Keeper;
 use qz_shard::Shard;
 use qz_shard_turns::{Part, Place};
-use qz_solo::Solo;
 use qz_text::NoMemory;
 use qz_turn::{Pass, Turns};
 use std::alloc::Global;
@@ -98,16 +97,17 @@ fn open_all<K: Keeper>(
     mut locks: Vec<Turns<Part<K>>>,
     mut passes: Vec<Pass<Part<K>>>,
     seats: u32,
-) -> Result<(School<K>, Seats<K>), (Solo<K>, NoMemory)>
+) -> Result<(School<K>, Seats<K>), (Catalog<K>, Vec<Shard<K>>)>
     requires solo { IsSolo catalog shards.items }
     requires few { length shards.items ≤ 64 }
     requires legal { EachMayStand IsLegalCatalog catalog.held }
     requires none { (locks.items ≡ []) × (passes.items ≡ []) }
     requires room { (vec_len shards ≤ vec_capacity locks) × (vec_len shards ≤ vec_capacity passes) }
     ensures opened { IfOk result (λ made. Opens K.faults seats
-        record { catalog = catalog; parts = shards.items } made.0 made.1) }
+        (school_of catalog shards.items) made.0 made.1) }
     ensures refused { IfErr result (λ back. Closes K.faults
-        (told_by K.faults record { catalog = catalog; parts = shards.items }) back.0) }
+        (told_by K.faults (school_of catalog shards.items)) (school_of back.0 back.1.items)) }
+    ensures solo { IfErr result (λ back. IsSolo back.0 back.1.items) }
 {
     match Turns::open(alloc, Records::new(catalog), &(), seats) {
         Ok((records, mut seen)) => {
@@ -133,42 +133,47 @@ fn open_all<K: Keeper>(
                         parts: passes,
                     },
                 )),
-                Err(NoMemory) => Err((close_all(records, seen, shards, locks, passes), NoMemory)),
+                Err(NoMemory) => Err(close_all(records, seen, shards, locks, passes)),
             }
         }
         Err((records, NoMemory)) => {
             locks.destroy_empty();
-            Err((Solo::of(records.into_catalog(), shards), NoMemory))
+            Err((records.into_catalog(), shards))
         }
     }
 }
 
 impl<K: Keeper> School<K> {
-    /// A school behind locks, each with this many seats, and its first passes, which have every number and have seen all of it. Where
-    /// memory is short the school comes back, and each of its lists goes on from what it was.
+    /// A school behind locks, each with this many seats, and its first passes, which have every number and have seen all of it: of a catalogue
+    /// and the shards in order that it was founded with, each of which agrees with it. Where memory is short they come back, and each list goes
+    /// on from what it was.
     pub fn open(
         alloc: Global,
-        solo: Solo<K>,
+        catalog: Catalog<K>,
+        shards: Vec<Shard<K>>,
         seats: u32,
-    ) -> Result<(School<K>, Passes<K>), (Solo<K>, NoMemory)>
-        ensures opened { IfOk result (λ made. Opens K.faults seats solo made.0 made.1.seats) }
+    ) -> Result<(School<K>, Passes<K>), (Catalog<K>, Vec<Shard<K>>)>
+        requires { IsSolo catalog shards.items }
+        ensures opened { IfOk result (λ made. Opens K.faults seats
+            (school_of catalog shards.items) made.0 made.1.seats) }
         ensures unasked { IfOk result (λ made. IsUnasked made.1.seats made.1.last) }
-        ensures refused { IfErr result (λ back. Closes K.faults (told_by K.faults solo) back.0) }
+        ensures refused { IfErr result (λ back. Closes K.faults
+            (told_by K.faults (school_of catalog shards.items)) (school_of back.0 back.1.items)) }
+        ensures solo { IfErr result (λ back. IsSolo back.0 back.1.items) }
     {
         // Whatever a catalogue holds is legal.
-        let _records = solo.len();
-        let (catalog, shards) = solo.into_parts();
+        let _records = catalog.len();
         // There are 64 at most.
         let _first = shards[0].len();
         let Ok(counts) = zeros(alloc, shards.len()) else {
-            return Err((Solo::of(catalog, shards), NoMemory));
+            return Err((catalog, shards));
         };
         let Ok(locks) = Vec::with_capacity(alloc, shards.len()) else {
-            return Err((Solo::of(catalog, shards), NoMemory));
+            return Err((catalog, shards));
         };
         let Ok(passes) = Vec::with_capacity(alloc, shards.len()) else {
             locks.destroy_empty();
-            return Err((Solo::of(catalog, shards), NoMemory));
+            return Err((catalog, shards));
         };
         let (school, seats) = open_all(alloc, catalog, shards, locks, passes, seats)?;
         Ok((school, Passes::unasked(seats, counts)))

@@ -2,8 +2,8 @@
 
 ghost use Rattle.std.specs.Prelude.{◌≡◌, None, IfOk, MatchResult, map};
 ghost use Rattle.qz_decimal.specs.Numbers.{IsMaxSum, IsQuizGrade};
-ghost use Rattle.qz_solo.specs.Answering.{MayBeAsked};
-ghost use Rattle.qz_solo.specs.Reports.{named_row, rows_in_order};
+ghost use Rattle.qz_school.specs.Answering.{MayBeAsked};
+ghost use Rattle.qz_school.specs.Reports.{named_row, rows_in_order};
 ghost use Rattle.qz_terms.specs.declared.request.Request.TheVariants as request;
 ghost use Rattle.qz_terms.specs.Cause.{forbidden};
 ghost use Rattle.qz_visit.specs.Reports.{AreAt, RowsAre, RowsStop};
@@ -17,8 +17,8 @@ use qz_catalog_turns::heading;
 use qz_decimal::Grade;
 use qz_disks::Keeper;
 use qz_grading::Refusal;
+use qz_school::{in_order, named};
 use qz_shard_turns::{Part, rows};
-use qz_solo::{in_order, named};
 use qz_terms::{Ask, Done, Policy, Reply, Row, User};
 use qz_text::{Listed, NoMemory, Text};
 use qz_turn::{Pass, Turns};

@@ -1,6 +1,6 @@
 //! A school behind locks.
 
-ghost use Rattle.qz_solo.specs.Answering.{MayBeAsked};
+ghost use Rattle.qz_school.specs.Answering.{MayBeAsked};
 ghost use Rattle.qz_visit.specs.Visits.{AreOf, Asked, Visited};
 
 use crate::last::Said;

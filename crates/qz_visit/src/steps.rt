@@ -2,7 +2,7 @@
 
 ghost use Rattle.std.specs.Prelude.{◌≡◌, ◌<◌, ◌≤◌, Some, MatchResult};
 ghost use Rattle.qz_keeper.specs.Lists.{Looks};
-ghost use Rattle.qz_solo.specs.Answering.{MayBeAsked};
+ghost use Rattle.qz_school.specs.Answering.{MayBeAsked};
 ghost use Rattle.qz_terms.specs.declared.reply.Reply.TheVariants as reply;
 ghost use Rattle.qz_terms.specs.Answer.{live_answer};
 ghost use Rattle.qz_terms.specs.Catalog.{user_of};

@@ -2,7 +2,7 @@
 
 ghost use Rattle.std.specs.Prelude.{◌≡◌, ◌<◌, ◌≤◌, false, true, None, Some, IfNone, IfSome, length};
 ghost use Rattle.qz_serial.specs.Paths.{goes_to_part};
-ghost use Rattle.qz_solo.specs.Answering.{MayBeAsked};
+ghost use Rattle.qz_school.specs.Answering.{MayBeAsked};
 ghost use Rattle.qz_terms.specs.declared.people.Caller.TheVariants as caller;
 ghost use Rattle.qz_terms.specs.declared.request.Request.TheVariants as request;
 ghost use Rattle.qz_terms.specs.Answer.{named_user};

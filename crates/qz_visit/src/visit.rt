@@ -66,7 +66,7 @@ impl<'s, 'r, K: Keeper, R: Wait> Visit<'s, 'r, K, R> {
 
 impl<'s, 'r, K: Keeper, R: Wait> Desk for Visit<'s, 'r, K, R> {
     ghost use Rattle.std.specs.Prelude.{◌≡◌};
-    ghost use Rattle.qz_solo.specs.Answering.{MayBeAsked};
+    ghost use Rattle.qz_school.specs.Answering.{MayBeAsked};
     ghost use Rattle.qz_visit.specs.Visits.{Asked, faults_seen, lists_told, seen_in};
 
     ghost lists = { λ v. lists_told (seen_in v.passes) };

@@ -1,7 +1,7 @@
 //! How a school answers a worker.
 
 ghost use Rattle.std.specs.Prelude.{◌≡◌, ◌<◌, ◌≤◌, None, length};
-ghost use Rattle.qz_solo.specs.Answering.{MayBeAsked};
+ghost use Rattle.qz_school.specs.Answering.{MayBeAsked};
 ghost use Rattle.qz_terms.specs.declared.people.Caller.TheVariants as caller;
 ghost use Rattle.qz_terms.specs.declared.request.Request.TheVariants as request;
 ghost use Rattle.qz_terms.specs.Catalog.{worker};
@@ -16,7 +16,7 @@ use crate::steps::{answer_live, answer_work};
 use qz_catalog_turns::{answer, job};
 use qz_disks::Keeper;
 use qz_grading::{AttemptId, Refusal, Thing};
-use qz_solo::{index_of, worker};
+use qz_school::{index_of, worker};
 use qz_terms::{Ask, Request, User, forbidden};
 use std::alloc::Global;
 use std::sync::Wait;

@@ -6,7 +6,7 @@ use Rattle.qz_terms.specs.Serial.{Held}
 use Rattle.qz_solo.specs.Marks.{shown_mark}
 use Rattle.qz_solo.proofs.MarkLemmas.{map_ok, marks_shown, no_marks, quiz_none, quiz_some, quiz_still}
 use Rattle.qz_solo.proofs.Clear.{not_memory}
-use Rattle.qz_solo.proofs.Planning.{plan_there}
+use Rattle.qz_school.proofs.Planning.{plan_there}
 use Rattle.qz_terms.specs.declared.reply.Reply.TheVariants.{Refused}
 use Rattle.qz_solo.proofs.marks.marks_onto.Goals as goal
 

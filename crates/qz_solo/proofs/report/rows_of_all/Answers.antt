@@ -1,6 +1,6 @@
 use Rattle.std.proofs.Common.{◌<◌, ◌+◌, ◌++◌, List, length, refl, ap, ◌∙◌, arith}
 use Rattle.std.proofs.lemmas.Result.{err_from_is_err_and}
-use Rattle.qz_solo.specs.Reports.{short, untold}
+use Rattle.qz_school.specs.Reports.{short, untold}
 use Rattle.qz_solo.proofs.Reporting.{count_read, read_more, read_none, rows_whole, told_more}
 use Rattle.qz_solo.proofs.Standing.{part_there}
 use Rattle.qz_solo.proofs.report.rows_of_all.Goals as goal

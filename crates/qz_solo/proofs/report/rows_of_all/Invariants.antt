@@ -1,7 +1,7 @@
 use Rattle.std.proofs.Common.{◌≡◌, take}
 use Rattle.qz_terms.specs.Serial.{lists_of}
-use Rattle.qz_solo.specs.Reports.{PartsRead, all_rows}
-use Rattle.qz_solo.specs.Solos.{held_of}
+use Rattle.qz_school.specs.Reports.{PartsRead, all_rows}
+use Rattle.qz_school.specs.Solos.{held_of}
 use Rattle.qz_solo.proofs.report.rows_of_all.Given as goal
 
 abbrev pub ghosts-rows : goal.ghosts-rows

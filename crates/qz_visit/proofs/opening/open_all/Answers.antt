@@ -1,7 +1,7 @@
 use Rattle.std.proofs.Common.{◌≡◌, ◌+◌, ◌<◌, List, ℕ, Some, length, reverse, ap, ◌∙◌, sym, subst, arith, refl}
 use Rattle.qz_catalog.specs.Keeping as records
 use Rattle.qz_catalog_turns.specs.Turning.{tale_of}
-use Rattle.qz_solo.specs.Solos.{AgreeAll, ArePlaced}
+use Rattle.qz_school.specs.Solos.{AgreeAll, ArePlaced}
 use Rattle.qz_terms.specs.declared.record.Record.{Record}
 use Rattle.qz_terms.specs.Catalog as catalog
 use Rattle.qz_turn.specs.declared.view.Tale.{Tale}
@@ -97,15 +97,19 @@ returns-in-Err-opened-clause-refused g c =
     let half = half_of c.args.shards.items c.reverse.new.self.items c.reverse.ensures.items c.open_parts-opened.ensures.opened in
     let tale = seen-tale g.K.Keeper.faults c.args.catalog c.new.result c.open_parts-opened.new.seen c.in-Ok.seen c.new.ensures c.open_parts-opened.ensures.seen (ap (λ (x : Seen). x.seen) c.in-Ok.ensures.pass) in
     let tells = half_tales half in
-    let a = c.close_all.result in
-    let closes = c.close_all.ensures in
+    let back = c.close_all.result in
+    let closes = c.close_all.ensures.closes in
     record {
       records = rw (← tale) closes.records;
-      parts = subst (λ (ts : List (Tale Record)). AreClosed g.K.Keeper.faults a.catalog.held.list (length a.parts) 0 ts a.parts) tells closes.parts;
+      parts = subst (λ (ts : List (Tale Record)). AreClosed g.K.Keeper.faults back.0.held.list (length back.1.items) 0 ts back.1.items) tells closes.parts;
     }
 
 pub returns-in-Err-clause-refused : goal.returns-in-Err-clause-refused
 returns-in-Err-clause-refused g c =
     let same = c.into_catalog.ensures ∙ c.in-Err.ensures.refused ∙ c.new.ensures in
-    let whole = rw same at c.of.ensures in
-    rw whole (closes_self g.K.Keeper.faults record { catalog = c.args.catalog; parts = c.args.shards.items } c.requires.solo)
+    rw same (closes_self g.K.Keeper.faults record { catalog = c.args.catalog; parts = c.args.shards.items } c.requires.solo)
+
+pub returns-in-Err-clause-solo : goal.returns-in-Err-clause-solo
+returns-in-Err-clause-solo g c =
+    let same = c.into_catalog.ensures ∙ c.in-Err.ensures.refused ∙ c.new.ensures in
+    rw same c.requires.solo

@@ -1,7 +1,7 @@
 use Rattle.std.proofs.Common.{◌≡◌, List}
 use Rattle.qz_turn.specs.declared.view.Tale.{Tale}
 use Rattle.qz_terms.specs.declared.record.Record.{Record}
-use Rattle.qz_solo.specs.Reports.{all_rows}
+use Rattle.qz_school.specs.Reports.{all_rows}
 use Rattle.qz_visit.specs.Reports.{AreAt, PartsRead}
 use Rattle.qz_visit.proofs.Reporting.{first_lists}
 use Rattle.qz_visit.proofs.reports.rows_of_all.Given as goal

@@ -2,7 +2,7 @@ use Rattle.std.proofs.lemmas.Result.{err_from_is_err_and}
 use Rattle.qz_catalog.specs.Keeping.{TellsJob}
 use Rattle.qz_catalog_turns.specs.Turning.{held_of}
 use Rattle.qz_outside.specs.Causes.{HasRisen}
-use Rattle.qz_solo.proofs.Calls.{look_told}
+use Rattle.qz_school.proofs.Calls.{look_told}
 use Rattle.qz_terms.specs.Legal.{IsLegal}
 use Rattle.qz_visit.proofs.Asking.{user_on}
 use Rattle.qz_visit.proofs.Passing.{turn_sees}

@@ -2,7 +2,7 @@ use Rattle.std.proofs.Common.{subst}
 use Rattle.qz_serial.specs.Once.{AskedOnce}
 use Rattle.qz_terms.specs.Serial.{Lists}
 use Rattle.qz_solo.proofs.Clear.{asked_clear, sound_once}
-use Rattle.qz_solo.specs.Solos.{lists_in}
+use Rattle.qz_school.specs.Solos.{lists_in}
 use Rattle.qz_solo.proofs.memory.MemorySchoolDesk.ask.Goals as goal
 
 pub invariant_of-self : goal.invariant_of-self

@@ -3,10 +3,10 @@ use Rattle.std.specs.Prelude.{slice_set}
 use Rattle.qz_keeper.specs.Lists.{EachMayStand}
 use Rattle.qz_serial.specs.Calls.{ShardAnswers}
 use Rattle.qz_shard.specs.Keeping.{shard_over}
-use Rattle.qz_solo.specs.Answering.{PartTells}
+use Rattle.qz_school.specs.Answering.{PartTells}
 use Rattle.qz_terms.specs.declared.record.Record.{Record}
 use Rattle.qz_terms.specs.Legal.{AllAgree}
-use Rattle.qz_solo.proofs.Planning.{named_free, named_kind}
+use Rattle.qz_school.proofs.Planning.{named_free, named_kind}
 use Rattle.qz_solo.proofs.Seeing.{known_seen, serves_from}
 use Rattle.qz_solo.proofs.Serving.{part_serves, plan_goes, same_told}
 use Rattle.qz_solo.proofs.Standing.{changed_part, part_there}

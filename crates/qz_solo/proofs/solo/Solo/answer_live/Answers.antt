@@ -4,7 +4,8 @@ use Rattle.qz_terms.specs.Answer.{live_answer}
 use Rattle.qz_solo.proofs.Seeing.{known_seen, seen_from, seen_still}
 use Rattle.qz_solo.proofs.Serving.{among_served, part_served}
 use Rattle.qz_solo.proofs.Standing.{looked_part, part_there}
-use Rattle.qz_solo.proofs.Steps.{live_goes, live_means, live_nowhere, live_other}
+use Rattle.qz_school.proofs.Missing.{live_nowhere}
+use Rattle.qz_solo.proofs.Steps.{live_goes, live_means, live_other}
 use Rattle.qz_solo.proofs.solo.Solo.answer_live.Goals as goal
 
 pub returns-in_err-index : goal.returns-in_err-index

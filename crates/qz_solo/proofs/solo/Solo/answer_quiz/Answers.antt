@@ -3,13 +3,13 @@ use Rattle.std.proofs.lemmas.Result.{err_from_is_err_and}
 use Rattle.qz_catalog.specs.Keeping.{IsPlan}
 use Rattle.qz_keeper.specs.Lists.{EachMayStand}
 use Rattle.qz_serial.specs.Calls.{ShardAnswers}
-use Rattle.qz_solo.specs.Answering.{PartAnswers}
-use Rattle.qz_solo.specs.Planning.{ArePlanned, IsPlanned}
+use Rattle.qz_school.specs.Answering.{PartAnswers}
+use Rattle.qz_school.specs.Planning.{ArePlanned, IsPlanned}
 use Rattle.qz_shard.specs.Keeping.{shard_over}
 use Rattle.qz_terms.specs.declared.record.Record.{Record}
 use Rattle.qz_terms.specs.Legal.{AllAgree}
-use Rattle.qz_solo.proofs.Calls.{stand_as}
-use Rattle.qz_solo.proofs.Planning.{either_quiz, plans_quiz, quiz_free, quiz_kind}
+use Rattle.qz_school.proofs.Calls.{stand_as}
+use Rattle.qz_school.proofs.Planning.{either_quiz, plans_quiz, quiz_free, quiz_kind}
 use Rattle.qz_solo.proofs.Seeing.{known_seen, seen_from, seen_still, shard_other}
 use Rattle.qz_solo.proofs.Serving.{either_served, part_served, plan_goes}
 use Rattle.qz_solo.proofs.Standing.{changed_part, here_there, part_there}

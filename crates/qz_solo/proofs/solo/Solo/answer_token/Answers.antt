@@ -3,7 +3,7 @@ use Rattle.qz_catalog.specs.Keeping.{TellsUser}
 use Rattle.qz_solo.proofs.Seeing.{seen_from, serves_from}
 use Rattle.qz_solo.proofs.Serving.{known_here, serves_mended, user_known, user_untold}
 use Rattle.qz_solo.proofs.Standing.{looked_records}
-use Rattle.qz_solo.specs.Solos.{held_of, lists_in}
+use Rattle.qz_school.specs.Solos.{held_of, lists_in}
 use Rattle.qz_solo.proofs.solo.Solo.answer_token.Goals as goal
 
 pub invariant_of-self : goal.invariant_of-self

@@ -1,6 +1,7 @@
 use Rattle.std.proofs.Common.{sym, ◌∙◌}
 use Rattle.qz_solo.proofs.Seeing.{known_seen, seen_from}
-use Rattle.qz_solo.proofs.Serving.{forbidden_first, records_served, refused_served}
+use Rattle.qz_school.proofs.Missing.{forbidden_first}
+use Rattle.qz_solo.proofs.Serving.{records_served, refused_served}
 use Rattle.qz_solo.proofs.Standing.{told_records}
 use Rattle.qz_solo.proofs.solo.Solo.answer_user.Goals as goal
 

@@ -4,7 +4,8 @@ use Rattle.qz_catalog.specs.Keeping.{IsJob}
 use Rattle.qz_solo.proofs.Seeing.{known_seen, seen_from, seen_still}
 use Rattle.qz_solo.proofs.Serving.{among_served, either_served, part_served}
 use Rattle.qz_solo.proofs.Standing.{changed_part, part_there}
-use Rattle.qz_solo.proofs.Steps.{job_refused, work_goes, work_means, work_nowhere, work_other, workable}
+use Rattle.qz_school.proofs.Missing.{work_nowhere}
+use Rattle.qz_solo.proofs.Steps.{job_refused, work_goes, work_means, work_other, workable}
 use Rattle.qz_solo.proofs.UnderPlans.{answers_agree}
 use Rattle.qz_solo.proofs.solo.Solo.answer_work.Goals as goal
 

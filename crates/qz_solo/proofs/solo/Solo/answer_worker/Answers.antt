@@ -3,7 +3,8 @@ use Rattle.std.proofs.lemmas.Result.{err_from_is_err_and}
 use Rattle.qz_terms.specs.Catalog.{worker}
 use Rattle.qz_terms.specs.Cause.{forbidden}
 use Rattle.qz_solo.proofs.Seeing.{seen_from}
-use Rattle.qz_solo.proofs.Settling.{asks_jobs, jobs_left, jobs_served, worker_refused, worker_wants}
+use Rattle.qz_school.proofs.Missing.{jobs_left}
+use Rattle.qz_solo.proofs.Settling.{asks_jobs, jobs_served, worker_refused, worker_wants}
 use Rattle.qz_solo.proofs.Standing.{told_records}
 use Rattle.qz_solo.proofs.solo.Solo.answer_worker.Goals as goal
 

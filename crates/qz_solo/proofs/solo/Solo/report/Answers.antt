@@ -1,6 +1,7 @@
 use Rattle.std.proofs.Common.{length}
 use Rattle.std.proofs.lemmas.Result.{err_from_is_err_and}
-use Rattle.qz_solo.proofs.Reporting.{Reports, each_legal, missing_first, report_done, report_served, report_stopped, report_wants, stopped_solo, whole_solo}
+use Rattle.qz_school.proofs.Rows.{report_done}
+use Rattle.qz_solo.proofs.Reporting.{Reports, each_legal, missing_first, report_served, report_stopped, report_wants, stopped_solo, whole_solo}
 use Rattle.qz_solo.proofs.Seeing.{known_seen, seen_from, seen_still}
 use Rattle.qz_solo.proofs.Serving.{either_served, report_other, wants_served}
 use Rattle.qz_solo.proofs.solo.Solo.report.Goals as goal

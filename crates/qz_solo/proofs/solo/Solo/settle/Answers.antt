@@ -4,12 +4,12 @@ use Rattle.std.proofs.lemmas.Result.{err_from_is_err_and}
 use Rattle.qz_catalog.specs.Keeping.{TellsPlan}
 use Rattle.qz_keeper.specs.Lists.{EachMayStand}
 use Rattle.qz_serial.specs.Calls.{ShardAnswers}
-use Rattle.qz_solo.specs.Answering.{PartAnswers}
-use Rattle.qz_solo.specs.Planning.{ArePlanned}
+use Rattle.qz_school.specs.Answering.{PartAnswers}
+use Rattle.qz_school.specs.Planning.{ArePlanned}
 use Rattle.qz_terms.specs.declared.people.User.{User}
 use Rattle.qz_terms.specs.declared.record.Record.{Record}
 use Rattle.qz_terms.specs.Legal.{AllAgree}
-use Rattle.qz_solo.proofs.Calls.{look_told}
+use Rattle.qz_school.proofs.Calls.{look_told}
 use Rattle.qz_solo.proofs.Seeing.{seen_from}
 use Rattle.qz_solo.proofs.Settling.{plan_unsettled, quiz_unsettled, settle_served, settle_may, settle_named}
 use Rattle.qz_solo.proofs.Standing.{looked_quiz, looked_records, part_there}

@@ -2,7 +2,7 @@ use Rattle.std.proofs.Common.{◌≡◌, None, refl, sym, ◌∙◌}
 use Rattle.std.proofs.lemmas.Result.{err_from_is_err_and}
 use Rattle.qz_terms.specs.Catalog.{worker}
 use Rattle.qz_terms.specs.Cause.{forbidden}
-use Rattle.qz_solo.proofs.Settling.{jobs_left}
+use Rattle.qz_school.proofs.Missing.{jobs_left}
 use Rattle.qz_visit.proofs.Standing.{some_part}
 use Rattle.qz_visit.proofs.Working.{refused_visited, wants_visited}
 use Rattle.qz_visit.proofs.school.School.answer_worker.Goals as goal

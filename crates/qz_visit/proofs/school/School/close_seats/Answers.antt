@@ -45,10 +45,10 @@ close_all-requires-clause-left g c =
     let ps = c.seats.inside.parts.items in
     none-left g.K.Keeper.faults c.seats.inside.records.seen.list (length ps + length c.self.inside.room.items) (length ps) c.self.inside.room.items c.self.invariant.1
 
-pub returns : goal.returns
-returns g c =
+pub returns-clause-closes : goal.returns-clause-closes
+returns-clause-closes g c =
     let ps = c.seats.inside.parts.items in
     let no_tales : seen_by ps ++ tales g.K.Keeper.faults (reverse c.self.inside.room.items) ≡ seen_by ps = ap (λ (l : List (Keeping _)). seen_by ps ++ tales g.K.Keeper.faults (reverse l)) c.self.invariant.1 ∙ append-nil (seen_by ps) in
     let all = c.close_all.result in
-    let closed = subst (λ (ts : List (Tale Record)). AreClosed g.K.Keeper.faults all.catalog.held.list (length all.parts) 0 ts all.parts) no_tales c.close_all.ensures.parts in
-    rw (← c.seats.view_is) (record { records = c.close_all.ensures.records; parts = closed })
+    let closed = subst (λ (ts : List (Tale Record)). AreClosed g.K.Keeper.faults all.0.held.list (length all.1.items) 0 ts all.1.items) no_tales c.close_all.ensures.closes.parts in
+    rw (← c.seats.view_is) (record { records = c.close_all.ensures.closes.records; parts = closed })

@@ -3,7 +3,7 @@ use Rattle.std.proofs.lemmas.Result.{err_from_is_err_and}
 use Rattle.qz_catalog_turns.specs.Headings.{TellsHeading}
 use Rattle.qz_catalog_turns.specs.Turning.{held_of}
 use Rattle.qz_outside.specs.Causes.{HasRisen}
-use Rattle.qz_solo.proofs.Calls.{look_told}
+use Rattle.qz_school.proofs.Calls.{look_told}
 use Rattle.qz_visit.proofs.Passing.{found_turned}
 use Rattle.qz_visit.proofs.Reporting.{Reports, headless_report, stopped_report, told_report, wants_report}
 use Rattle.qz_visit.proofs.Standing.{all_at, some_part}

@@ -7,7 +7,7 @@ use Rattle.qz_keeper.specs.Recording.{GoesOn, HasFailed}
 use Rattle.qz_outside.specs.Causes.{HasRisen}
 use Rattle.qz_shard.specs.Keeping as part
 use Rattle.qz_serial.proofs.Seats.{set_get}
-use Rattle.qz_solo.specs.Solos.{AreSound, Fails, GoOn, School, faults_of}
+use Rattle.qz_school.specs.Solos.{AreSound, Fails, GoOn, School, faults_of}
 
 -- ---- a sum of which one part changes
 

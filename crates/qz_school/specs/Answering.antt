@@ -15,7 +15,7 @@ use Rattle.qz_terms.specs.declared.reply.Reply.{Reply}
 use Rattle.qz_terms.specs.declared.reply.Reply.TheVariants as reply
 use Rattle.qz_terms.specs.Cause.{is_keyed}
 use Rattle.qz_terms.specs.Kept.{KeepsAsked, asks_described, is_moment}
-use Rattle.qz_solo.specs.Solos.{Fails, GoOn, School, lists_in}
+use Rattle.qz_school.specs.Solos.{Fails, GoOn, School, lists_in}
 
 -- ---- what may be asked
 

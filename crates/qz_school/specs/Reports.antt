@@ -15,8 +15,8 @@ use Rattle.qz_terms.specs.declared.reply.Row.{Row}
 use Rattle.qz_terms.specs.History.{takers}
 use Rattle.qz_terms.specs.Legal.{IsLegal}
 use Rattle.qz_terms.specs.Serial.{lists_of}
-use Rattle.qz_solo.specs.Answering.{PartLooks}
-use Rattle.qz_solo.specs.Solos.{GoOn, held_of}
+use Rattle.qz_school.specs.Answering.{PartLooks}
+use Rattle.qz_school.specs.Solos.{GoOn, held_of}
 
 -- ---- rows
 

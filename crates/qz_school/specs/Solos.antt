@@ -14,6 +14,9 @@ pub record School (K : Type 0) : Type 0 where
   pub catalog : records.Keeping K
   pub parts : List (part.Keeping K)
 
+abbrev pub school_of : {K : Type 0} → records.Keeping K → List (part.Keeping K) → School K
+school_of c ss = record { catalog = c; parts = ss }
+
 -- ---- its lists
 
 abbrev pub held_of : {K : Type 0} → List (part.Keeping K) → List Held

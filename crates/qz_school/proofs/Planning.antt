@@ -34,7 +34,7 @@ use Rattle.qz_school.proofs.Putting.{known_law}
 use Rattle.qz_serial.specs.Calls.{ShardAnswers}
 use Rattle.qz_serial.proofs.Answering.{same-answer, same-list}
 use Rattle.qz_serial.proofs.Plans.{planned-at, planned-quiz}
-use Rattle.qz_solo.specs.Planning.{IsPlanned, NamesQuiz, asks_shard, grades, starts}
+use Rattle.qz_school.specs.Planning.{IsPlanned, NamesQuiz, asks_shard, grades, starts}
 
 -- ---- under a plan
 

@@ -1,5 +1,5 @@
-use Rattle.qz_solo.proofs.Reporting.{last_of_rest, put_more}
-use Rattle.qz_solo.proofs.report.in_order.Goals as goal
+use Rattle.qz_school.proofs.Rows.{last_of_rest, put_more}
+use Rattle.qz_school.proofs.reports.in_order.Goals as goal
 
 pub loop-rest-preserved : goal.loop-rest-preserved
 loop-rest-preserved c =
