@@ -10,14 +10,19 @@ use std::io;
 use std::io::ErrorKind;
 use std::marker::Model;
 use std::net::{Ipv4Addr, Net, SocketAddrV4, TcpListener, TcpStream};
+use std::time::Duration;
+
+/// A read or a write of a link over a socket that moves no byte for so many seconds has failed.
+const LINK_SECONDS: u64 = 10;
 
 /// A socket as a link, which tells nothing of its bytes. A call that was interrupted is made again, and any other
-/// error is a failure; so is a socket that takes none of a piece.
+/// error is a failure; so is a socket that takes none of a piece, and a call that moves no byte in its time.
 pub type TcpLink = Duplex<StdSource<TcpStream>, StdSink<TcpStream>>;
 
 impl TcpLink {
     /// A link over this socket. It has a handle of the socket for each direction, so the system may refuse it.
     pub fn over(stream: TcpStream) -> io::Result<TcpLink> {
+        limit_waits(&stream)?;
         Ok(Duplex {
             source: StdSource::new(stream.try_clone()?),
             sink: StdSink::new(stream),
@@ -30,6 +35,16 @@ impl TcpLink {
     {
         self.source.faults().saturating_add(self.sink.faults())
     }
+}
+
+// No call of the socket waits longer than its time. Where the system can't set that, none waits at all, so that the link
+// fails at the first call that would have to wait: no link holds its worker for ever.
+fn limit_waits(stream: &TcpStream) -> io::Result<()> {
+    let time = Some(Duration::from_secs(LINK_SECONDS));
+    stream
+        .set_read_timeout(time)
+        .and_then(|()| stream.set_write_timeout(time))
+        .or_else(|_| stream.set_nonblocking(true))
 }
 
 /// Why no door could be opened at a port.
