@@ -10,15 +10,16 @@ use Rattle.qz_ending.specs.declared.stop.Stop.{Stop}
 use Rattle.qz_ending.specs.declared.stop.Stop.TheVariants as stop
 use Rattle.qz_ending.specs.Endings.{Outside}
 use Rattle.qz_wire.specs.Lines.{newline}
-use Rattle.quizd.specs.Bulk.{BulkEnds}
-use Rattle.quizd.specs.Solo.{first_lists}
+use Rattle.qz_bulk.specs.Bulk.{BulkEnds}
+use Rattle.qz_script_schools.specs.Folders.{Disks, ScriptFolderEnds, ServesFolder, sunk}
+use Rattle.qz_script_schools.specs.Memory.{ScriptEnds, first_lists}
 use Rattle.qz_replay.specs.ReplayEndings.{ReplayEnds, ReplaysAll}
 use Rattle.qz_disks.specs.Shelves.{Files, Place}
 use Rattle.qz_found.specs.FoundEndings.{FoundEnds, FoundsAll, Shelved}
-use Rattle.quizd.specs.Folders.{Disks, DoorsFolderEnds, ScriptFolderEnds, ServesDoors, ServesFolder, sunk}
+use Rattle.quizd.specs.Folders.{DoorsFolderEnds, ServesDoors}
 use Rattle.qz_stations.specs.Stations.{Serving}
-use Rattle.quizd.specs.Scripts.{ScriptEnds, ServesAll, script_limit}
-use Rattle.quizd.specs.GiftEndings.{GiftEnds, GiftsAll}
+use Rattle.qz_script.specs.Scripts.{ServesAll, script_limit}
+use Rattle.qz_gift.specs.GiftEndings.{GiftEnds, GiftsAll}
 
 -- the school in memory of a script, which is no folder's
 abbrev pub is_memory : List ℕ → Bool

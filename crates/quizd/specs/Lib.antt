@@ -1,10 +1,3 @@
-pub mod ScriptLines
-pub mod Inputs
-pub mod Retries
-pub mod Scripts
-pub mod Solo
-pub mod Bulk
-pub mod GiftEndings
 pub mod Serving
 pub mod Folders
 pub mod Commands

@@ -3,28 +3,18 @@
 
 ghost use Rattle.std.specs.Prelude.{◌≡◌, length, IfOk};
 
-mod bulk;
 mod folders;
-mod gift;
 mod run;
-mod script;
-mod script_input;
-mod script_line;
 mod serve;
 
-pub use bulk::bulk;
-pub use folders::{script_folder, serve_folder};
-pub use gift::gift;
+pub use folders::serve_folder;
 use qz_command::{Command, WordsFault, command_of};
 use qz_disks::FolderShelf;
 use qz_ending::Stop;
-pub use qz_found::found_folder;
 use qz_links::{BindFault, Clock, Door, MemoryClock, MemoryDoor, MemoryLink, StdClock, TcpDoor};
 use qz_outside::{StdSink, StdSource};
-pub use qz_replay::replay;
 use qz_text::{Listed, NoMemory, Text};
 pub use run::run;
-pub use script::script;
 use std::alloc::Global;
 use std::process::ExitCode;
 use std::rt::Env;

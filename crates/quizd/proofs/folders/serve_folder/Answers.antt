@@ -1,6 +1,7 @@
 use Rattle.std.proofs.Common.{Some, refl, arith}
 use Rattle.qz_disks.specs.Shelves.{place}
-use Rattle.quizd.proofs.FolderLemmas.{doors_as_many, given_back, out_as_many, said_of, school_count, school_later, served_ends, serves_doors, unloaded_ends, unserved_doors}
+use Rattle.qz_script_schools.proofs.FolderLemmas.{given_back, out_as_many, served_ends, unloaded_ends}
+use Rattle.quizd.proofs.FolderLemmas.{doors_as_many, said_of, school_count, school_later, serves_doors, unserved_doors}
 use Rattle.quizd.proofs.folders.serve_folder.Goals as goal
 
 pub close-requires-clause-few : goal.close-requires-clause-few

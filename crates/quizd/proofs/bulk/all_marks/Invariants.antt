@@ -1,7 +1,0 @@
-use Rattle.std.proofs.Common.{◌≡◌}
-use Rattle.qz_terms.specs.Serial.{part_list}
-use Rattle.quizd.specs.Bulk.{all_marks}
-use Rattle.quizd.proofs.bulk.all_marks.Given as goal
-
-abbrev pub invariant-loop-before : goal.invariant-loop-before
-invariant-loop-before l = (l.marks ≡ all_marks (part_list l.initial.school 0) l.before) × (l.school ≡ l.initial.school)

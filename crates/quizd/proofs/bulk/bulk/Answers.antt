@@ -1,5 +1,0 @@
-use Rattle.quizd.proofs.BulkLemmas.{bulk_ends}
-use Rattle.quizd.proofs.bulk.bulk.Goals as goal
-
-pub returns-in-Err-clause-complete : goal.returns-in-Err-clause-complete
-returns-in-Err-clause-complete g c = λ quiet. rw c.status.ensures (bulk_ends c.args.count _ _ _ _ c.in-Err.stop c.in-Err.ensures quiet)

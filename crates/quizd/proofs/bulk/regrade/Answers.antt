@@ -1,5 +1,0 @@
-use Rattle.quizd.proofs.BulkLemmas.{regraded_one}
-use Rattle.quizd.proofs.bulk.regrade.Goals as goal
-
-pub returns-clause-one : goal.returns-clause-one
-returns-clause-one c = regraded_one c.follow_all.result c.args.school.now c.follow_all.new.school c.as_slice.result.now c.follow_all.ensures c.requires.one

@@ -1,6 +1,0 @@
-use Rattle.quizd.specs.Bulk.{user_line}
-use Rattle.quizd.proofs.BulkLemmas.{more_mapped}
-use Rattle.quizd.proofs.bulk.users_onto.Goals as goal
-
-pub loop-before-preserved : goal.loop-before-preserved
-loop-before-preserved c = rw (c.in_ok-added.ensures, c.in_ok-user_line.ensures, c.loop-before.invariant) (more_mapped user_line c.args.lines.now c.loop-before.before)

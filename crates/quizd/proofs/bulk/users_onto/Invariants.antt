@@ -1,7 +1,0 @@
-use Rattle.std.proofs.Common.{◌≡◌, ◌++◌, map}
-use Rattle.qz_terms.specs.Lists.{places_to}
-use Rattle.quizd.specs.Bulk.{user_line}
-use Rattle.quizd.proofs.bulk.users_onto.Given as goal
-
-abbrev pub invariant-loop-before : goal.invariant-loop-before
-invariant-loop-before l = l.lines ≡ l.initial.lines ++ map user_line (places_to l.before)

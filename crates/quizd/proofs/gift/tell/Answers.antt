@@ -1,5 +1,0 @@
-use Rattle.quizd.proofs.GiftLemmas.{memory_stops}
-use Rattle.quizd.proofs.gift.tell.Goals as goal
-
-pub returns-in_err-out : goal.returns-in_err-out
-returns-in_err-out g c = memory_stops _ _ _ _ _ c.from_residual.ensures

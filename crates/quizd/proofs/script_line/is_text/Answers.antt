@@ -1,6 +1,0 @@
-use Rattle.std.proofs.Common.{◌∙◌}
-use Rattle.quizd.proofs.KeptLemmas.{utf8_test}
-use Rattle.quizd.proofs.script_line.is_text.Goals as goal
-
-pub returns : goal.returns
-returns c = c.is_ok.ensures.value ∙ utf8_test c.args.bytes.now c.from_utf8.result c.from_utf8.ensures.cases

@@ -1,0 +1,4 @@
+pub mod KeptLemmas
+pub mod InputLemmas
+pub mod RetryLemmas
+pub mod ScriptLemmas

@@ -1,0 +1,4 @@
+pub mod ScriptLines
+pub mod Inputs
+pub mod Retries
+pub mod Scripts
