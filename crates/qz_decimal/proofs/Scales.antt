@@ -3,7 +3,7 @@ use Rattle.std.proofs.Common.{◌≡◌, ℕ, zero, suc, ◌+◌, ◌-◌, ◌*�
 use Rattle.std.proofs.lemmas.Bool.{ne_eqb, eqb-true, ltb-true, le-ltb, lt-ltb}
 use Rattle.std.proofs.lemmas.Option.{cond_some}
 use Rattle.std.proofs.lemmas.Nat.{pow-add}
-use Rattle.std.proofs.Math.Nat.{mul-div-mul_right, mul-mod_left, mul-div_left, mul-add-mod_self_right, mod-eq_of_lt, one-le-pow, mul-le-mul_right, mul-lt-mul_of_pos_right, zero-mod, zero-div}
+use Rattle.std.proofs.Math.Nat.{mul-div-mul_right, mul-mod_left, mul-div_left, mul-add-mod_self_right, mod-eq_of_lt, one-le-pow, mul-le-mul_right, mul-lt-mul_of_pos_right}
 use Rattle.qz_decimal.specs.Decimals.{short_size, short_quotient, exact_size}
 use Rattle.qz_decimal.proofs.DigitRuns.{pow10-le}
 
@@ -39,10 +39,6 @@ unfolding exact_size
 exact_size-down number up down le =
     let powers : 10 ^ down ≡ 10 ^ (down - up) * 10 ^ up = ap (λ k. 10 ^ k) (omega arith) ∙ pow-add 10 (down - up) up in
     ap (short_quotient (number * 10 ^ up)) powers ∙ short_quotient-times number (10 ^ (down - up)) (10 ^ up) (pow10-pos (down - up)) (pow10-pos up)
-
-pub exact_size-zero : (up down : ℕ) → exact_size 0 up down ≡ Some 0
-unfolding exact_size
-exact_size-zero up down = let none : 0 * 10 ^ up ≡ 0 = omega arith in rw (none, zero-mod, zero-div) refl
 
 -- ---- which numbers are short
 

@@ -5,7 +5,7 @@ ghost use Rattle.qz_ending.specs.declared.stop.Stop.TheVariants.{Memory};
 
 use qz_outside::ReadStop;
 use qz_text::NoMemory;
-use std::alloc::{AllocError, AllocFailed};
+use std::alloc::AllocError;
 
 /// Why a command ended before its work was done, each with an exit status of its own.
 #[derive(Clone, Copy, Debug, PartialEq, Eq)]
@@ -81,14 +81,6 @@ impl From<AllocError> for Stop {
     ghost from_gives = { λ _ stop. stop ≡ Memory };
 
     fn from(_: AllocError) -> Self {
-        Stop::Memory
-    }
-}
-
-impl<T: Drop> From<AllocFailed<T>> for Stop {
-    ghost from_gives = { λ _ stop. stop ≡ Memory };
-
-    fn from(_: AllocFailed<T>) -> Self {
         Stop::Memory
     }
 }

@@ -18,15 +18,6 @@ get-kept [] x k inside = absurd (omega arith)
 get-kept (y ∷ xs) x zero inside = refl
 get-kept (y ∷ xs) x (suc k) inside = get-kept xs x k (let within : suc k < suc (length xs) = inside in omega arith)
 
-pub get-seam : {A : Type 0} (xs : List A) (x : A) (ys : List A) → slice_get (xs ++ x ∷ ys) (length xs) ≡ Some x
-get-seam [] x ys = refl
-get-seam (z ∷ xs) x ys = get-seam xs x ys
-
-pub get-inside : {A : Type 0} (xs : List A) (k : ℕ) → k < length xs → (x : A) × (slice_get xs k ≡ Some x)
-get-inside [] k inside = absurd (omega arith)
-get-inside (x ∷ xs) zero inside = (x, refl)
-get-inside (x ∷ xs) (suc k) inside = get-inside xs k (let within : suc k < suc (length xs) = inside in omega arith)
-
 -- ---- one item exchanged
 
 pub set-here : {A : Type 0} (xs : List A) (k : ℕ) (x y : A) → slice_get xs k ≡ Some x → slice_get (slice_set xs k y) k ≡ Some y

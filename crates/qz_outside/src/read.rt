@@ -6,7 +6,7 @@ ghost use Rattle.qz_outside.specs.Sources.{EndsReading, ReadsPiece, StopsPiece};
 
 use crate::{Failed, Source};
 use qz_text::Bytes;
-use std::alloc::{AllocError, AllocFailed, Global};
+use std::alloc::{AllocError, Global};
 
 /// How many bytes one call reads at most.
 const CHUNK: usize = 65_536;
@@ -34,14 +34,6 @@ impl From<AllocError> for ReadStop {
     ghost from_gives = { λ _ stop. stop ≡ Memory };
 
     fn from(_: AllocError) -> Self {
-        ReadStop::Memory
-    }
-}
-
-impl<T: Drop> From<AllocFailed<T>> for ReadStop {
-    ghost from_gives = { λ _ stop. stop ≡ Memory };
-
-    fn from(_: AllocFailed<T>) -> Self {
         ReadStop::Memory
     }
 }

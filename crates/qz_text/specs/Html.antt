@@ -1,10 +1,6 @@
 -- A text as it stands in HTML, and what such a text stands for.
 use Rattle.std.specs.Prelude.{ℕ, zero, suc, ◌==◌, ◌||◌, Bool, true, false, List, [], ◌∷◌, flat_map, if◌then◌else◌, codes}
 
--- the characters that HTML takes for its own: & < > " '
-abbrev pub is_markup : ℕ → Bool
-is_markup c = (c == 38) || (c == 60) || (c == 62) || (c == 34) || (c == 39)
-
 -- those that are left in no text as it stands in HTML; the ampersand begins each reference
 abbrev pub is_own_mark : ℕ → Bool
 is_own_mark c = (c == 60) || (c == 62) || (c == 34) || (c == 39)

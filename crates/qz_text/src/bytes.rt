@@ -34,9 +34,3 @@ impl Bytes {
         &self.items
     }
 }
-
-impl TryCopy for Bytes {
-    fn try_copy(&self, alloc: Global) -> Result<Bytes, NoMemory> {
-        Bytes::of(alloc, self.as_slice())
-    }
-}

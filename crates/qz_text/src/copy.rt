@@ -17,9 +17,3 @@ impl TryCopy for u8 {
         Ok(*self)
     }
 }
-
-impl TryCopy for u64 {
-    fn try_copy(&self, _alloc: Global) -> Result<u64, NoMemory> {
-        Ok(*self)
-    }
-}
