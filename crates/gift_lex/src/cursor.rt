@@ -3,7 +3,6 @@
 ghost use Rattle.std.specs.Prelude.{◌≡◌, ◌∷◌, [], IfOk, MatchOption};
 ghost use Rattle.gift_lex.specs.Blocks.{blocks_of};
 
-use crate::LexFault;
 use crate::block::Block;
 use crate::characters::without_order_mark;
 use crate::gathering::{end, take_line};
@@ -12,7 +11,15 @@ use qz_text::NoMemory;
 use std::alloc::Global;
 use std::marker::Model;
 
-/// The blocks of a GIFT text, given one by one, with the marks of one at a time in memory. It is seen as the blocks that are still to come.
+/// The blocks of a GIFT text in order, after the page "GIFT format" of Moodle's documentation; what it leaves open is
+/// settled here. They are given one by one, with the marks of one at a time in memory. It is seen as the blocks that are
+/// still to come.
+///
+/// Blank lines, of spaces and tabs alone, stand between blocks. A line that begins with `//` is a comment. A line that
+/// begins with `$CATEGORY:` ends its block where only comments stand before it there. Comments alone are no block.
+///
+/// A byte order mark at the front is dropped. A carriage return, with or without a line feed behind it, ends a line as a
+/// line feed does. A text with more lines than a `u32` counts is want of memory.
 #[derive(Drop)]
 pub struct Blocks<'a> {
     rest: &'a str,
@@ -44,7 +51,7 @@ impl<'a> Blocks<'a> {
     }
 
     /// The next block, or none behind the last. After want of memory it is not said which blocks are still to come.
-    pub fn next(&mut self, alloc: Global) -> Result<Option<Block>, LexFault>
+    pub fn next(&mut self, alloc: Global) -> Result<Option<Block>, NoMemory>
         ensures { IfOk result (λ found. MatchOption found (self.old ≡ [])
             (λ block. self.old ≡ block ∷ self.new)) }
     {

@@ -5,10 +5,8 @@ mod block;
 mod characters;
 mod cursor;
 mod gathering;
-mod lexer;
 mod lines;
 mod marks;
 
 pub use block::{Block, Piece};
 pub use cursor::Blocks;
-pub use lexer::{LexFault, blocks};

@@ -104,39 +104,6 @@ impl Machine {
         self.finished |= step.is_finish();
     }
 
-    /// Takes one more step, or refuses it for the first cause and stays as it was: the behaviour doesn't take it, or the slot has
-    /// ended. A step that is the same as the one before changes nothing either.
-    pub fn act<L: Ledger>(
-        &mut self,
-        question: &Question,
-        before: &[Step],
-        step: &Step,
-        steps: &mut Steps<L>,
-    ) -> Result<Moved, Refusal>
-        requires question { IsQuestion question.now }
-        requires after { IsAfter self.old question.now before.now }
-        requires fits { StepFits self.old.behaviour question.now step.now }
-        requires few { length before.now < 2 ^ 32 - 1 }
-        ensures refused { IfErr result (λ r. barred self.old.behaviour question.now before.now step.now ≡ Some r) }
-        ensures taken { IfOk result (λ m. (barred self.old.behaviour question.now before.now step.now ≡ None) × (m ≡ moved before.now step.now)) }
-        ensures after { result ≡ Ok Moved.Kept → IsAfter self.new question.now (before.now ++ step.now ∷ []) }
-        ensures same { result ≡ Ok Moved.Same → self.new ≡ self.old }
-        ensures unchanged { OnErr result (self.new ≡ self.old) }
-        ensures same_behaviour { self.new.behaviour ≡ self.old.behaviour }
-        ensures count { steps.new ≤ steps.old + 1 }
-        ensures save { is_save step.now ≡ true → steps.new ≡ steps.old }
-        ensures refused_count { OnErr result (steps.new ≡ steps.old) }
-    {
-        if let Some(refusal) = self.barred(step, self.outcome.state) {
-            return Err(refusal);
-        }
-        let moved = self.moved(before, step);
-        if moved == Moved::Kept {
-            self.feed(question, before, step, steps);
-        }
-        Ok(moved)
-    }
-
     /// The first cause for which a step is refused, whether or not its response fits. A refusal after the end carries the state
     /// that is shown.
     pub fn barred(&self, step: &Step, shown: State) -> Option<Refusal>

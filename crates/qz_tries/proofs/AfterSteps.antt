@@ -230,18 +230,6 @@ right-again b q s r plays still whole again =
     let same : submitted_tries b q (s ++ step.Submit r ∷ []) ≡ submitted_tries b q s = adaptive.submitted_tries-complete b q s r still whole ∙ rw again (append-nil (submitted_tries b q s)) in
     right-adaptive b q s plays ∙ ap (λ (ts : List Response). is_some (find (λ t. is_right (grade q t)) ts)) (sym same) ∙ sym (right-adaptive b q (s ++ step.Submit r ∷ []) plays)
 
--- an interactive slot aside, the others are adaptive
-pub adaptive-else : (b : Behaviour) → has_tries b ≡ true → (b ≡ behaviour.Interactive → ⊥) → is_adaptive b ≡ true
-adaptive-else behaviour.Interactive plays other = absurd (other refl)
-adaptive-else behaviour.Adaptive plays other = refl
-adaptive-else behaviour.AdaptiveNoPenalty plays other = refl
-adaptive-else b plays other = absurd cc
-
-pub plays-adaptive : (b : Behaviour) → is_adaptive b ≡ true → has_tries b ≡ true
-plays-adaptive behaviour.Adaptive plays = refl
-plays-adaptive behaviour.AdaptiveNoPenalty plays = refl
-plays-adaptive b plays = absurd cc
-
 -- the last response fits, where it can be graded
 pub last-fits : (b : Behaviour) (q : Question) (s : List Step) (r : Option Response) → r ≡ gradable_last q s → (gradable q (last s) ≡ true → fits q (last s) b ≡ true) → IfSome r (λ t. fits q t b ≡ true)
 last-fits b q s None is fitting = tt

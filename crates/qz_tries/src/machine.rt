@@ -138,43 +138,6 @@ impl TryMachine {
         }
     }
 
-    /// Follows one more step, or refuses it and stays as it is. It refuses an Again anywhere but after a complete Submit of an
-    /// interactive slot (`WrongAction`), a step of a student after the end (`SlotEnded`, with the outcome's state), and a
-    /// response where "try again" is needed first (`NeedsTryAgain`), for the first of these causes.
-    ///
-    /// A Save of the last response, and a Submit again of the Submit right before, add no step: they are answered `Same`, and the
-    /// machine stays as it is. A Save and a refused step count no step of grading, and any other counts at most one.
-    pub fn act<L: Ledger>(
-        &mut self,
-        question: &Question,
-        before: &[Step],
-        step: &Step,
-        steps: &mut Steps<L>,
-    ) -> Result<Moved, Refusal>
-        requires question { IsQuestion question.now }
-        requires after { IsAfter self.old question.now before.now }
-        requires fits { StepFits self.old.behaviour question.now step.now }
-        requires few { length before.now < 2 ^ 32 - 1 }
-        ensures refused { IfErr result (λ r. barred self.old.behaviour question.now before.now step.now ≡ Some r) }
-        ensures taken { IfOk result (λ m. (barred self.old.behaviour question.now before.now step.now ≡ None) × (m ≡ moved before.now step.now)) }
-        ensures after { result ≡ Ok Moved.Kept → IsAfter self.new question.now (before.now ++ step.now ∷ []) }
-        ensures unchanged { OnErr result (self.new ≡ self.old) }
-        ensures same { result ≡ Ok Moved.Same → self.new ≡ self.old }
-        ensures same_behaviour { self.new.behaviour ≡ self.old.behaviour }
-        ensures count { steps.new ≤ steps.old + 1 }
-        ensures refused_count { OnErr result (steps.new ≡ steps.old) }
-        ensures save { is_save step.now ≡ true → steps.new ≡ steps.old }
-    {
-        if let Some(refusal) = self.barred(question, before, step, self.outcome.state) {
-            return Err(refusal);
-        }
-        if self.moved(before, step) == Moved::Same {
-            return Ok(Moved::Same);
-        }
-        self.feed(question, before, step, steps);
-        Ok(Moved::Kept)
-    }
-
     /// The first cause for which a step is refused, whether or not its response fits. A refusal after the end carries the state
     /// that is shown.
     pub fn barred(
