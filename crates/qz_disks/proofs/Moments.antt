@@ -37,12 +37,6 @@ then_same step whole a b c p q r first second = record {
 pub same_whole : (d : List ℕ) → Same d d
 same_whole d = refl
 
-pub torn_whole : (at count : ℕ) (d : List ℕ) → Torn at count d d
-torn_whole at count d = record { before = refl; after = refl; no_shorter = omega arith; no_longer = omega arith }
-
-pub cut_whole : (size : ℕ) (d : List ℕ) → Cut size d d
-cut_whole size d = record { no_shorter = omega arith; front = take_all (length d) d (omega arith) }
-
 -- before the first call of a run
 pub started : (P : List ℕ → Type 0) (now : ℕ) (past : ℕ → List ℕ → Type 0) → ((c : List ℕ) → past now c → P c) → LeavesOnly P now now past past
 started P now past here = record {

@@ -1,4 +1,4 @@
--- What the calls of a keeper of payloads do to the list that it keeps, and what a keeper in memory holds.
+-- What the calls of a keeper of payloads do to the list that it keeps.
 use Rattle.std.specs.Prelude.{◌≡◌, ◌⊎◌, ℕ, ◌≤◌, List, [], ◌∷◌, ◌++◌, Option, Some, None, option_map, IfSome, Result, IsErrOf, MatchResult}
 use Rattle.qz_outside.specs.Causes.{HasRisen}
 use Rattle.qz_disks.specs.declared.keeper.KeepErr.{KeepErr}
@@ -51,12 +51,3 @@ EndsReopening old new doubt_before doubt_now result = MatchResult result (Reopen
 pub record HasKeepCause {T : Type 0} (before now : ℕ) (result : Result T KeepErr) : Type 0 where
   pub later : before ≤ now
   pub failed : IsErrOf result Fault → HasRisen before now
-
--- a keeper in memory: its list, the payload in doubt, the numbers of the calls that are to fail, and how many calls and
--- faults there were
-pub record Shelved : Type 0 where
-  pub payloads : List (List ℕ)
-  pub doubt : Option (List ℕ)
-  pub failing : List ℕ
-  pub calls : ℕ
-  pub faults : ℕ

@@ -5,7 +5,10 @@ ghost use Rattle.qz_disks.specs.declared.keeper.KeepErr.TheVariants.{Fault, Memo
 
 use qz_outside::Failed;
 use qz_text::{Bytes, Listed, NoMemory};
-use std::alloc::{AllocError, AllocFailed, Global};
+use std::alloc::{AllocError, Global};
+
+/// The most bytes of a payload.
+pub const MOST_PAYLOAD: usize = 67_108_864;
 
 /// Why a keeper didn't answer.
 #[derive(Clone, Copy, Debug, PartialEq, Eq)]
@@ -40,14 +43,6 @@ impl From<AllocError> for KeepErr {
     }
 }
 
-impl<T: Drop> From<AllocFailed<T>> for KeepErr {
-    ghost from_gives = { λ _ e. e ≡ Memory };
-
-    fn from(_: AllocFailed<T>) -> Self {
-        KeepErr::Memory
-    }
-}
-
 /// A list of payloads that outlives the program. A payload whose append answered `Fault` is in doubt: the list has it
 /// at its end or not, and `reopen` tells.
 pub trait Keeper {
@@ -66,11 +61,11 @@ pub trait Keeper {
     /// What it stands on fails no call.
     ghost sound: { Self → Type 0 };
 
-    /// Keeps one more payload, of at most 67,108,864 bytes. After `Fault` it is in doubt, and after `Memory` it
+    /// Keeps one more payload. After `Fault` it is in doubt, and after `Memory` it
     /// isn't kept.
     fn append(&mut self, alloc: Global, payload: &[u8]) -> Result<(), KeepErr>
         requires settled { doubt self.old ≡ None }
-        requires size { length payload.now ≤ 67108864 }
+        requires size { length payload.now ≤ MOST_PAYLOAD }
         ensures list { EndsAppending (kept self.old) (kept self.new) (doubt self.new) payload.now result }
         ensures cause { HasKeepCause (faults self.old) (faults self.new) result }
         ensures stays_sound { StaysSound (sound self.old) (sound self.new)

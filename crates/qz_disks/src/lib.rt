@@ -1,5 +1,5 @@
 //! Disks and keepers: what a journal writes to, with what a crash may leave of it, and what keeps a list of payloads;
-//! both in memory, and a disk over a file of std.
+//! a disk and a shelf in memory, and both over files of std.
 #![tactic(auto)]
 
 mod disk;
@@ -7,7 +7,6 @@ mod file_disk;
 mod folder_shelf;
 mod keeper;
 mod memory_disk;
-mod memory_keeper;
 mod memory_shelf;
 mod shelf;
 mod slots;
@@ -15,8 +14,7 @@ mod slots;
 pub use disk::Disk;
 pub use file_disk::FileDisk;
 pub use folder_shelf::FolderShelf;
-pub use keeper::{KeepErr, Keeper};
+pub use keeper::{KeepErr, Keeper, MOST_PAYLOAD};
 pub use memory_disk::{Fill, MemoryDisk};
-pub use memory_keeper::MemoryKeeper;
 pub use memory_shelf::MemoryShelf;
 pub use shelf::{Shelf, ShelfErr};

@@ -134,6 +134,3 @@ cut_short bytes c short cut = let sizes = ap length cut.front in omega (arith, s
 
 pub torn_short : (bytes c : List ℕ) → length bytes ≤ 9 → Torn 0 9 bytes c → length c ≤ 9
 torn_short bytes c short torn = omega (arith, torn.no_longer)
-
-pub begun_rests : Resting [] 8 (header ++ 0 ∷ [])
-begun_rests = record { front = []; gate = 0; split = refl; front_is = refl; shut = omega arith; size = refl }

@@ -60,11 +60,6 @@ payload_framed payload =
     let count : length (shut_frame payload) ≡ 4 + (length payload + 1) = omega (arith, length-append size (payload ++ 0 ∷ []), length-append payload (0 ∷ [])) in
     take_at payload (0 ∷ []) (length (shut_frame payload) - 5) (omega (arith, count))
 
-pub length_framed : (payload : List ℕ) → length (shut_frame payload) ≡ 5 + length payload
-length_framed payload =
-    let size = to_le_bytes w32 (length payload) in
-    omega (arith, length-append size (payload ++ 0 ∷ []), length-append payload (0 ∷ []))
-
 -- a journal that may be in doubt
 
 like_stands : (payloads : List (List ℕ)) (doubt : Option (List ℕ)) (bytes image : List ℕ) → stands_for image ≡ stands_for bytes → StandsFor payloads doubt bytes → StandsFor payloads doubt image
@@ -160,14 +155,6 @@ pub reopen_may : (o : Option (List ℕ)) (size gate found_gate : ℕ) (found : L
     → IfSome (option_map (payloads_before gate) o) (λ payloads. MayStand payloads doubt found)
 reopen_may None size gate found_gate found doubt outcomes now kept read = now
 reopen_may (Some bytes) size gate found_gate found doubt outcomes now kept read = may_stand (payloads_before gate bytes) found doubt bytes (kept.stand.each bytes now) read.stands
-
--- where none is in doubt it is the list kept
-pub reopen_same : (o n : Option (List ℕ)) (size gate found_gate : ℕ) (found : List (List ℕ)) (doubt : Option (List ℕ)) (outcomes : List ℕ → Type 0) → n ≡ o → doubt ≡ None → IfSome o outcomes → IfSome o (IsKept gate doubt outcomes) → IfSome o (IsRead size found_gate found)
-    → option_map (payloads_before gate) n ≡ option_map (λ _. found) (option_map (payloads_before gate) o)
-reopen_same None n size gate found_gate found doubt outcomes same none now kept read = ap (option_map (payloads_before gate)) same
-reopen_same (Some bytes) n size gate found_gate found doubt outcomes same none now kept read =
-    ap (option_map (payloads_before gate)) same
-    ∙ ap (λ l. Some l) (sym (may_stand (payloads_before gate bytes) found None bytes (subst (λ d. StandsFor (payloads_before gate bytes) d bytes) none (kept.stand.each bytes now)) read.stands))
 
 -- what was loaded is kept
 pub loaded_kept : (o n : Option (List ℕ)) (gate found_gate : ℕ) (found : List (List ℕ)) (outcomes : List ℕ → Type 0) → is_some n ≡ is_some o → IfSome n (IsLoaded found_gate found outcomes)

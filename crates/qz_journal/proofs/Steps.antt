@@ -89,26 +89,3 @@ one_more (Some bytes) mid gate payloads payload same so_far next =
       stands = so_far.stands ∙ ap (led_by payloads) here.reads ∙ led_by_more payloads payload (frames_at (gate + 5 + length payload) bytes)
           ∙ ap (λ (n : ℕ). led_by (payloads ++ payload ∷ []) (frames_at n bytes)) (let same : gate + 5 + length payload ≡ gate + (5 + length payload) = omega arith in same);
     }
-
-pub all_read : (o mid : Option (List ℕ)) (size gate : ℕ) (payloads : List (List ℕ)) → mid ≡ o → IfSome o (λ bytes. size ≡ length bytes) → IfSome o (SoFar gate payloads) → IfSome mid (λ bytes. NextFrame gate bytes None)
-    → IfSome o (IsRead size gate payloads)
-all_read None mid size gate payloads same whole so_far next = whole
-all_read (Some bytes) mid size gate payloads same whole so_far next =
-    let here : frames_at gate bytes ≡ Ok [] = subst (λ o. IfSome o (λ bytes. NextFrame gate bytes None)) same next in
-    record {
-      whole = whole;
-      place = so_far.place;
-      stands = so_far.stands ∙ ap (led_by payloads) here ∙ ap (λ (l : List (List ℕ)). Ok l) (append-nil payloads);
-    }
-
-damage_led : (payloads : List (List ℕ)) (reading : Result (List (List ℕ)) ℕ) (fault : JournalFault) → TellsDamage reading fault → TellsDamage (led_by payloads reading) fault
-damage_led payloads reading Fault told = told
-damage_led payloads reading (Damaged place) told = ap (led_by payloads) told
-damage_led payloads reading Memory told = told
-
-pub found_damaged : (o mid : Option (List ℕ)) (gate : ℕ) (payloads : List (List ℕ)) (fault : JournalFault) → mid ≡ o → IfSome o (SoFar gate payloads) → IfSome mid (λ bytes. TellsDamage (frames_at gate bytes) fault)
-    → IfSome o (λ bytes. TellsDamage (stands_for bytes) fault)
-found_damaged None mid gate payloads failure same so_far told = so_far
-found_damaged (Some bytes) mid gate payloads failure same so_far told =
-    let here : TellsDamage (frames_at gate bytes) failure = subst (λ o. IfSome o (λ bytes. TellsDamage (frames_at gate bytes) failure)) same told in
-    subst (λ r. TellsDamage r failure) (sym so_far.stands) (damage_led payloads (frames_at gate bytes) failure here)

@@ -6,6 +6,7 @@ ghost use Rattle.qz_disks.specs.Disks.{LeavesOnly, IsDurable, HasRoom};
 ghost use Rattle.qz_disks.specs.Sound.{StaysSound};
 ghost use Rattle.qz_disks.specs.Keepers.{with_one_more, EndsAppending, EndsReopening, HasKeepCause};
 ghost use Rattle.qz_disks.specs.declared.keeper.KeepErr.TheVariants as keep;
+ghost use Rattle.qz_disks.specs.declared.keeper.TheConstants.{MOST_PAYLOAD};
 ghost use Rattle.qz_journal.specs.declared.fault.JournalFault.TheVariants as fault;
 ghost use Rattle.qz_journal.specs.Frames.{shut_frame, stands_for};
 ghost use Rattle.qz_journal.specs.Journals.{payloads_of, payloads_before, payload_of, StandsFor, StandFor, StandsAs, StandsLike, IsAtRest, IsKept, IsLoaded, IsPut, IsRead, IsSound, TellsDamage, HasJournalCause};
@@ -117,7 +118,7 @@ impl<D: Disk> Journal<D> {
 
 // What stands behind the gate of a payload: its length, itself, and a shut gate.
 fn framed(alloc: Global, payload: &[u8]) -> Result<Bytes, AllocError>
-    requires { length payload.now ≤ 67108864 }
+    requires { length payload.now ≤ MOST_PAYLOAD }
     ensures { IfOk result (λ frame. frame ≡ shut_frame payload.now) }
 {
     let mut items = Vec::with_capacity(alloc, payload.len() + FRAME as usize)?;
@@ -132,7 +133,7 @@ fn put<D: Disk>(disk: &mut D, gate: u64, frame: &[u8]) -> Result<(), Failed>
     requires kept { IfSome (D.reads disk.old)
         (IsKept gate None (D.left_at disk.old (D.moment disk.old))) }
     requires framed { frame.now ≡ shut_frame (payload_of frame.now) }
-    requires size { length (payload_of frame.now) ≤ 67108864 }
+    requires size { length (payload_of frame.now) ≤ MOST_PAYLOAD }
     requires gate { gate + 1 < 2 ^ 64 }
     requires room { HasRoom 4 (length frame.now) (D.room disk.old) }
     ensures put { OnOk result (IfSome (D.reads disk.old) (λ bytes. IfSome (D.reads disk.new)
@@ -210,7 +211,7 @@ impl<D: Disk> Keeper for Journal<D> {
 
     fn append(&mut self, alloc: Global, payload: &[u8]) -> Result<(), KeepErr>
         requires settled { self.old.doubt ≡ None }
-        requires size { length payload.now ≤ 67108864 }
+        requires size { length payload.now ≤ MOST_PAYLOAD }
         ensures list { EndsAppending self.old.kept self.new.kept self.new.doubt payload.now result }
         ensures cause { HasKeepCause (D.faults self.old.disk) (D.faults self.new.disk) result }
         ensures stays_sound { StaysSound (IsSound D.sound self.old) (IsSound D.sound self.new)
