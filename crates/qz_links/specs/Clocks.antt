@@ -1,11 +1,6 @@
 -- What clocks tell.
 use Rattle.std.specs.Prelude.{◌≡◌, ℕ, ◌≤◌, nat_lt, if◌then◌else◌, List, [], ◌∷◌, length, drop, slice_index_or}
 
--- one call after the other told these moments
-abbrev pub TellsAll : {C : Type 0} → (C → ℕ → C → Type 0) → C → List ℕ → C → Type 0
-TellsAll {C = C} tells clock [] after = after ≡ clock
-TellsAll {C = C} tells clock (moment ∷ moments) after = (next : C) × tells clock moment next × TellsAll tells next moments after
-
 -- a clock in memory tells its moments in order, the last of them again and again, and 0 where it has none
 pub record TellsFirst (old : List ℕ) (moment : ℕ) (new : List ℕ) : Type 0 where
   pub moment_is : moment ≡ slice_index_or old 0 0

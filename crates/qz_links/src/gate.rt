@@ -50,9 +50,9 @@ impl Gate {
         self.word.load(Ordering::SeqCst) != 0
     }
 
-    // Looks until it is open, so many times at most, and tells whether it was.
-    fn opens_within(&self, looks: u32) -> bool {
-        for look in 0..looks {
+    // Looks until it is open, `LOOKS` times at most, and tells whether it was.
+    fn opens_in_time(&self) -> bool {
+        for look in 0..LOOKS {
             if self.is_open() {
                 return true;
             }
@@ -79,7 +79,6 @@ struct GateCall {
 pub struct Gates {
     waits: Option<GateCall>,
     opens: Option<GateCall>,
-    looks: u32,
     calls: u64,
     ran_out: bool,
 }
@@ -106,7 +105,6 @@ impl Gates {
         Gates {
             waits: None,
             opens: None,
-            looks: LOOKS,
             calls: 0,
             ran_out: false,
         }
@@ -140,7 +138,7 @@ impl Gates {
         self.calls = self.calls.saturating_add(1);
         match &self.waits {
             Some(wait) if wait.call == self.calls => {
-                if !wait.gate.opens_within(self.looks) {
+                if !wait.gate.opens_in_time() {
                     self.ran_out = true;
                 }
             }
