@@ -9,3 +9,4 @@ pub mod Isolated
 pub mod Walks
 pub mod Owning
 pub mod Standing
+pub mod Staying

@@ -18,9 +18,6 @@ use Rattle.std.proofs.lemmas.List.Elements.{filter_map-append}
 eqb-same : (n : ℕ) → (n == n) ≡ true
 eqb-same n = grind arith
 
-same_attempt-same : (a : AttemptId) → history.same_attempt a a ≡ true
-same_attempt-same a = rw (eqb-same a.user, eqb-same a.nth) refl
-
 binds-rebound : (r : Record) (job : ℕ) (a : AttemptId) (k : ℕ) (b : Bound) (learned : List Learned) → history.binds a k (rebound r job a k b learned) ≡ Some b
 binds-rebound r job a k b learned = rw (eqb-same a.user, eqb-same a.nth, eqb-same k) refl
 

@@ -1,6 +1,6 @@
 -- A response that is saved behind the end of a slot changes nothing that is shown.
 use Rattle.std.proofs.Common.{◌≡◌, Bool, true, false, ◌||◌, ◌⊎◌, inl, inr, List, [], ◌∷◌, ◌++◌, Option, Some, None, refl, ap, ◌∙◌}
-use Rattle.std.specs.Prelude.{ℤ, filter, filter_map, option_map, unwrap_or, is_some}
+use Rattle.std.specs.Prelude.{ℤ, filter_map, option_map, unwrap_or, is_some}
 use Rattle.std.proofs.lemmas.List.Folds.{list_any-append}
 use Rattle.qz_decimal.specs.Numbers.{mark_of, rescale, fraction_of}
 use Rattle.qz_grading.specs.declared.outcome.Behaviour.{Behaviour}
@@ -9,7 +9,7 @@ use Rattle.qz_grading.specs.declared.question.Question.{Question}
 use Rattle.qz_grading.specs.declared.response.Response.{Response}
 use Rattle.qz_grading.specs.declared.response.Step.{Step}
 use Rattle.qz_grading.specs.declared.response.Step.TheVariants as step
-use Rattle.qz_grading.specs.Behaviours.{standing, has_ended, first_handed_in, handed_in, complete_under, immediate, interactive, by_grade, tried, marked, ending_try}
+use Rattle.qz_grading.specs.Behaviours.{standing, has_ended, first_handed_in, immediate, interactive, by_grade, tried, marked, ending_try}
 use Rattle.qz_grading.specs.Slots.{last_given}
 use Rattle.qz_grading.specs.Steps.{is_finish, has_finish, before, last_of, given, submitted}
 use Rattle.qz_terms.specs.Laws.{SaveKeepsTheEnd}
@@ -61,9 +61,6 @@ submits-saved-cons x s r false is rest = rw (is, rest) refl
 submits-saved : (s : List Step) (r : Response) → filter_map submitted (before (s ++ step.Save r ∷ [])) ≡ filter_map submitted (before s)
 submits-saved [] r = refl
 submits-saved (x ∷ s) r = submits-saved-cons x s r (is_finish x) refl (submits-saved s r)
-
-handed_in-saved : (b : Behaviour) (q : Question) (s : List Step) (r : Response) → handed_in b q (s ++ step.Save r ∷ []) ≡ handed_in b q s
-handed_in-saved b q s r = ap (filter (complete_under b q)) (submits-saved s r)
 
 immediate-saved : (b : Behaviour) (q : Question) (s : List Step) (r : Response) → is_some (first_handed_in b q s) ≡ true → immediate b q (s ++ step.Save r ∷ []) ≡ immediate b q s
 immediate-saved b q s r e = rw (submits-saved s r) (unwrap-some (by_grade b q) (first_handed_in b q s) _ _ e)

@@ -1,11 +1,11 @@
 -- Reading a list from the front, one item more at a time: what is first, what is last, how many there are, all of them.
-use Rattle.std.proofs.Common.{◌≡◌, ℕ, zero, suc, max, ltb, ◌+◌, ◌<◌, ◌⊎◌, inl, inr, Bool, true, false, List, [], ◌∷◌, ◌++◌, Option, Some, None, option_map, length, take, get_or, refl, sym, ap, ◌∙◌, arith, length-append}
-use Rattle.std.specs.Prelude.{filter, filter_map, fold, if◌then◌else◌, is_some, option_to_list, position, slice_get, unwrap_or}
+use Rattle.std.proofs.Common.{◌≡◌, ℕ, zero, suc, ltb, ◌+◌, ◌<◌, ◌⊎◌, inl, inr, Bool, true, false, List, [], ◌∷◌, ◌++◌, Option, Some, None, option_map, length, take, get_or, refl, sym, ap, ◌∙◌, arith, length-append}
+use Rattle.std.specs.Prelude.{filter, filter_map, if◌then◌else◌, is_some, option_to_list, position, slice_get}
 use Rattle.std.specs.Option.{option_or}
 use Rattle.std.specs.List.{last_or, position_or_len}
 use Rattle.std.proofs.lemmas.Bool.{ltb-true, ltb-false}
 use Rattle.std.proofs.lemmas.Option.{slice_get_past}
-use Rattle.std.proofs.lemmas.Grind.{take_at_read, fold-append}
+use Rattle.std.proofs.lemmas.Grind.{take_at_read}
 use Rattle.std.proofs.lemmas.List.Elements.{filter_map-append, filter-append}
 use Rattle.qz_grading.specs.Steps.{last_of}
 use Rattle.qz_terms.specs.Lists.{first_of, how_many, up_to_first}
@@ -128,18 +128,11 @@ told-alone : {A B : Type 0} (f : A → Option B) (x : A) (o : Option B) → f x 
 told-alone f x None is = rw is refl
 told-alone f x (Some y) is = rw is refl
 
-greatest-told : (n : ℕ) (o : Option ℕ) → fold max n (option_to_list o) ≡ max n (unwrap_or o 0)
-greatest-told n None = omega arith
-greatest-told n (Some m) = refl
-
 pub all_of-push : {A B : Type 0} (f : A → Option B) (xs : List A) (x : A) → filter_map f (xs ++ x ∷ []) ≡ filter_map f xs ++ option_to_list (f x)
 all_of-push f xs x = filter_map-append f xs (x ∷ []) ∙ ap (λ (t : List _). filter_map f xs ++ t) (told-alone f x (f x) refl)
 
 pub all_kept : {A B : Type 0} (f : A → Option B) (xs : List A) (i : ℕ) (x : A) → i < length xs → x ≡ get_or xs i x → filter_map f (take (i + 1) xs) ≡ filter_map f (take i xs) ++ option_to_list (f x)
 all_kept f xs i x inside is = ap (filter_map f) (take-one_more xs i x inside is) ∙ all_of-push f (take i xs) x
-
-pub greatest_kept : {A : Type 0} (f : A → Option ℕ) (xs : List A) (i : ℕ) (x : A) → i < length xs → x ≡ get_or xs i x → fold max 0 (filter_map f (take (i + 1) xs)) ≡ max (fold max 0 (filter_map f (take i xs))) (unwrap_or (f x) 0)
-greatest_kept f xs i x inside is = ap (fold max 0) (all_kept f xs i x inside is) ∙ fold-append max 0 (filter_map f (take i xs)) (option_to_list (f x)) ∙ greatest-told (fold max 0 (filter_map f (take i xs))) (f x)
 
 -- ---- how many
 

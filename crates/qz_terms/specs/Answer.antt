@@ -1,5 +1,5 @@
 -- What is put into a shard's list, what is said of it, and the answer to a request over one shard's list with a plan.
-use Rattle.std.specs.Prelude.{ℕ, ◌+◌, max, Bool, true, false, not, ◌&&◌, ◌||◌, List, [], ◌∷◌, ◌++◌, map, length, ℤ, pos, is_none, if◌then◌else◌, ◌==◌, Some, None, filter, zip, Option, unwrap_or, option_map, option_to_list, option_and_then}
+use Rattle.std.specs.Prelude.{ℕ, max, Bool, true, false, not, ◌&&◌, ◌||◌, List, [], ◌∷◌, ◌++◌, map, length, ℤ, pos, is_none, if◌then◌else◌, ◌==◌, Some, None, filter, zip, Option, unwrap_or, option_map, option_to_list, option_and_then}
 use Rattle.qz_grading.specs.declared.outcome.Moved.{Moved}
 use Rattle.qz_grading.specs.declared.outcome.Moved.TheVariants.{Kept, Same}
 use Rattle.qz_grading.specs.declared.outcome.State.{State}

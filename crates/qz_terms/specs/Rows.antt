@@ -1,8 +1,8 @@
 -- From marks to totals, and from totals to a grade.
 use Rattle.std.specs.Int.{int_max}
 use Rattle.std.specs.List.{list_any}
-use Rattle.std.specs.Prelude.{Bool, true, false, ◌&&◌, List, [], ◌∷◌, map, length, ℤ, pos, ◌+ℤ◌, if◌then◌else◌, int_lt, Some, None, fold, filter_map, Option, unwrap_or, option_to_list}
-use Rattle.qz_decimal.specs.Numbers.{grade_of}
+use Rattle.std.specs.Prelude.{◌*◌, Bool, true, false, ◌&&◌, List, [], ◌∷◌, map, length, ℤ, pos, neg_ℤ, ◌+ℤ◌, if◌then◌else◌, int_lt, Some, None, fold, filter_map, Option, unwrap_or, option_to_list}
+use Rattle.qz_decimal.specs.Numbers.{IsWithin, grade_of, one}
 use Rattle.qz_grading.specs.declared.outcome.State.{State}
 use Rattle.qz_grading.specs.declared.outcome.State.TheVariants as state
 use Rattle.qz_grading.specs.Steps.{last_of}
@@ -33,6 +33,10 @@ sum_of xs = fold ◌+ℤ◌ (pos 0) xs
 -- the sum of the marks, where one that is missing counts 0, and none while a mark is awaited
 abbrev pub total_of : List Scored → Option ℤ
 total_of slots = if list_any awaits_mark slots then None else Some (sum_of (map (λ (s : Scored). unwrap_or s.mark (pos 0)) slots))
+
+-- a total of at most 200 slots is from -12,000,000 to 12,000,000
+abbrev pub IsTotal : ℤ → Type 0
+IsTotal = IsWithin (neg_ℤ (pos (12000000 * one))) (pos (12000000 * one))
 
 -- ---- the grade over totals
 

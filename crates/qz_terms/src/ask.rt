@@ -24,13 +24,3 @@ pub fn copy_of_text(text: &Option<Text>, alloc: Global) -> Result<Option<Text>, 
         Some(text) => Ok(Some(text.try_copy(alloc)?)),
     }
 }
-
-impl TryCopy for Ask {
-    fn try_copy(&self, alloc: Global) -> Result<Ask, NoMemory> {
-        Ok(Ask {
-            caller: self.caller.try_copy(alloc)?,
-            key: copy_of_text(&self.key, alloc)?,
-            request: self.request.try_copy(alloc)?,
-        })
-    }
-}

@@ -1,9 +1,6 @@
 //! Who asks.
 
-ghost use Rattle.std.specs.Prelude.{◌≡◌, IfOk};
-
-use qz_text::{NoMemory, Text, TryCopy};
-use std::alloc::Global;
+use qz_text::Text;
 
 /// What a user may do.
 #[derive(Clone, Copy, PartialEq, Eq)]
@@ -27,24 +24,4 @@ pub struct User {
 pub enum Caller {
     Token(Text),
     Worker,
-}
-
-impl TryCopy for User {
-    fn try_copy(&self, alloc: Global) -> Result<User, NoMemory> {
-        Ok(User {
-            number: self.number,
-            name: self.name.try_copy(alloc)?,
-            role: self.role,
-            token: self.token.try_copy(alloc)?,
-        })
-    }
-}
-
-impl TryCopy for Caller {
-    fn try_copy(&self, alloc: Global) -> Result<Caller, NoMemory> {
-        match self {
-            Caller::Token(token) => Ok(Caller::Token(token.try_copy(alloc)?)),
-            Caller::Worker => Ok(Caller::Worker),
-        }
-    }
 }

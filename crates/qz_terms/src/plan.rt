@@ -72,16 +72,6 @@ impl TryCopy for Plan {
     }
 }
 
-impl TryCopy for Job {
-    fn try_copy(&self, alloc: Global) -> Result<Job, NoMemory> {
-        Ok(Job {
-            number: self.number,
-            position: self.position,
-            plan: self.plan.try_copy(alloc)?,
-        })
-    }
-}
-
 impl TryCopy for Bound {
     fn try_copy(&self, _alloc: Global) -> Result<Bound, NoMemory> {
         Ok(*self)
