@@ -47,10 +47,6 @@ meets-refusal a b i j m refusal.KeepFault keeps later risen = record {
 }
 meets-refusal a b i j m why keeps later risen = record { keeps = keeps; later = later; faults = λ below. omega (arith, later); clean = λ c. absurd (true≢false c.1) }
 
--- something is left open
-pub meets-short : (a b : Lists) (i j : ℕ) (m : Met) → KeepsParts a b → i ≤ j → Meets a b i j m (record m { short = true })
-meets-short a b i j m keeps later = record { keeps = keeps; later = later; faults = λ below. omega (arith, later); clean = λ c. absurd (true≢false c.1) }
-
 -- ---- jobs that are done
 
 pub none-done : (a : Lists) (shard from next : ℕ) → next ≤ from → AreDone a shard from next
@@ -98,9 +94,6 @@ before-more a b shards from next end keeps d one = record {
 
 pub all-missing : (a : Lists) (shards from next : ℕ) → length a.parts ≤ shards → AreDoneBefore a shards from next → AreDoneInAll a from next
 all-missing a shards from next missing d = record { done = λ shard before there. d.done shard (omega (arith, missing, there)) there }
-
-pub all-none : (a : Lists) (from next : ℕ) → next ≤ from → AreDoneInAll a from next
-all-none a from next none = record { done = λ shard before there. none-done a shard from next none }
 
 -- jobs up to one, and those from there on
 joined-by : (a : Lists) (shard from mid next job : ℕ) (e : Bool) → ltb job mid ≡ e → AreDone a shard from mid → AreDone a shard mid next → from ≤ job → job < next → is_done (part_list a shard) job ≡ true
@@ -179,10 +172,3 @@ ends-by a b i j n m done = record { later = m.later; faults = λ below. omega (a
 pub passed-all : (a b c : Lists) (i j k : ℕ) (n o : Met) (next count : ℕ) → IsPassed a b i j n next → Meets b c j k n o → count ≡ length (jobs c.records.list) → count < next → PassEnds c i k o
 passed-all a b c i j k n o next count s counted is fewer =
     ends-by a c i k o (meets-more a b c i j k _ n o s.meets counted) (λ clean. all-done c count next is fewer (still-all b c 1 next counted.keeps (s.done (counted.clean clean))))
-
--- it ends with something left open
-pub passed-open : (a b c : Lists) (i j k : ℕ) (n o : Met) (next : ℕ) → IsPassed a b i j n next → Meets b c j k n o → (IsClean o → ⊥) → PassEnds c i k o
-passed-open a b c i j k n o next s counted left = ends-by a c i k o (meets-more a b c i j k _ n o s.meets counted) (λ clean. absurd (left clean))
-
-pub passed-short : (a b : Lists) (i j : ℕ) (n : Met) (next : ℕ) → IsPassed a b i j n next → PassEnds b i j (record n { short = true })
-passed-short a b i j n next s = ends-by a b i j _ (meets-more a b b i j j _ n _ s.meets (meets-short b b j j n (keeps-same b) (omega arith))) (λ clean. absurd (true≢false clean.1))
