@@ -3,11 +3,10 @@ use Rattle.std.proofs.Common.{◌≡◌, ℕ, ◌≤◌, ◌<◌, ◌+◌, ◌-�
 use Rattle.std.specs.Bool.{Decides}
 use Rattle.std.specs.List.{list_all}
 use Rattle.std.specs.Ordering.{int_eq}
-use Rattle.std.specs.Prelude.{◌==◌, zip, unwrap_or, slice_get, find, filter, if◌then◌else◌}
+use Rattle.std.specs.Prelude.{◌==◌, zip, unwrap_or, find, filter, if◌then◌else◌}
 use Rattle.std.proofs.lemmas.Bool.{and_from, and_parts, eqb-true}
 use Rattle.std.proofs.lemmas.Bool.Decides.{Decides-int_eq}
 use Rattle.qz_grading.specs.declared.question.Question.{Question}
-use Rattle.qz_grading.specs.Grading.{at_place}
 use Rattle.qz_grading.specs.Sameness.{same_question}
 use Rattle.qz_terms.specs.declared.plan.Bound.{Bound}
 use Rattle.qz_terms.specs.declared.plan.Planned.{Planned}
@@ -35,9 +34,6 @@ bound-same n s b is =
 
 same-bound : (n : ℕ) (s : Planned) → binds n s (bind n s) ≡ true
 same-bound n s = and_from (s.entry == s.entry) _ (eq-eqb s.entry s.entry refl) (and_from (s.version == s.version) _ (eq-eqb s.version s.version refl) (and_from (int_eq s.max s.max) (n == n) ((Decides-int_eq s.max s.max).1 refl) (eq-eqb n n refl)))
-
-pub bound-decides : (n : ℕ) (s : Planned) (b : Bound) → Decides (binds n s b) (b ≡ bind n s)
-bound-decides n s b = (λ is. bound-same n s b is, λ e. ap (binds n s) e ∙ same-bound n s)
 
 abbrev bind_all : ℕ → List Planned → List Bound → Bool
 bind_all n ss bs = (length bs == length ss) && list_all (λ (p : Bound × Planned). binds n p.1 p.0) (zip bs ss)

@@ -1,5 +1,5 @@
 -- What is known of a record by what is asked of the catalogue.
-use Rattle.std.proofs.Common.{◌≡◌, ℕ, zero, suc, ◌+◌, ◌-◌, ◌<◌, ◌≤◌, Bool, true, false, ◌||◌, List, [], ◌∷◌, Option, Some, None, length, map, take, option_map, refl, sym, ap, subst, ◌∙◌, arith}
+use Rattle.std.proofs.Common.{◌≡◌, ℕ, zero, suc, ◌+◌, ◌-◌, ◌<◌, ◌≤◌, Bool, true, false, ◌||◌, List, [], ◌∷◌, Option, Some, None, length, take, option_map, refl, sym, ap, subst, ◌∙◌, arith}
 use Rattle.std.specs.Bool.{Decides}
 use Rattle.std.specs.List.{enumerate_from}
 use Rattle.std.specs.Prelude.{◌==◌, IsSomeAnd, filter_map, if◌then◌else◌, is_some, option_and_then, slice_get}
@@ -20,9 +20,9 @@ use Rattle.qz_terms.specs.declared.request.Request.{Request}
 use Rattle.qz_terms.specs.declared.request.Request.TheVariants as request
 use Rattle.qz_terms.specs.Catalog as catalog
 use Rattle.qz_terms.specs.History as history
-use Rattle.qz_terms.specs.Legal.{Agrees, EventAgrees, EventIsAllowed, JobAgrees, LearnsFrom, RebindAgrees, SkipAgrees, StartAgrees, StepAgrees, TermsAgree}
+use Rattle.qz_terms.specs.Legal.{EventAgrees, EventIsAllowed, LearnsFrom, RebindAgrees, SkipAgrees, StartAgrees, StepAgrees, TermsAgree}
 use Rattle.qz_catalog.specs.Holdings.{lean}
-use Rattle.qz_catalog.specs.Readings.{ready_settings, settings_if_ready}
+use Rattle.qz_catalog.specs.Readings.{settings_if_ready}
 use Rattle.qz_agreement.specs.declared.look.Verdict.{Verdict}
 use Rattle.qz_agreement.specs.declared.look.Verdict.TheVariants as verdict
 use Rattle.qz_agreement.specs.Fitting.{BindsByJob, Fits, IsPending, IsUnder, IsUnderTerms, IsVerdict, IsVerdictOf, SkipsByJob, StartFits, StepFits, decided}
@@ -105,9 +105,6 @@ pub step-verdict : (c l : List Record) (r : Record) (a : AttemptId) (q : ℕ) (v
 step-verdict c l r a q verdict.Agreed quiz u = absurd u
 step-verdict c l r a q verdict.Denied quiz u = λ agrees. denied c r agrees.quiz a.user u agrees.its_terms
 step-verdict c l r a q (verdict.Pending n p) quiz u = step-pending c l r a q n p u.0 (u.1, u.2, u.3) quiz
-
-pub step-nowhere : (c l : List Record) (r : Record) (a : AttemptId) → history.quiz l a ≡ None → StepAgrees c l r a → ⊥
-step-nowhere c l r a none agrees = let there = agrees.of_quiz in absurd cc
 
 -- ---- starts
 
@@ -247,14 +244,6 @@ rebound-pending c l job a k q b learned quiz binds =
       needed = λ agrees. agrees.learns;
     }
 
-pub rebound-denied : (c l : List Record) (job : ℕ) (a : AttemptId) (k q : ℕ) (b : Bound) (learned : List Learned) → history.quiz l a ≡ Some q → (BindsByJob c job q k b → ⊥) → RebindAgrees c l job a k b learned → ⊥
-rebound-denied c l job a k q b learned quiz none agrees =
-    let one : agrees.quiz ≡ q = (let told = agrees.of_quiz in cc) in
-    none (subst (λ (x : ℕ). BindsByJob c job x k b) one (record { job = agrees.its_job.job; job_is = agrees.its_job.job_is; quiz = agrees.its_job.quiz; has = record { position_is = agrees.its_job.position_is; bound_is = agrees.bound_is } }))
-
-pub rebound-nowhere : (c l : List Record) (job : ℕ) (a : AttemptId) (k : ℕ) (b : Bound) (learned : List Learned) → history.quiz l a ≡ None → RebindAgrees c l job a k b learned → ⊥
-rebound-nowhere c l job a k b learned none agrees = let there = agrees.of_quiz in absurd cc
-
 skip-agrees : (c l : List Record) (job : ℕ) (a : AttemptId) (k q : ℕ) (bound newer : Shape) → history.quiz l a ≡ Some q → option_map shape (history.question l a k) ≡ Some bound → SkipsByJob c job q k newer → SkipAgrees c l job a k bound newer
 skip-agrees c l job a k q bound newer quiz own skips = record {
   quiz = q;
@@ -279,18 +268,12 @@ pub skip-verdict : (c l : List Record) (job : ℕ) (a : AttemptId) (k q : ℕ) (
     → IsVerdict c (λ n p. ⊥) (SkipAgrees c l job a k bound newer) (decided b)
 skip-verdict c l job a k q bound newer b quiz own d = by-decision c (λ n p. ⊥) (SkipAgrees c l job a k bound newer) b (λ is. skip-agrees c l job a k q bound newer quiz own (d.0 is), λ agrees. d.1 (skip-needs c l job a k q bound newer quiz agrees))
 
-pub skip-nowhere : (c l : List Record) (job : ℕ) (a : AttemptId) (k : ℕ) (bound newer : Shape) → history.quiz l a ≡ None → SkipAgrees c l job a k bound newer → ⊥
-skip-nowhere c l job a k bound newer none agrees = let there = agrees.of_quiz in absurd cc
-
 -- ---- callers
 
 pub with-caller : (c l : List Record) (r : Record) (v : Verdict) → (r.caller == 0) || is_some (at_place (catalog.users c) r.caller) ≡ true → IsVerdict c (λ n q. Fits (take n c) q r r.event) (EventAgrees c l r r.event) v → IsVerdictOf c l r v
 with-caller c l r verdict.Agreed known is = record { caller = known; event = is }
 with-caller c l r verdict.Denied known is = λ agrees. is agrees.event
 with-caller c l r (verdict.Pending n q) known is = record { some = is.some; within = is.within; enough = λ fits. record { caller = known; event = is.enough fits }; needed = λ agrees. is.needed agrees.event }
-
-pub unknown-caller : (c l : List Record) (r : Record) → (r.caller == 0) || is_some (at_place (catalog.users c) r.caller) ≡ false → Agrees c l r → ⊥
-unknown-caller c l r unknown agrees = let known = agrees.caller in absurd cc
 
 -- a slot that may be left as it was has the shape of its question
 pub skip-shape : (l : List Record) (r : Record) (job : ℕ) (a : AttemptId) (k : ℕ) (bound newer : Shape) → EventIsAllowed l r (event.Skipped job a k bound newer) → option_map shape (history.question l a k) ≡ Some bound

@@ -2,7 +2,7 @@
 use Rattle.std.proofs.Common.{◌≡◌, ℕ, zero, suc, ◌+◌, ◌<◌, ◌≤◌, ◌⊎◌, inl, inr, Bool, true, false, ◌||◌, ◌&&◌, List, [], ◌∷◌, ◌++◌, Option, Some, None, length, take, drop, get_or, refl, sym, ap, subst, ◌∙◌, arith}
 use Rattle.std.specs.Prelude.{◌==◌, All, nat_lt, nat_le, slice_get, if◌then◌else◌}
 use Rattle.std.proofs.lemmas.Bool.{eqb-true, eqb-false, leb-true, leb-false, ltb-true, ltb-false}
-use Rattle.std.proofs.lemmas.List.Elements.{All-nil, All-push}
+use Rattle.std.proofs.lemmas.List.Elements.{All-push}
 use Rattle.std.proofs.lemmas.Option.{get_or_from_slice_get, slice_get_read, slice_get_within}
 use Rattle.std.proofs.Math.Seq.{split_at}
 use Rattle.qz_grading.proofs.StepLemmas.{slice_get-push}
@@ -16,7 +16,7 @@ use Rattle.qz_agreement.specs.declared.look.Verdict.{Verdict}
 use Rattle.qz_agreement.specs.declared.look.Verdict.TheVariants as verdict
 use Rattle.qz_agreement.specs.declared.quizzes.Quizzes.{Quizzes}
 use Rattle.qz_agreement.specs.Disagreements.{AreLegal}
-use Rattle.qz_agreement.specs.Findings.{AreFindings, AreLookedAt, AreSettledTo, IsAsked, IsBad, IsClaim, IsJudged, IsNext, IsNoLater, IsPassed, IsSettled, IsSettledTo, Stands, asked_after, earlier, first_after, is_no_later}
+use Rattle.qz_agreement.specs.Findings.{AreFindings, AreLookedAt, AreSettledTo, IsAsked, IsBad, IsClaim, IsJudged, IsNoLater, IsPassed, IsSettled, IsSettledTo, Stands, asked_after, earlier, first_after, is_no_later}
 use Rattle.qz_agreement.specs.Fitting.{IsVerdictOf}
 use Rattle.qz_agreement.specs.Quizzes.{AreQuizzes}
 
@@ -144,9 +144,6 @@ pub record IsWalked (c : List Record) (parts : List (List Record)) (f : Findings
   pub here : IsSettledTo c f k h n
   pub quizzes : AreQuizzes q (take n h)
 
-pub walk-none : (c : List Record) (parts : List (List Record)) (f : Findings) (k : ℕ) (h : List Record) (q : Quizzes) → IsNext c parts f k h → AreQuizzes q [] → IsWalked c parts f k h 0 q
-walk-none c parts f k h q next quizzes = record { own = next.own; findings = next.before.findings; before = next.before.settled; here = record { each = λ i below. absurd (omega arith) }; quizzes = quizzes }
-
 pub split-there : (h : List Record) (n : ℕ) (r : Record) → slice_get h n ≡ Some r → h ≡ take n h ++ r ∷ drop (suc n) h
 split-there h n r there = split_at h n r (slice_get_within h n r there) ∙ ap (λ (x : Record). take n h ++ x ∷ drop (suc n) h) (get_or_from_slice_get h n r r there)
 
@@ -207,13 +204,4 @@ walked c parts f k h n q whole w = record {
       | inr same ↦ own-settled c parts f k j n h b w.own whole w.here same at
     ];
   };
-}
-
-pub none-looked : (c : List Record) (parts : List (List Record)) (f : Findings) → f.first ≡ None → f.claims.items ≡ [] → AreLookedAt c parts f 0
-none-looked c parts f first claims = record {
-  findings = record {
-    bad = λ s is. let none : None ≡ Some s = sym first ∙ is in absurd cc;
-    claims = subst (λ (l : List Claim). All (IsClaim c parts) l) (sym claims) (All-nil (IsClaim c parts));
-  };
-  settled = record { each = λ k h below at. absurd (omega arith) };
 }

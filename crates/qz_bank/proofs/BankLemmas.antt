@@ -1,22 +1,19 @@
 -- A bank with one version more, and with entries more.
 use Rattle.std.proofs.Common.{◌≡◌, ℕ, ◌+◌, ◌-◌, ◌<◌, ◌≤◌, Bool, true, false, List, [], ◌∷◌, ◌++◌, Option, Some, None, length, map, option_map, get_or, refl, sym, ap, ◌∙◌, arith, length-append}
-use Rattle.std.specs.Prelude.{◌==◌, IsSome, if◌then◌else◌, is_none, nat_le, slice_get, slice_set, unwrap_or}
+use Rattle.std.specs.Prelude.{◌==◌, if◌then◌else◌, is_none, nat_le, slice_get, slice_set, unwrap_or}
 use Rattle.std.proofs.lemmas.Bool.{leb-false}
 use Rattle.std.proofs.lemmas.List.{length-map, length-set}
 use Rattle.std.proofs.lemmas.List.Elements.{All-append, All-map, All-set}
 use Rattle.std.proofs.lemmas.Option.{slice_get_within, slice_get-get_or}
 use Rattle.qz_grading.specs.declared.question.Item.{Item}
 use Rattle.qz_grading.specs.declared.question.Question.{Question}
-use Rattle.qz_grading.specs.declared.refusal.Refusal.{Refusal}
 use Rattle.qz_grading.specs.declared.refusal.Refusal.TheVariants as refusal
 use Rattle.qz_grading.specs.declared.refusal.Thing.TheVariants as thing
 use Rattle.qz_grading.specs.Behaviours.{first_some, when}
 use Rattle.qz_grading.specs.Grading.{at_place}
-use Rattle.qz_terms.specs.declared.request.Request.{Request}
-use Rattle.qz_terms.specs.Catalog.{changed_by}
 use Rattle.qz_terms.specs.Cause.{too_many}
 use Rattle.qz_bank.specs.declared.entry.Entry.{Entry}
-use Rattle.qz_bank.specs.Banks.{IsBank, IsEntry, change_cause, changed, entry_cause, first_version, grown, latest, newest, with_version}
+use Rattle.qz_bank.specs.Banks.{IsBank, IsEntry, entry_cause, first_version, grown, with_version}
 
 -- ---- an entry that may have one version more
 
@@ -65,32 +62,6 @@ grows es e q y z h none is made =
       bank = record { few = rw length-set h.few; each = All-set IsEntry es (e - 1) z kept h.each };
       grown_is = ap (slice_set es (e - 1)) same ∙ sym (ap (λ (o : Option Entry). unwrap_or (option_map (λ (w : Entry). slice_set es (e - 1) (with_version w q)) o) es) there.at);
     }
-
--- ---- an entry that was changed
-
-length-grown : (es : List Entry) (e : ℕ) (q : Question) (o : Option Entry) → length (unwrap_or (option_map (λ (x : Entry). slice_set es (e - 1) (with_version x q)) o) es) ≡ length es
-length-grown es e q None = refl
-length-grown es e q (Some x) = rw length-set refl
-
-length-changed : (es : List Entry) (e : ℕ) (x : Request) (o : Option Question) → length (unwrap_or (option_map (grown es e) (option_map (λ old. changed_by old x) o)) es) ≡ length es
-length-changed es e x None = refl
-length-changed es e x (Some q) = length-grown es e (changed_by q x) (at_place es e)
-
-free-first : (a b : Option Refusal) → first_some (a ∷ b ∷ []) ≡ None → a ≡ None
-free-first None b none = refl
-free-first (Some r) b none = absurd cc
-
-latest-read : (es : List Entry) (e : ℕ) (x : Entry) → (e == 0) ≡ false → e - 1 < length es → IsSome (latest es e)
-latest-read es e x is inside = rw (is, slice_get-get_or es (e - 1) x inside) refl
-
--- it is still there
-pub changed-there : (es : List Entry) (e : ℕ) (x : Request) → change_cause es e x ≡ None → IsSome (latest (changed es e x) e)
-changed-there es e x none =
-    let found = may-grow es e (free-first (entry_cause es e) _ none) in
-    let there = found.1 in
-    let inside = slice_get_within es (e - 1) found.0 there.get in
-    let long = length-changed es e x (newest es e) in
-    latest-read (changed es e x) e found.0 there.not_zero (omega (arith, inside, long))
 
 -- ---- an import
 

@@ -1,6 +1,6 @@
 -- A bank as a list of entries: what is read of it, what is put into it, and what is refused. Entries and their versions count
 -- from 1.
-use Rattle.std.specs.Prelude.{ℕ, ◌+◌, ◌-◌, ◌≤◌, List, [], ◌∷◌, ◌++◌, length, map, is_none, if◌then◌else◌, nat_lt, ◌==◌, Option, unwrap_or, option_map, option_and_then, slice_set, All}
+use Rattle.std.specs.Prelude.{ℕ, ◌+◌, ◌-◌, ◌≤◌, List, [], ◌∷◌, ◌++◌, length, map, is_none, nat_lt, Option, unwrap_or, option_map, option_and_then, slice_set, All}
 use Rattle.qz_grading.specs.declared.question.Bank.{Bank}
 use Rattle.qz_grading.specs.declared.question.Item.{Item}
 use Rattle.qz_grading.specs.declared.question.Question.{Question}
@@ -46,10 +46,6 @@ first_version i = record { category = i.category; versions = i.question ∷ [] }
 
 abbrev pub imported : List Entry → Bank → List Entry
 imported es gift = es ++ map first_version gift.items
-
--- the number of the first entry that an import makes, or 0
-abbrev pub first_of_import : List Entry → Bank → ℕ
-first_of_import es gift = if length gift.items == 0 then 0 else length es + 1
 
 abbrev pub import_cause : List Entry → Bank → Option Refusal
 import_cause es gift = when (nat_lt 20000 (length es + length gift.items)) (refusal.TooMany 20000)

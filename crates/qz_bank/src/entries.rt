@@ -4,7 +4,7 @@ ghost use Rattle.std.specs.Prelude.{◌≡◌, ◌⊎◌, ◌+◌, ◌++◌, ◌
 ghost use Rattle.qz_grading.specs.declared.refusal.Refusal.TheVariants as refusal;
 ghost use Rattle.qz_grading.specs.Grading.{at_place};
 ghost use Rattle.qz_terms.specs.declared.request.Request.TheVariants as request;
-ghost use Rattle.qz_bank.specs.Banks.{IsBank, IsEntry, change_cause, changed, entry_cause, first_of_import, grown, import_cause, imported, latest, newest, size_cause, version};
+ghost use Rattle.qz_bank.specs.Banks.{IsBank, IsEntry, change_cause, changed, entry_cause, grown, import_cause, imported, latest, newest, size_cause, version};
 ghost use Rattle.qz_bank.specs.Changes.{CanImport, CanPut, CanRenew, with_change};
 
 use crate::entry::{edited, first_versions, tuned};
@@ -77,25 +77,6 @@ impl Entries {
         Ok(Prepared::Import { made, room })
     }
 
-    /// Each question of a bank becomes the first version of a new entry. The number of the first of them is told (0 where there is
-    /// none), and how many there are.
-    ///
-    /// More than 20,000 entries are `TooMany`. After a refusal the entries are as before.
-    pub fn import(&mut self, alloc: Global, bank: Bank) -> Result<(u32, u32), Refusal>
-        ensures imported { OnOk result (self.new ≡ imported self.old bank) }
-        ensures told { IfOk result (λ told. told ≡ (first_of_import self.old bank, length bank.items)) }
-        ensures free { OnOk result (import_cause self.old bank ≡ None) }
-        ensures refused { IfErr result (λ r. (r ≡ Refusal.Memory) ⊎ (import_cause self.old bank ≡ Some r)) }
-        ensures unchanged { OnErr result (self.new ≡ self.old) }
-    {
-        let before = self.entries.len();
-        let count = bank.items.as_slice().len();
-        let prepared = self.prepare_import(alloc, bank)?;
-        self.put(prepared);
-        let first = if count == 0 { 0 } else { before + 1 };
-        Ok((first as u32, count as u32))
-    }
-
     /// The question of a version of an entry, if it is there.
     pub fn version(&self, entry: u32, number: u32) -> Option<&Question>
         ensures { option_copied result ≡ version self.now entry number }
@@ -146,42 +127,6 @@ impl Entries {
     {
         let newer = tuned(alloc, self.newest(entry)?, penalty, hints)?;
         self.prepare_version(alloc, entry, newer)
-    }
-
-    /// An entry gets a new version, which keeps the penalty and the hints of the one before. Its number is told.
-    ///
-    /// An entry that isn't there is `Unknown`. More than 1,000 versions are `TooMany`, and then a version whose canonical text and
-    /// hints have together more than 262,144 bytes. After a refusal the entries are as before.
-    pub fn edit(&mut self, alloc: Global, entry: u32, gift: Question) -> Result<u32, Refusal>
-        ensures changed { OnOk result (self.new ≡ changed self.old entry (request.Edit entry gift)) }
-        ensures told { IfOk result (λ number. latest self.new entry ≡ Some number) }
-        ensures free { OnOk result (change_cause self.old entry (request.Edit entry gift) ≡ None) }
-        ensures refused { IfErr result (λ r. (r ≡ Refusal.Memory) ⊎ (change_cause self.old entry (request.Edit entry gift) ≡ Some r)) }
-        ensures unchanged { OnErr result (self.new ≡ self.old) }
-    {
-        let prepared = self.prepare_edit(alloc, entry, gift)?;
-        self.put(prepared);
-        Ok(self.latest(entry).unwrap())
-    }
-
-    /// An entry gets a new version, which is the one before with this penalty (in 10^-7) and these hints. Its number is told, and
-    /// it is refused as an edit is.
-    pub fn tune(
-        &mut self,
-        alloc: Global,
-        entry: u32,
-        penalty: Fraction,
-        hints: Listed<Text>,
-    ) -> Result<u32, Refusal>
-        ensures changed { OnOk result (self.new ≡ changed self.old entry (request.Tune entry penalty hints)) }
-        ensures told { IfOk result (λ number. latest self.new entry ≡ Some number) }
-        ensures free { OnOk result (change_cause self.old entry (request.Tune entry penalty hints) ≡ None) }
-        ensures refused { IfErr result (λ r. (r ≡ Refusal.Memory) ⊎ (change_cause self.old entry (request.Tune entry penalty hints) ≡ Some r)) }
-        ensures unchanged { OnErr result (self.new ≡ self.old) }
-    {
-        let prepared = self.prepare_tune(alloc, entry, penalty, hints)?;
-        self.put(prepared);
-        Ok(self.latest(entry).unwrap())
     }
 
     /// Puts a change that was prepared for this bank. It takes no memory.

@@ -66,25 +66,6 @@ passed-of index count h m q job position (Some c) is legal are = passed-at index
 pub passed-so_far : (index count : ℕ) (h : List Record) (m : Cursors) (q job position : ℕ) → IsLegal index count h → AreCursors m h → IsPassed h q job position (passed_by position (cursor_at m q job))
 passed-so_far index count h m q job position legal are = passed-of index count h m q job position (cursor_at m q job) refl legal are
 
--- ---- a cursor that is kept
-
-pub cursors-none : (m : Cursors) (h : List Record) → ((q job : ℕ) → cursor_at m q job ≡ None) → AreCursors m h
-cursors-none m h none = record { each = λ q job c is. absurd (let nothing = none q job in cc) }
-
-pub cursors-same : (m n : Cursors) (h : List Record) → AreCursors m h → ((q job : ℕ) → cursor_at n q job ≡ cursor_at m q job) → AreCursors n h
-cursors-same m n h are same = record { each = λ q job c is. are.each q job c (sym (same q job) ∙ is) }
-
-kept-by : (m : Cursors) (h : List Record) (q job : ℕ) (d : Cursor) (p j : ℕ) (c : Cursor) (y z : Bool) → (q == p) ≡ y → (job == j) ≡ z → AreCursors m h → IsPassed h q job d.position d.passed → (if y && z then Some d else cursor_at m p j) ≡ Some c → IsPassed h p j c.position c.passed
-kept-by m h q job d p j c true true is also are passed told =
-    let same : d ≡ c = cc in
-    subst (λ (e : Cursor). IsPassed h p j e.position e.passed) same (subst (λ (n : ℕ). IsPassed h p n d.position d.passed) (eqb-true job j also) (subst (λ (n : ℕ). IsPassed h n job d.position d.passed) (eqb-true q p is) passed))
-kept-by m h q job d p j c true false is also are passed told = are.each p j c told
-kept-by m h q job d p j c false z is also are passed told = are.each p j c told
-
-pub cursors-kept : (m n : Cursors) (h : List Record) (q job : ℕ) (d : Cursor) → AreCursors m h → IsPassed h q job d.position d.passed
-    → ((p j : ℕ) → cursor_at n p j ≡ (if (q == p) && (job == j) then Some d else cursor_at m p j)) → AreCursors n h
-cursors-kept m n h q job d are passed new = record { each = λ p j c is. kept-by m h q job d p j c (q == p) (job == j) refl refl are passed (sym (new p j) ∙ is) }
-
 -- ---- a cursor that goes back before an attempt
 
 back-by : (p a b : AttemptId) (z : Bool) → attempt_before a p ≡ z → attempt_before p a ≡ false → attempt_before p b ≡ true → attempt_before a b ≡ true

@@ -28,9 +28,6 @@ pub record HasParts (h : List Record) (a : AttemptId) (k : ℕ) (s : Start) (b :
 pub slot-there : (h : List Record) (a : AttemptId) (k : ℕ) (s : Start) (b : Bound) (q : Question) → HasParts h a k s b q → slot h a k ≡ Some (slot_with s b (steps h a k) q)
 slot-there h a k s b q p = rw (p.begun, p.bound_is, p.asks) refl
 
-not-some : {A : Type 0} (b : Bool) → b ≡ false → b ≡ true → A
-not-some b isnt is = absurd cc
-
 started-as : (o : Option Start) → is_none o ≡ false → (s : Start) × (o ≡ Some s)
 started-as None there = absurd cc
 started-as (Some s) there = (s, refl)

@@ -36,9 +36,6 @@ start-same l r a is = start-more l r a None is ∙ or-none (start l a)
 pub bound-more : (l : List Record) (r : Record) (a : AttemptId) (k : ℕ) (o : Option Bound) → binds a k r ≡ o → bound (l ++ r ∷ []) a k ≡ option_or o (bound l a k)
 bound-more l r a k o is = last_of-push (binds a k) l r ∙ ap (λ (p : Option Bound). option_or p (bound l a k)) is
 
-pub steps-more : (l : List Record) (r : Record) (a : AttemptId) (k : ℕ) (x : Step) → step_in a k r ≡ Some x → steps (l ++ r ∷ []) a k ≡ steps l a k ++ x ∷ []
-steps-more l r a k x is = all_of-push (step_in a k) l r ∙ ap (λ (o : Option Step). steps l a k ++ option_to_list o) is
-
 pub steps-same : (l : List Record) (r : Record) (a : AttemptId) (k : ℕ) → step_in a k r ≡ None → steps (l ++ r ∷ []) a k ≡ steps l a k
 steps-same l r a k is = all_of-push (step_in a k) l r ∙ ap (λ (o : Option Step). steps l a k ++ option_to_list o) is ∙ append-nil (steps l a k)
 

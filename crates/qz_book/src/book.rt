@@ -11,7 +11,7 @@ ghost use Rattle.qz_terms.specs.History.{bound, ended, ended_at, floor, is_ended
 ghost use Rattle.qz_terms.specs.History as history;
 ghost use Rattle.qz_keeper.specs.Recording.{IsRecorded, failure};
 ghost use Rattle.qz_terms.specs.Kept.{IsKept, is_moment};
-ghost use Rattle.qz_usage.specs.Usages.{IsTotal};
+ghost use Rattle.qz_terms.specs.Rows.{IsTotal};
 ghost use Rattle.qz_book.specs.Nexts.{CanGrow, IsPut};
 ghost use Rattle.qz_book.specs.Plays.{IsSlot};
 

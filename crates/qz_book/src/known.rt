@@ -2,12 +2,12 @@
 
 ghost use Rattle.std.specs.Prelude.{◌≡◌, ◌++◌, ◌∷◌, [], option_copied};
 ghost use Rattle.qz_index.specs.Indexed.{IsIndexed};
-ghost use Rattle.qz_terms.specs.History.{learned_by, learned_version, learns, version};
+ghost use Rattle.qz_terms.specs.History.{learned_version, learns, version};
 
 use qz_grading::Question;
-use qz_index::Index;
+use qz_index::{Index, learned_by};
 use qz_lives::Versions;
-use qz_terms::{Event, Learned, Record};
+use qz_terms::{Learned, Record};
 use std::marker::Model;
 
 /// What is known of versions where one record more comes behind those of an index, seen as the longer list.
@@ -61,16 +61,6 @@ fn learned_version(entry: u32, version: u32, learned: &Learned) -> Option<&Quest
         Some(&learned.question)
     } else {
         None
-    }
-}
-
-/// The versions that a record learned.
-fn learned_by(record: &Record) -> &[Learned]
-    ensures { result.now ≡ learned_by («record».now).event }
-{
-    match &record.event {
-        Event::Started { learned, .. } | Event::Rebound { learned, .. } => learned.as_slice(),
-        _ => &[],
     }
 }
 

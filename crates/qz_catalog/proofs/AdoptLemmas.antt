@@ -1,7 +1,6 @@
 -- A record that is allowed behind others, and is put there.
 use Rattle.std.proofs.Common.{◌≡◌, ℕ, ◌+◌, ◌-◌, ◌<◌, ◌≤◌, ◌^◌, Bool, true, false, List, [], ◌∷◌, ◌++◌, Option, Some, None, length, refl, sym, ap, subst, ◌∙◌, arith}
-use Rattle.std.specs.Prelude.{◌==◌, nat_le, vec_len, vec_capacity}
-use Rattle.std.proofs.lemmas.Bool.{le-leb}
+use Rattle.std.specs.Prelude.{◌==◌, vec_len, vec_capacity}
 use Rattle.std.proofs.lemmas.List.Elements.{All-nil, All-push}
 use Rattle.std.proofs.lemmas.List.Folds.{list_all-append}
 use Rattle.qz_grading.specs.Grading.{at_place}
@@ -21,7 +20,7 @@ use Rattle.qz_roster.specs.People.{is_called}
 use Rattle.qz_roster.specs.Roster.{HasRoom, IsNext, IsRosterOf}
 use Rattle.qz_catalog.specs.declared.book.Book.{Book}
 use Rattle.qz_catalog.specs.Applying.{IsReady, bank_cause, bank_told}
-use Rattle.qz_catalog.specs.Holdings.{ArePinned, AreShown, IsBook, IsHeld, IsPin, founded, keeps_described}
+use Rattle.qz_catalog.specs.Holdings.{ArePinned, AreShown, IsBook, IsHeld, founded, keeps_described}
 use Rattle.qz_catalog.proofs.Accepted.{accepted}
 use Rattle.qz_catalog.proofs.Answering.{longer}
 use Rattle.qz_catalog.proofs.Deciding.{bank-after}
@@ -111,9 +110,6 @@ held-first r allowed kept = record {
   bank = other-follows [] [] r bank-none (ap changes_bank (first-unasked r allowed));
 }
 
-pub pin-none : (r : Record) → IsAllowedInCatalog [] r → IsPin [] r None
-pin-none r allowed = record { told = rw (first-unasked r allowed) refl }
-
 shown-none : AreShown [] []
 shown-none = record { count = refl; each = λ k r x got asks. let none : None ≡ Some r = got in absurd cc }
 
@@ -140,10 +136,3 @@ pub founding-allowed : (r : Record) (shards : ℕ) (token : List ℕ) → r ∷ 
 founding-allowed r shards token is =
     let same : r ≡ record { moment = 0; caller = 0; owner = 0; key = None; terms = None; event = event.Founded shards token } = cc in
     subst (IsAllowedInCatalog []) (sym same) (record { owner = refl; terms = refl; moment = refl; event = refl })
-
-pub founding-kept : (r : Record) (shards : ℕ) (token : List ℕ) → r ∷ [] ≡ founded shards token → 1 ≤ shards → shards ≤ 64 → IsKept r
-founding-kept r shards token is some few =
-    let same : r ≡ record { moment = 0; caller = 0; owner = 0; key = None; terms = None; event = event.Founded shards token } = cc in
-    let above : nat_le 1 shards ≡ true = le-leb 1 shards some in
-    let below : nat_le shards 64 ≡ true = le-leb shards 64 few in
-    subst IsKept (sym same) (record { moment = refl; terms = refl; settings = refl; event = rw (above, below) refl })

@@ -15,7 +15,6 @@ use Rattle.qz_terms.specs.declared.record.Event.TheVariants as event
 use Rattle.qz_terms.specs.declared.record.Record.{Record}
 use Rattle.qz_terms.specs.declared.record.Terms.{Terms}
 use Rattle.qz_terms.specs.declared.request.Request.{Request}
-use Rattle.qz_terms.specs.declared.request.Request.TheVariants as request
 use Rattle.qz_terms.specs.Catalog.{Person, made_user, user_with, users}
 use Rattle.qz_terms.specs.CatalogAnswer.{keeps_record, moment_in}
 use Rattle.qz_terms.specs.Cause.{Granted, Verdict, by_key, cause_in, denied, forbidden, keeps_request, missing_in, role_may, rule_of}
@@ -24,10 +23,8 @@ use Rattle.qz_terms.specs.Legal.{AskIsAllowed, CatalogEventIsAllowed, IsAllowedI
 use Rattle.qz_terms.proofs.Standing.{free-by, never-granted}
 use Rattle.qz_bank.specs.declared.entry.Entry.{Entry}
 use Rattle.qz_bank.specs.Laws.{IsBankOf}
-use Rattle.qz_catalog.specs.declared.keys.Found.{Found}
-use Rattle.qz_catalog.specs.declared.keys.Found.TheVariants as found
-use Rattle.qz_catalog.specs.Allowed.{can_be_asked, can_begin, can_stand, can_stand_by, is_change, is_founding, is_permitted}
-use Rattle.qz_catalog.specs.Applying.{IsFound, bank_cause, early_cause, stand_in}
+use Rattle.qz_catalog.specs.Allowed.{can_be_asked, can_begin, can_stand, can_stand_by, is_founding, is_permitted}
+use Rattle.qz_catalog.specs.Applying.{bank_cause, early_cause, stand_in}
 use Rattle.qz_catalog.proofs.AdoptLemmas.{nobody}
 use Rattle.qz_catalog.proofs.Deciding.{cause-none, cause-same}
 use Rattle.qz_catalog.proofs.Marks.{and-left, and-right}
@@ -48,10 +45,6 @@ none-told (Some x) false is = refl
 pub not-some : {A : Type 0} (o : Option A) → is_some o ≡ false → o ≡ None
 not-some None is = refl
 not-some (Some x) is = absurd cc
-
-pub some-none : {A : Type 0} (o : Option A) → is_some o ≡ true → is_none o ≡ false
-some-none None is = absurd cc
-some-none (Some x) is = refl
 
 both : (b c : Bool) → b ≡ true → c ≡ true → b && c ≡ true
 both true c is also = also
@@ -100,24 +93,7 @@ nobody-by c n x (Some u) got none = absurd cc
 pub not-there : (c : List Record) (n : ℕ) (x : Request) → option_map (λ (u : User). u.role) (at_place (users c) n) ≡ None → false ≡ is_permitted c n x
 not-there c n x none = nobody-by c n x (at_place (users c) n) refl none
 
--- ---- keys
-
-pub found-none : (c : List Record) (f : Option Found) (v : Option Verdict) → IsFound c f v → is_none f ≡ is_none v
-found-none c None v is = sym (ap is_none is)
-found-none c (Some (found.Same n)) v is = sym (ap is_none is.1)
-found-none c (Some (found.Other place)) v is = sym (ap is_none is)
-
 -- ---- causes
-
-pub early-some : (c : List Record) (key : Option (List ℕ)) (x : Request) → is_some (early_cause c key x) ≡ true → false ≡ is_none (cause_in c (stand_in key x) x)
-early-some c key (request.Edit entry gift) some = absurd cc
-early-some c key (request.Tune entry penalty hints) some = absurd cc
-early-some c key x some = sym (some-none (cause_in c (stand_in key x) x) some)
-
-pub early-whole : (c : List Record) (key : Option (List ℕ)) (x : Request) → is_change x ≡ false → early_cause c key x ≡ None → true ≡ is_none (cause_in c (stand_in key x) x)
-early-whole c key (request.Edit entry gift) change none = absurd cc
-early-whole c key (request.Tune entry penalty hints) change none = absurd cc
-early-whole c key x change none = sym (ap is_none none)
 
 causeless-by : (c : List Record) (es : List Entry) (key : Option (List ℕ)) (x : Request) (b : Bool) (o : Option Refusal) → cause_in c (stand_in key x) x ≡ o → IsBankOf c es → missing_in c x ≡ None → early_cause c key x ≡ None → Decides b (bank_cause es x ≡ None) → b ≡ is_none o
 causeless-by c es key x b None is bank there early decides = decides.1 (bank-free c es (stand_in key x) x bank there is)
@@ -220,23 +196,6 @@ begins-by : (r : Record) (e : Event) → CatalogEventIsAllowed [] r e → is_fou
 begins-by r (event.Founded shards token) allowed = refl
 begins-by r (event.Asked x) allowed = absurd (nobody r.caller allowed.user (r.caller == 0) refl allowed.by_caller)
 begins-by r e allowed = absurd allowed
-
-founded-by : (r : Record) (e : Event) → is_founding e ≡ true → CatalogEventIsAllowed [] r e
-founded-by r (event.Founded shards token) is = refl
-founded-by r e is = absurd cc
-
-pub begin-decides : (r : Record) → Decides (can_begin r) (IsAllowedInCatalog [] r)
-begin-decides r = (passes, begins)
-  where
-    passes : can_begin r ≡ true → IsAllowedInCatalog [] r
-    passes can =
-        let second = and-right (r.owner == 0) _ can in
-        record {
-          owner = eqb-true r.owner 0 (and-left (r.owner == 0) _ can);
-          terms = and-left (is_none r.terms) _ second;
-          moment = omega arith;
-          event = founded-by r r.event (and-right (is_none r.terms) _ second);
-        }
 
     begins : IsAllowedInCatalog [] r → can_begin r ≡ true
     begins a = both _ _ (eq-eqb r.owner 0 a.owner) (both _ _ a.terms (begins-by r r.event a.event))

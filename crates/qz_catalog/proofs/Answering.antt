@@ -1,5 +1,5 @@
 -- What is answered, and what the list and its bank are afterwards.
-use Rattle.std.proofs.Common.{◌≡◌, ℕ, ◌+◌, ◌-◌, ◌<◌, ◌^◌, true, List, [], ◌∷◌, ◌++◌, None, length, take, get_or, refl, sym, ap, ◌∙◌, arith, length-append, append-nil}
+use Rattle.std.proofs.Common.{◌≡◌, ℕ, ◌+◌, ◌-◌, ◌<◌, ◌^◌, List, [], ◌∷◌, ◌++◌, None, length, take, get_or, refl, sym, ap, ◌∙◌, arith, length-append}
 use Rattle.std.proofs.lemmas.List.Elements.{All-push}
 use Rattle.std.proofs.lemmas.List.Folds.{list_all-append}
 use Rattle.std.proofs.lemmas.Option.{get_or_from_slice_get}
@@ -7,16 +7,13 @@ use Rattle.qz_terms.specs.declared.ask.Ask.{Ask}
 use Rattle.qz_terms.specs.declared.people.User.{User}
 use Rattle.qz_terms.specs.declared.record.Record.{Record}
 use Rattle.qz_terms.specs.declared.reply.Reply.{Reply}
-use Rattle.qz_terms.specs.declared.reply.Reply.TheVariants as reply
-use Rattle.qz_terms.specs.declared.request.Request.{Request}
-use Rattle.qz_terms.specs.declared.request.Request.TheVariants as request
 use Rattle.qz_terms.specs.Answer.{said}
-use Rattle.qz_terms.specs.CatalogAnswer.{catalog_after, catalog_answer, catalog_verdict, is_look_in, looked_in_by, record_in}
-use Rattle.qz_terms.specs.Cause.{Granted, Repeated, verdict_in}
+use Rattle.qz_terms.specs.CatalogAnswer.{catalog_after, catalog_answer, catalog_verdict, record_in}
+use Rattle.qz_terms.specs.Cause.{Repeated, verdict_in}
 use Rattle.qz_terms.specs.Kept.{IsKept}
 use Rattle.qz_terms.specs.Legal.{IsLegalCatalog}
 use Rattle.qz_bank.specs.declared.entry.Entry.{Entry}
-use Rattle.qz_catalog.specs.Applying.{IsFree, IsLooked, IsPosed, IsRepeated, bank_after, bank_cause, stand_in}
+use Rattle.qz_catalog.specs.Applying.{IsLooked, IsPosed, IsRepeated, bank_after, bank_cause, stand_in}
 use Rattle.qz_catalog.specs.Holdings.{IsHeld, keeps_described}
 use Rattle.qz_catalog.proofs.Deciding.{bank-after, granted, verdict-same}
 use Rattle.qz_catalog.proofs.Granting.{allowed, kept, legal-push}
@@ -49,19 +46,4 @@ repeated-answer c user ask n r told again item says =
     record {
       reply = λ now. let answer : catalog_answer c now user ask ≡ said (take (n + 1) c) r = rw (verdict now) refl in says ∙ sym answer;
       list = λ now. let after : catalog_after c now user ask ≡ c = rw (verdict now) refl in sym after;
-    }
-
--- ---- a look
-
-look-free : (es : List Entry) (x : Request) → is_look_in x ≡ true → bank_cause es x ≡ None
-look-free es request.Jobs look = refl
-look-free es (request.Bank entry version) look = refl
-look-free es x look = absurd cc
-
-pub look-answer : (c : List Record) (es : List Entry) (user : User) (ask : Ask) (told : Reply) → IsHeld c es → IsFree c user ask → is_look_in ask.request ≡ true → told ≡ reply.Ok (length c) (looked_in_by c ask.request) → IsLooked c user ask told
-look-answer c es user ask told held free look says =
-    let verdict : (now : ℕ) → catalog_verdict c now user ask ≡ Granted = λ now. granted c es now user ask held.bank free (look-free es ask.request look) in
-    record {
-      reply = λ now. let answer : catalog_answer c now user ask ≡ reply.Ok (length c) (looked_in_by c ask.request) = rw (verdict now, look) refl in says ∙ sym answer;
-      list = λ now. let after : catalog_after c now user ask ≡ c = rw (verdict now, look) (append-nil c) in sym after;
     }

@@ -1,5 +1,5 @@
 -- What the calls of a catalogue that a keeper keeps come to.
-use Rattle.std.proofs.Common.{◌≡◌, ◌≤◌, ◌⊎◌, inl, inr, ℕ, Bool, true, List, [], ◌∷◌, ◌++◌, Option, Some, None, IfSome, IfOk, IfErr, OnOk, OnErr, MatchResult, Result, Ok, Err, length, map, option_map, refl, sym, ap, subst, ◌∙◌}
+use Rattle.std.proofs.Common.{◌≡◌, ◌≤◌, ◌⊎◌, inl, inr, ℕ, Bool, true, List, [], ◌∷◌, ◌++◌, Option, Some, None, IfSome, IfOk, IfErr, OnOk, OnErr, MatchResult, Result, Ok, Err, length, option_map, refl, sym, ap, subst, ◌∙◌}
 use Rattle.std.specs.Prelude.{◌+◌, slice_get, take, unwrap_or}
 use Rattle.qz_disks.specs.declared.keeper.KeepErr.{KeepErr}
 use Rattle.qz_disks.specs.declared.keeper.KeepErr.TheVariants.{Memory}
@@ -19,7 +19,7 @@ use Rattle.qz_terms.specs.declared.reply.Reply.{Reply}
 use Rattle.qz_terms.specs.declared.reply.Reply.TheVariants as reply
 use Rattle.qz_terms.specs.CatalogAnswer.{catalog_after, catalog_answer, catalog_verdict, record_in}
 use Rattle.qz_terms.specs.Answer.{said}
-use Rattle.qz_terms.specs.Catalog.{plan, users}
+use Rattle.qz_terms.specs.Catalog.{plan}
 use Rattle.qz_terms.specs.Cause.{Denied, Granted, missing_quiz, missing_user}
 use Rattle.qz_terms.specs.Kept.{IsKeptPlan}
 use Rattle.qz_terms.specs.Legal.{IsLegalCatalog}
@@ -27,7 +27,7 @@ use Rattle.qz_terms.specs.Serial.{Held, Mended}
 use Rattle.qz_bank.specs.declared.entry.Entry.{Entry}
 use Rattle.qz_catalog.specs.Applying.{IsPosed, bank_cause}
 use Rattle.qz_catalog.specs.Holdings.{lean}
-use Rattle.qz_catalog.specs.Keeping.{IsReadyToPut, IsTold, MayFollow, TellsNames, TellsPlan}
+use Rattle.qz_catalog.specs.Keeping.{IsReadyToPut, IsTold, MayFollow, TellsPlan}
 use Rattle.qz_catalog.proofs.Deciding.{granted, refused}
 use Rattle.qz_catalog.proofs.Granting.{allowed, kept, legal-push}
 use Rattle.qz_catalog.proofs.Shortness.{granted-short}
@@ -146,18 +146,6 @@ settled_by failed old new call = settled_ends failed old call.mended new call.me
 -- each list that may stand, where none is in doubt
 pub each_settled : (P : List Record → Type 0) (held : Held) → held.doubt ≡ None → P held.list → EachMayStand P held
 each_settled P held none is = record { without = is; with_doubt = subst (λ d. IfSome d (λ r. P (held.list ++ r ∷ []))) (sym none) tt }
-
--- what was told of a list, of which nothing is in doubt afterwards
-pub looked_so : {A : Type 0} (failed : Type 0) (Says : List Record → Result A Refusal → Type 0) (mended new : Held) (a : A) → CallEnds failed (λ r. Err r) (Looks Says) mended new (Ok a) → (new.doubt ≡ None) × Says new.list (Ok a)
-looked_so failed Says mended new a (answered before after is) = (after, subst (λ (l : List Record). Says l (Ok a)) (sym is.1) is.0)
-looked_so failed Says mended new a (put_in_doubt why answer r before is new_is said) = absurd cc
-looked_so failed Says mended new a (stayed_in_doubt why doubt new_is said) = absurd cc
-looked_so failed Says mended new a (no_memory new_is said) = absurd cc
-
--- the list was told of, or memory was wanting
-pub names_told : (c : List Record) (result : Result (List (List ℕ)) Refusal) → IfOk result (λ names. names ≡ map (λ (u : User). u.name) (users c)) → IfErr result (λ r. r ≡ refusal.Memory) → (Looks TellsNames c result c) ⊎ (result ≡ Err refusal.Memory)
-names_told c (Ok names) is why = inl (ap (λ (ns : List (List ℕ)). Ok ns) is, refl)
-names_told c (Err r) is why = inr (ap (λ (e : Refusal). Err e) why)
 
 plan_wanting : (c : List Record) (quiz user : ℕ) (whole : Bool) (r : Refusal) → (r ≡ refusal.Memory) ⊎ (first_some (missing_quiz c quiz ∷ missing_user c user ∷ []) ≡ Some r) → (Looks (TellsPlan quiz user whole) c (Err r) c) ⊎ (◌≡◌ {A = Result Plan Refusal} (Err r) (Err refusal.Memory))
 plan_wanting c quiz user whole r (inl memory) = inr (ap (λ (e : Refusal). Err e) memory)

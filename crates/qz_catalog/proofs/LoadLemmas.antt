@@ -2,14 +2,14 @@
 use Rattle.std.proofs.Common.{◌≡◌, ℕ, ◌+◌, ◌<◌, ◌≤◌, Bool, true, false, List, [], ◌∷◌, ◌++◌, length, append_assoc, length-append, take, drop, map, get_or, refl, sym, ap, subst, ◌∙◌, arith, All}
 use Rattle.std.specs.Bool.{Decides}
 use Rattle.std.proofs.lemmas.Bool.{both_ways}
-use Rattle.std.proofs.lemmas.List.{length-map, length-take-le, map-append, take-append-drop, take_all}
+use Rattle.std.proofs.lemmas.List.{length-map, length-take-le, map-append, take-append-drop}
 use Rattle.std.proofs.lemmas.List.Elements.{All-nil, All-push}
 use Rattle.qz_terms.specs.declared.record.Record.{Record}
 use Rattle.qz_terms.specs.Legal.{IsAllowedInCatalog, IsLegalCatalog}
 use Rattle.qz_terms.specs.Spelling.{spelling}
 use Rattle.qz_terms.proofs.Walks.{take-one_more}
 use Rattle.qz_record.specs.Records.{IsRecord}
-use Rattle.qz_catalog.specs.Loads.{IsAdded, IsFirstIllegal, IsLoaded, IsNoneBehind, IsTaken}
+use Rattle.qz_catalog.specs.Loads.{IsAdded, IsFirstIllegal, IsNoneBehind, IsTaken}
 use Rattle.qz_catalog.proofs.AdoptLemmas.{legal-none}
 use Rattle.qz_catalog.proofs.Granting.{legal-push}
 
@@ -20,14 +20,6 @@ pub record IsReadTo (first : List ℕ) (others : List (List ℕ)) (n : ℕ) (c :
   pub records : All IsRecord c
   pub legal : IsLegalCatalog c
   pub some : 1 ≤ length c
-
-pub read-first : (first : List ℕ) (others : List (List ℕ)) (c : List Record) → IsAdded [] c first → IsReadTo first others 0 c
-read-first first others c added = record {
-  spelled = ap (map spelling) added.put ∙ ap (λ (x : List ℕ). x ∷ []) (sym added.spelled);
-  records = subst (All IsRecord) (sym added.put) (All-push IsRecord [] added.made (All-nil IsRecord) added.keeps);
-  legal = subst IsLegalCatalog (sym added.put) (legal-push [] added.made legal-none added.allowed);
-  some = let long : length c ≡ 1 = ap (λ (l : List Record). length l) added.put in omega arith;
-}
 
 -- one more is taken
 pub read-more : (first : List ℕ) (others : List (List ℕ)) (n : ℕ) (c new : List Record) (payload : List ℕ) → n < length others → payload ≡ get_or others n payload → IsReadTo first others n c → IsTaken c new payload true → IsReadTo first others (n + 1) new
@@ -68,14 +60,6 @@ read-illegal first others n c new payload inside is read taken = record {
       let all : length (map spelling c) ≡ length c = length-map c spelling in
       let more : length (first ∷ take n others) ≡ length (take n others) + 1 = omega arith in
       omega (arith, long, spelled, all, more);
-}
-
-pub read-whole : (first : List ℕ) (others : List (List ℕ)) (n : ℕ) (c : List Record) → length others ≤ n → IsReadTo first others n c → IsLoaded (first ∷ others) c
-read-whole first others n c past read = record {
-  spelled = read.spelled ∙ ap (λ (xs : List (List ℕ)). first ∷ xs) (take_all n others past);
-  records = read.records;
-  legal = read.legal;
-  some = read.some;
 }
 
 -- the first spells none that may stand first

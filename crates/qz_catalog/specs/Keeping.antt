@@ -1,5 +1,5 @@
 -- A catalogue whose list a keeper keeps: what it is seen as, and what its calls say over a list.
-use Rattle.std.specs.Prelude.{◌≡◌, ℕ, Bool, true, List, ◌∷◌, [], length, map, Ok, Some, None, Option, option_map, Result, MatchResult}
+use Rattle.std.specs.Prelude.{◌≡◌, ℕ, Bool, true, List, ◌∷◌, [], length, Some, None, Option, option_map, Result, MatchResult}
 use Rattle.qz_decimal.specs.Numbers.{IsMaxSum, IsQuizGrade}
 use Rattle.qz_grading.specs.declared.refusal.Refusal.{Refusal}
 use Rattle.qz_grading.specs.declared.refusal.Refusal.TheVariants as refusal
@@ -68,9 +68,6 @@ pub record IsPlan (c : List Record) (quiz user : ℕ) (whole : Bool) (p : Plan) 
 
 abbrev pub TellsPlan : ℕ → ℕ → Bool → List Record → Result Plan Refusal → Type 0
 TellsPlan quiz user whole c told = MatchResult told (IsPlan c quiz user whole) (λ r. first_some (missing_quiz c quiz ∷ missing_user c user ∷ []) ≡ Some r)
-
-abbrev pub TellsNames : List Record → Result (List (List ℕ)) Refusal → Type 0
-TellsNames c told = told ≡ Ok (map (λ (u : User). u.name) (catalog.users c))
 
 -- how a quiz is graded
 pub record IsPolicy (c : List Record) (quiz : ℕ) (p : Policy) : Type 0 where

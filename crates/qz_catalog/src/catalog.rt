@@ -8,7 +8,7 @@ ghost use Rattle.qz_record.specs.Lengths.{NamesBriefly};
 ghost use Rattle.qz_terms.specs.declared.reply.Reply.TheVariants as reply;
 ghost use Rattle.qz_terms.specs.Legal.{IsLegalCatalog};
 ghost use Rattle.qz_catalog.specs.Applying.{IsAsked};
-ghost use Rattle.qz_catalog.specs.Keeping.{IsOpened, IsTold, IsUnopened, TellsJob, TellsNames, TellsPlan, TellsPolicy, TellsUser};
+ghost use Rattle.qz_catalog.specs.Keeping.{IsOpened, IsTold, IsUnopened, TellsJob, TellsPlan, TellsPolicy, TellsUser};
 
 use crate::catalog_core::CatalogCore;
 use qz_disks::{KeepErr, Keeper};
@@ -16,7 +16,7 @@ use qz_grading::Refusal;
 use qz_keeper::{RecordKeeper, refusal_of, reply_of};
 use qz_record::ListFault;
 use qz_terms::{Ask, Job, Plan, Policy, Record, Reply, User};
-use qz_text::{Bytes, Listed, Text, TryCopy};
+use qz_text::{Bytes, Text, TryCopy};
 use std::alloc::Global;
 use std::marker::Model;
 
@@ -171,18 +171,6 @@ impl<K: Keeper> Catalog<K> {
     {
         self.mend(alloc)?;
         self.core.plan(alloc, quiz, user, whole)
-    }
-
-    /// The users' names, in order of number. The list is mended first.
-    pub fn names(&mut self, alloc: Global) -> Result<Listed<Text>, Refusal>
-        ensures told { OneCall (HasFailed (K.sound self.old.keeper)
-            (K.faults self.old.keeper) (K.faults self.new.keeper)) (λ r. Err r)
-            (Looks TellsNames) self.old.held self.new.held result }
-        ensures goes_on { GoesOn (K.sound self.old.keeper) (K.sound self.new.keeper)
-            (K.faults self.old.keeper) (K.faults self.new.keeper) }
-    {
-        self.mend(alloc)?;
-        self.core.names(alloc)
     }
 
     /// How a quiz is graded, over all the records: the policy that each plan of it has, whoever the user is.

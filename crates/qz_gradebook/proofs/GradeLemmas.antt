@@ -8,11 +8,11 @@ use Rattle.std.proofs.lemmas.Int.{ints, to_z-of_z, fits_signed_from_abs}
 use Rattle.qz_decimal.specs.Numbers.{one}
 use Rattle.qz_grading.specs.Steps.{last_of}
 use Rattle.qz_grading.proofs.StepLemmas.{last_read}
-use Rattle.qz_terms.specs.Rows.{greatest_total, sum_of}
+use Rattle.qz_terms.specs.Rows.{IsTotal, greatest_total, sum_of}
 use Rattle.qz_terms.proofs.Walks.{all_kept}
 use Rattle.qz_gradebook.specs.declared.finished.Finished.{Finished}
 use Rattle.qz_gradebook.specs.Grades.{IsAdded, greater}
-use Rattle.qz_gradebook.specs.Totals.{IsTotal, total}
+use Rattle.qz_gradebook.specs.Totals.{total}
 
 -- the totals that are there, of the attempts themselves or of the list of their totals
 there-by : (x : Finished) (xs : List Finished) (o : Option ℤ) → x.total ≡ o → filter_map (λ (t : Option ℤ). t) (map total xs) ≡ filter_map total xs → filter_map (λ (t : Option ℤ). t) (map total (x ∷ xs)) ≡ filter_map total (x ∷ xs)

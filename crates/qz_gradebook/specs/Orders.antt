@@ -2,7 +2,8 @@
 use Rattle.std.specs.List.{AllPairs}
 use Rattle.std.specs.Prelude.{◌≡◌, ℕ, ◌<◌, ◌≤◌, ◌^◌, Bool, true, false, ◌&&◌, ◌||◌, ◌==◌, nat_lt, List, length, take, drop, All, IfSome}
 use Rattle.qz_gradebook.specs.declared.finished.Finished.{Finished}
-use Rattle.qz_gradebook.specs.Totals.{IsTotal, comes_before}
+use Rattle.qz_terms.specs.Rows.{IsTotal}
+use Rattle.qz_gradebook.specs.Totals.{comes_before}
 
 -- an attempt that is numbered from 1, with a total in range
 pub record IsFinished (f : Finished) : Type 0 where

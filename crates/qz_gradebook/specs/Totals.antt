@@ -1,20 +1,16 @@
 -- The totals of finished attempts: what is put, and what a row's grade is over.
 use Rattle.std.specs.List.{list_any}
-use Rattle.std.specs.Prelude.{ℕ, ◌*◌, Bool, not, ◌&&◌, ◌||◌, ◌==◌, nat_lt, List, ◌∷◌, filter, map, Option, option_and_then, ℤ, pos, neg_ℤ}
-use Rattle.qz_decimal.specs.Numbers.{IsWithin, one}
+use Rattle.std.specs.Prelude.{ℕ, Bool, not, ◌&&◌, ◌||◌, ◌==◌, nat_lt, List, ◌∷◌, filter, map, Option, option_and_then, ℤ}
 use Rattle.qz_grading.specs.declared.refusal.AttemptId.{AttemptId}
 use Rattle.qz_terms.specs.History.{attempt_before, same_attempt}
 use Rattle.qz_terms.specs.Lists.{first_of, in_order}
+pub use Rattle.qz_terms.specs.Rows.{IsTotal}
 use Rattle.qz_gradebook.specs.declared.finished.Finished.{Finished}
 
 -- what the rows are seen as: finished attempts, and the room for so many more
 pub record Gradebook : Type 0 where
   pub finished : List Finished
   pub room : ℕ
-
--- a total of at most 200 slots is from -12,000,000 to 12,000,000
-abbrev pub IsTotal : ℤ → Type 0
-IsTotal = IsWithin (neg_ℤ (pos (12000000 * one))) (pos (12000000 * one))
 
 abbrev pub total : Finished → Option ℤ
 total f = f.total

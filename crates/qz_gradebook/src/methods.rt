@@ -4,9 +4,9 @@ ghost use Rattle.std.specs.Prelude.{◌≡◌, ◌≤◌, ◌<◌, ◌*◌, ◌^
 ghost use Rattle.qz_decimal.specs.Numbers.{one, IsMaxSum, IsQuizGrade};
 ghost use Rattle.qz_grading.specs.Steps.{last_of};
 ghost use Rattle.qz_terms.specs.Lists.{first_of};
-ghost use Rattle.qz_terms.specs.Rows.{graded_by, greatest_total, row_of, sum_of};
+ghost use Rattle.qz_terms.specs.Rows.{IsTotal, graded_by, greatest_total, row_of, sum_of};
 ghost use Rattle.qz_gradebook.specs.Grades.{greater};
-ghost use Rattle.qz_gradebook.specs.Totals.{IsTotal, total};
+ghost use Rattle.qz_gradebook.specs.Totals.{total};
 
 use crate::finished::Finished;
 use qz_decimal::{Grade, Mark, grade_of};

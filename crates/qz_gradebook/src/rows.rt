@@ -2,9 +2,9 @@
 
 ghost use Rattle.std.specs.Prelude.{◌≡◌, ◌+◌, ◌<◌, ◌≤◌, ◌^◌, All, [], false, true, length, map, option_map, slice_get, unwrap_or, IfSome, OnErr, OnOk};
 ghost use Rattle.qz_decimal.specs.Numbers.{IsMaxSum, IsQuizGrade};
-ghost use Rattle.qz_terms.specs.Rows.{row_of};
+ghost use Rattle.qz_terms.specs.Rows.{IsTotal, row_of};
 ghost use Rattle.qz_gradebook.specs.Orders.{IsPlace};
-ghost use Rattle.qz_gradebook.specs.Totals.{IsTotal, is_attempt, is_there, total, total_at, totals_of, with_total};
+ghost use Rattle.qz_gradebook.specs.Totals.{is_attempt, is_there, total, total_at, totals_of, with_total};
 
 use crate::finished::Finished;
 use crate::methods::row_of;

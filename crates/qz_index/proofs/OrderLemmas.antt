@@ -58,9 +58,6 @@ same-there a s false = refl
 there-push : (h : List Record) (r : Record) (q : ℕ) (a : AttemptId) → list_any (same_attempt a) (filter_map (attempt_at q) (h ++ r ∷ [])) ≡ (list_any (same_attempt a) (filter_map (attempt_at q) h) || list_any (same_attempt a) (option_to_list (attempt_at q r)))
 there-push h r q a = ap (list_any (same_attempt a)) (all_of-push (attempt_at q) h r) ∙ list_any-append (same_attempt a) (filter_map (attempt_at q) h) (option_to_list (attempt_at q r))
 
-pub orders-none : (m : Orders) → ((q : ℕ) (a : AttemptId) → is_ordered_at m q a ≡ false) → AreOrdered m []
-orders-none m none = record { each = none }
-
 pub orders-other : (m : Orders) (h : List Record) (r : Record) → AreOrdered m h → started r ≡ None → AreOrdered m (h ++ r ∷ [])
 orders-other m h r are none = record {
   each = λ q a.

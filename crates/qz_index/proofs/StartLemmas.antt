@@ -162,9 +162,6 @@ rising h q u are = go-on (IsRising q u) h (λ l r rest e so_far. rising-by l r q
 pub starts-sorted : (h : List Record) (q u : ℕ) → AreNumbered h → IsStrictlySortedBy id_cmp (filter_map (starts_at q u) h)
 starts-sorted h q u are = (rising h q u are).sorted
 
-pub starts-of_user : (h : List Record) (q u : ℕ) → AreNumbered h → AllByRecursion (λ (a : AttemptId). a.user ≡ u) (filter_map (starts_at q u) h)
-starts-of_user h q u are = all-weaker (IsUpTo u (made h u)) (λ (a : AttemptId). a.user ≡ u) (λ a is. is.0) _ (rising h q u are).up_to
-
 pub attempts-as_put : (h : List Record) (q u : ℕ) → AreNumbered h → attempts h q u ≡ filter_map (starts_at q u) h
 attempts-as_put h q u are = sym (in_order-is id_cmp attempt_before ids_order (filter_map (starts_at q u) h) (filter_map (starts_at q u) h) (starts-sorted h q u are) (λ a. refl))
 

@@ -1,15 +1,14 @@
 -- The users of a quiz in order.
-use Rattle.std.proofs.Common.{◌≡◌, ℕ, Bool, true, false, List, [], ◌∷◌, ◌++◌, Option, Some, None, option_map, refl, sym, ap, ◌∙◌, append_assoc, arith, Vec, Global}
+use Rattle.std.proofs.Common.{◌≡◌, ℕ, Bool, true, false, List, [], ◌∷◌, Option, Some, None, option_map, refl, sym, ap, ◌∙◌, Vec, Global}
 use Rattle.std.specs.declared.cmp.Ordering.{Ordering}
-use Rattle.std.specs.declared.cmp.Ordering.TheVariants.{Less, Equal, Greater}
+use Rattle.std.specs.declared.cmp.Ordering.TheVariants.{Less}
 use Rattle.std.specs.BTreeMap.{IsOrdered, is_at}
 use Rattle.std.specs.List.{AllByRecursion, list_any}
 use Rattle.std.specs.List.Sorted.{IsStrictlySortedBy}
 use Rattle.std.specs.Map.{keys_of, lookup}
-use Rattle.std.specs.Ordering.{eq_by_cmp, is_eq, nat_cmp, ordering_then}
-use Rattle.std.specs.Prelude.{◌||◌, filter, filter_map, is_some, nat_lt, unwrap_or, ◌==◌}
+use Rattle.std.specs.Ordering.{eq_by_cmp, is_eq, nat_cmp}
+use Rattle.std.specs.Prelude.{filter, filter_map, is_some, nat_lt, unwrap_or, ◌==◌}
 use Rattle.std.proofs.lemmas.Bool.{eqb-true}
-use Rattle.std.proofs.lemmas.Bool.Decides.{nat_tests}
 use Rattle.std.proofs.lemmas.Cmp.{eq_by_cmp_equiv, nat_cmp_total}
 use Rattle.std.proofs.lemmas.Map.Entries.{lookup-filter-values, option_filter}
 use Rattle.std.proofs.lemmas.Map.Keys.{IsDistinct-from_sorted}
@@ -22,13 +21,6 @@ use Rattle.qz_index.specs.declared.takers.Takers.{Takers}
 use Rattle.qz_index.specs.Attempts.{has_any, taken, takers_in}
 use Rattle.qz_index.proofs.Sorting.{in_order-is}
 use Rattle.qz_index.proofs.StartLemmas.{users_order}
-
--- ---- tests
-
-none-step : (o p : Ordering) (b : Bool) → is_eq o ≡ false → b ≡ false → (is_eq (ordering_then o p) || b) ≡ false
-none-step Less p b is rest = rest
-none-step Equal p b is rest = absurd cc
-none-step Greater p b is rest = rest
 
 -- ---- the takers of a list
 
@@ -98,15 +90,3 @@ takers_are t h q ordered of_users =
 pub no_takers : (h : List Record) (q : ℕ) → ((u : ℕ) → [] ≡ filter_map (starts_at q u) h) → [] ≡ takers h q
 unfolding IsStrictlySortedBy
 no_takers h q none = takers-from h q [] tt (λ u. ap has_any (none u))
-
--- ---- walks over the entries
-
-pub walk_more : {X : Type 0} (p : X → Bool) (found : List ℕ) (k : ℕ) (v : X) (es : List (ℕ × X)) (all : List ℕ) → p v ≡ true → found ++ keys_of (filter (λ (f : ℕ × X). p f.1) ((k, v) ∷ es)) ≡ all → (found ++ k ∷ []) ++ keys_of (filter (λ (f : ℕ × X). p f.1) es) ≡ all
-walk_more p found k v es all is so_far =
-    let one : keys_of (filter (λ (f : ℕ × _). p f.1) ((k, v) ∷ es)) ≡ k ∷ keys_of (filter (λ (f : ℕ × _). p f.1) es) = rw is refl in
-    append_assoc found (k ∷ []) (keys_of (filter (λ (f : ℕ × _). p f.1) es)) ∙ sym (ap (λ (l : List ℕ). found ++ l) one) ∙ so_far
-
-pub walk_skip : {X : Type 0} (p : X → Bool) (found : List ℕ) (k : ℕ) (v : X) (es : List (ℕ × X)) (all : List ℕ) → p v ≡ false → found ++ keys_of (filter (λ (f : ℕ × X). p f.1) ((k, v) ∷ es)) ≡ all → found ++ keys_of (filter (λ (f : ℕ × X). p f.1) es) ≡ all
-walk_skip p found k v es all is so_far =
-    let none : keys_of (filter (λ (f : ℕ × _). p f.1) ((k, v) ∷ es)) ≡ keys_of (filter (λ (f : ℕ × _). p f.1) es) = rw is refl in
-    sym (ap (λ (l : List ℕ). found ++ l) none) ∙ so_far

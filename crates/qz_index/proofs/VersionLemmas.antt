@@ -7,6 +7,7 @@ use Rattle.std.proofs.lemmas.Bool.{eqb-true}
 use Rattle.std.proofs.lemmas.List.Elements.{All-get_or, All-nil, All-push, All-weaker}
 use Rattle.std.proofs.lemmas.Option.{get_or_from_slice_get, slice_get_read, slice_get_within}
 use Rattle.qz_lemmas.proofs.Bools.{and-left, and-right}
+use Rattle.qz_lemmas.proofs.Lists.{get-append}
 use Rattle.qz_lemmas.proofs.Options.{or-none}
 use Rattle.qz_grading.proofs.StepLemmas.{slice_get-push}
 use Rattle.qz_grading.specs.declared.question.Question.{Question}
@@ -45,15 +46,10 @@ origin_learned m n entry number place u none e v = filled_by pair_cmp m.origins 
 
 -- ---- a list that has one record more
 
-get-more : {A : Type 0} (xs : List A) (x : A) (i : ℕ) (y : A) → slice_get xs i ≡ Some y → slice_get (xs ++ x ∷ []) i ≡ Some y
-get-more [] x i y is = absurd cc
-get-more (z ∷ zs) x zero y is = is
-get-more (z ∷ zs) x (suc i) y is = get-more zs x i y is
-
 at-more : (h : List Record) (r : Record) (o : Origin) (q : Question) (s : Option Record) → slice_get h o.place ≡ s → question_at h o ≡ Some q → question_at (h ++ r ∷ []) o ≡ Some q
 at-more h r o q None is stands = let none : None ≡ Some q = rw is at stands in absurd cc
 at-more h r o q (Some s) is stands =
-    let same : slice_get (h ++ r ∷ []) o.place ≡ slice_get h o.place = get-more h r o.place s is ∙ sym is in
+    let same : slice_get (h ++ r ∷ []) o.place ≡ slice_get h o.place = get-append h (r ∷ []) o.place s is ∙ sym is in
     ap (λ (t : Option Record). option_and_then (λ (u : Record). option_map (λ (l : Learned). l.question) (slice_get (learned_by u.event) o.item)) t) same ∙ stands
 
 stands-more : (h : List Record) (r : Record) (known : Option Question) (place : Option Origin) → StandsAt h known place → StandsAt (h ++ r ∷ []) known place

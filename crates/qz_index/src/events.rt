@@ -13,7 +13,7 @@ pub(crate) fn is_start(record: &Record) -> bool
 }
 
 /// The versions that a record learned.
-pub(crate) fn learned_by(record: &Record) -> &[Learned]
+pub fn learned_by(record: &Record) -> &[Learned]
     ensures { result.now ≡ learned_by («record».now).event }
 {
     match &record.event {

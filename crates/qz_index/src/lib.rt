@@ -18,5 +18,6 @@ mod takers;
 mod texts;
 mod versions;
 
+pub use events::learned_by;
 pub use index::Index;
 pub use keys::{Keys, Replied};

@@ -98,6 +98,3 @@ looked_call s t m n o refused Answers old mended new told settled same ends = re
 -- the count of two calls
 pub goes_both : (a b c : Type 0) (m n o : ℕ) → GoesOn a b m n → GoesOn b c n o → GoesOn a c m o
 goes_both a b c m n o s t = record { later = omega (arith, s.later, t.later); steady = λ was. t.steady (s.still was) ∙ s.steady was; still = λ was. t.still (s.still was) }
-
-pub goes_of : (a b : Type 0) (m n : ℕ) (failed : Type 0) → Serves a b m n failed → GoesOn a b m n
-goes_of a b m n failed s = record { later = s.later; steady = s.steady; still = s.still }

@@ -1,5 +1,4 @@
 pub mod Mending
 pub mod Keeping
-pub mod Serving
 pub mod Calls
 pub mod Settling

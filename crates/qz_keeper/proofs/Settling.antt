@@ -130,10 +130,6 @@ finding_done kept MayFollow list c d k f = found_by kept MayFollow list c d c.do
 pub finding_none : {K : Type 0} (kept : K → Option (List (List ℕ))) (MayFollow : List Record → Record → Type 0) (list : List Record) (c d : Custody K) → IsFoundIn kept MayFollow list c d → d.found ≡ None → IsSettled (held_in list c) (held_in list d)
 finding_none kept MayFollow list c d f none = record { mends = f.mends; no_doubt = pending_none d (record { no_doubt = f.no_doubt; none_found = none }) }
 
--- what was found couldn't be put for want of memory
-pub finding_short : {K : Type 0} (failed : Type 0) (kept : K → Option (List (List ℕ))) (MayFollow : List Record → Record → Type 0) (list : List Record) (c d : Custody K) (x : Record) → IsFoundIn kept MayFollow list c d → d.found ≡ Some x → IsUnsettled failed (held_in list c) (held_in list d) Memory
-finding_short failed kept MayFollow list c d x f is = record { same = subst (λ p. IfSome p (λ _. held_in list d ≡ held_in list c)) is f.same; in_doubt = λ wrong. absurd cc; cause = λ wrong. absurd cc }
-
 -- what was found was put
 pub record IsPutBehind {K : Type 0} (kept : K → Option (List (List ℕ))) (MayFollow : List Record → Record → Type 0) (list g : List Record) (c e : Custody K) : Type 0 where
   pub keeps : IsKeptList kept MayFollow g e

@@ -1,5 +1,5 @@
 -- What a record that a request put tells, so that the record and the list alone decide.
-use Rattle.std.proofs.Common.{◌≡◌, ℕ, Bool, true, false, not, ◌&&◌, ◌||◌, cond, List, Option, Some, None, refl, sym, ap, subst, ◌∙◌, eq-eqb, option_map}
+use Rattle.std.proofs.Common.{◌≡◌, ℕ, Bool, true, false, not, ◌&&◌, ◌||◌, List, Option, Some, None, refl, sym, ap, subst, ◌∙◌, eq-eqb, option_map}
 use Rattle.std.specs.Ordering.{int_eq}
 use Rattle.std.specs.Prelude.{ℤ, ◌==◌, if◌then◌else◌, is_none, is_some, option_and_then}
 use Rattle.std.proofs.lemmas.Bool.{and_from, eqb-true}
@@ -210,10 +210,6 @@ settle-told l r st a o d true is keyless makes =
 settle-told l r st a o d false is keyless makes = absurd cc
 
 -- ---- any request
-
--- it has a key where it has to
-keyed-some : (key : Option (List ℕ)) → cond false (is_none key) (is_some key) ≡ true → is_some key ≡ true
-keyed-some key is = is
 
 abbrev Told : List Record → Record → Plan → Event → Type 0
 Told l r plan d = can_put_under l r plan.settings d ≡ true

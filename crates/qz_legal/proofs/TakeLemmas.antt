@@ -4,23 +4,17 @@ use Rattle.std.specs.List.{list_any}
 use Rattle.std.specs.Option.{option_copied}
 use Rattle.std.specs.Prelude.{filter, if◌then◌else◌, is_none, is_some, position, IfOk}
 use Rattle.std.proofs.lemmas.Option.{slice_get_cases}
-use Rattle.qz_grading.specs.declared.outcome.Moved.{Moved}
 use Rattle.qz_grading.specs.declared.refusal.AttemptId.{AttemptId}
-use Rattle.qz_grading.specs.declared.refusal.Refusal.{Refusal}
-use Rattle.qz_grading.specs.declared.response.Step.{Step}
-use Rattle.qz_grading.specs.Behaviours.{moved}
 use Rattle.qz_grading.specs.Grading.{is_place}
 use Rattle.qz_terms.specs.declared.people.Role.TheVariants as role
 use Rattle.qz_terms.specs.declared.record.Record.{Record}
 use Rattle.qz_terms.specs.Lists.{first_of}
-use Rattle.qz_terms.specs.History.{Slot, slot, slot_count, start, steps}
+use Rattle.qz_terms.specs.History.{slot, slot_count, start}
 use Rattle.qz_terms.proofs.Standing.{none-passes}
 use Rattle.qz_terms.proofs.Walks.{found_nowhere, found_up_to}
-use Rattle.qz_legal.specs.Allowed.{takes}
 use Rattle.qz_book.specs.Held.{IsSound}
-use Rattle.qz_book.specs.Plays.{IsMove}
 use Rattle.qz_legal.proofs.PutMade.{any-there, asker, begun-by, none-first, slot-there}
-use Rattle.qz_book.proofs.SlotLemmas.{slot-some, slot-steps}
+use Rattle.qz_book.proofs.SlotLemmas.{slot-some}
 
 -- ---- slots
 
@@ -28,15 +22,6 @@ pub place-slot : (h : List Record) (a : AttemptId) (k : ℕ) → IsSound h → i
 place-slot h a k sound place =
     let teacher = asker 0 role.Teacher in
     slot-some h teacher a k sound (slot-there h teacher a k (any-there h 0 role.Teacher a refl (begun-by (start h a) k place)) place)
-
-abbrev taken_as : List Record → AttemptId → ℕ → Step → Option Moved
-taken_as h a k x = if takes h a k x then Some (moved (steps h a k) x) else None
-
-pub taken-ok : (h : List Record) (a : AttemptId) (k : ℕ) (x : Step) (s : Slot) (m : Moved) → is_place (slot_count h a) k ≡ true → slot h a k ≡ Some s → IsMove s x (Ok m) → Some m ≡ taken_as h a k x
-taken-ok h a k x s m place is moves = rw (place, is, moves.0) (ap (λ (v : Moved). Some v) (moves.1 ∙ ap (λ (t : List Step). moved t x) (slot-steps h a k s is)))
-
-pub taken-err : (h : List Record) (a : AttemptId) (k : ℕ) (x : Step) (s : Slot) (r : Refusal) → is_place (slot_count h a) k ≡ true → slot h a k ≡ Some s → IsMove s x (Err r) → None ≡ taken_as h a k x
-taken-err h a k x s r place is refused = rw (place, is, refused) refl
 
 -- ---- keys
 

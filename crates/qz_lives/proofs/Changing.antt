@@ -131,14 +131,6 @@ pub record Begins (l : List Record) (r : Record) (a : AttemptId) (told : Start) 
   pub no_step : (k : ℕ) → step_in a k r ≡ None
   pub no_end : ends a r ≡ None
 
-none-of : {A : Type 0} (o : Option A) → is_some o ≡ false → o ≡ None
-none-of None is = refl
-none-of (Some x) is = absurd cc
-
-some-of : {A : Type 0} (o : Option A) → is_some o ≡ true → (x : A) × (o ≡ Some x)
-some-of None is = absurd cc
-some-of (Some x) is = (x, refl)
-
 fresh-at-by : (known : Known) (b : Behaviour) (bounds : List Bound) (runs : List Run) (k : ℕ) (d : Bound) (r : Run) (z : Bool) → AreFresh known b bounds runs → (if z then None else slice_get bounds (k - 1)) ≡ Some d → (if z then None else slice_get runs (k - 1)) ≡ Some r → IsFresh known b d r
 fresh-at-by known b bounds runs k d r true f is also = absurd cc
 fresh-at-by known b bounds runs k d r false f is also = f.each (k - 1) d r is also

@@ -30,9 +30,6 @@ get-other m n a b w u apart = u.2 (key_of b) (same-key a b ∙ apart)
 
 -- ---- what is written, or grown
 
-pub written-here : {X : Type 0} (m n : BTreeMap (ℕ × ℕ) X) (a : AttemptId) (w : Option X) → Updates by_number m n (key_of a) w → get by_number n (key_of a) ≡ w
-written-here m n a w u = u.1
-
 grown-by : {X : Type 0} (m n : BTreeMap (ℕ × ℕ) X) (a b : AttemptId) (d : X) (z : Bool) → same_attempt a b ≡ z → Updates by_number m n (key_of a) (Some d) → get by_number m (key_of a) ≡ None → unwrap_or (get by_number n (key_of b)) d ≡ unwrap_or (get by_number m (key_of b)) d
 grown-by m n a b d true is u none =
     let one = one-attempt a b is in

@@ -9,9 +9,6 @@ use Rattle.qz_usage.specs.Usages.{with_slot}
 pub same-item : {A : Type 0} (o : Option A) (x y : A) → o ≡ Some x → o ≡ Some y → x ≡ y
 same-item o x y one two = cc
 
-pub not-both : {A B : Type 0} (o : Option A) (x : A) → o ≡ Some x → o ≡ None → B
-not-both o x some none = absurd cc
-
 set-here : {A : Type 0} (xs : List A) (i : ℕ) (x y : A) → slice_get xs i ≡ Some x → slice_get (slice_set xs i y) i ≡ Some y
 set-here [] i x y is = absurd cc
 set-here (z ∷ zs) zero x y is = refl

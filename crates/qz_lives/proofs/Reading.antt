@@ -1,5 +1,5 @@
 -- What is read of the attempts that are kept.
-use Rattle.std.proofs.Common.{◌≡◌, ℕ, zero, suc, ◌+◌, ◌≤◌, true, false, List, [], ◌∷◌, ◌++◌, Option, Some, None, option_map, length, map, take, refl, sym, ap, subst, ◌∙◌, arith}
+use Rattle.std.proofs.Common.{◌≡◌, ℕ, zero, suc, ◌+◌, ◌≤◌, List, [], ◌∷◌, ◌++◌, Option, Some, None, option_map, length, map, take, refl, sym, ap, subst, ◌∙◌, arith}
 use Rattle.std.specs.Prelude.{ℤ, filter_map, option_and_then, option_to_list, zip}
 use Rattle.std.specs.List.{range_with_len}
 use Rattle.std.proofs.lemmas.List.{map-append, take_all}
@@ -10,7 +10,7 @@ use Rattle.qz_grading.specs.Grading.{at_place}
 use Rattle.qz_terms.specs.declared.record.How.{How}
 use Rattle.qz_terms.specs.declared.record.How.TheVariants as how
 use Rattle.qz_terms.specs.declared.record.Record.{Record}
-use Rattle.qz_terms.specs.History.{Slot, Start, ended, ended_finished, is_finished, slot, slot_count, slots, start, steps, total}
+use Rattle.qz_terms.specs.History.{Slot, Start, ended, slot, slot_count, slots, start, total}
 use Rattle.qz_terms.specs.History as history
 use Rattle.qz_terms.specs.Lists.{places_to}
 use Rattle.qz_terms.specs.Rows.{Scored, total_of}
@@ -22,9 +22,8 @@ use Rattle.qz_lives.specs.declared.live.Ending.{Ending}
 use Rattle.qz_lives.specs.declared.live.Live.{Live}
 use Rattle.qz_lives.specs.declared.lives.Lives.{Lives}
 use Rattle.qz_lives.specs.Attempts.{AreLives, IsSlot, IsSlotAt, IsTold, IsToldAs, begun_of, live_in, slot_of}
-use Rattle.qz_lives.specs.Ones.{has_finished, total_by, total_if}
+use Rattle.qz_lives.specs.Ones.{total_by, total_if}
 use Rattle.qz_lives.proofs.Loops.{at-next, has-run-by}
-use Rattle.qz_lives.proofs.Tellings.{made-of}
 
 -- ---- slots
 
@@ -40,10 +39,6 @@ few-by h a b (Some x) t is =
 
 pub few-slots : (m : Lives) (h : List Record) (a : AttemptId) (b : Begun) → AreLives m h → Some b ≡ option_map begun_of (start h a) → b.slots ≤ 200
 few-slots m h a b lives is = few-by h a b (live_in m a) (lives.attempts.each a) is
-
--- the steps of a run are those of its slot
-pub steps-of : (h : List Record) (a : AttemptId) (k : ℕ) (r : Run) → IsSlot h a k r → r.steps ≡ steps h a k
-steps-of h a k r p = ap (λ (x : Slot). x.steps) (made-of h a k (slot_of r p.question) p.slot_is).whole
 
 -- ---- a total
 
@@ -122,18 +117,3 @@ total-told h a x r t given =
     let scores : map history.scored (slots h a) ≡ map scored (zip x.slots all.questions) =
     sym (ap (λ (rs : List Run). map scored (zip rs all.questions)) (sym whole) ∙ all.count ∙ ap (λ (n : ℕ). map history.scored (filter_map (slot h a) (places_to n))) count) in
     given all.questions bound ∙ finished-by h a x.ending (total_of (map scored (zip x.slots all.questions))) t.how (ap total_of scores)
-
-pub told-of-some : (m : Lives) (h : List Record) (a : AttemptId) (x : Live) → AreLives m h → live_in m a ≡ Some x → IsTold h a x
-told-of-some m h a x lives is = subst (IsToldAs h a) is (lives.attempts.each a)
-
-none-by-how : (w v : How) (t : Option ℤ) → w ≡ v → ended_finished (Some w) ≡ false → None ≡ total_if t w
-none-by-how w how.Finished t is isnt = absurd (let finishes : ended_finished (Some w) ≡ true = rw is refl in cc)
-none-by-how w how.Abandoned t is isnt = rw is refl
-
-none-by : (o : Option Ending) (t : Option ℤ) → ended_finished (option_map (λ (e : Ending). e.how) o) ≡ false → None ≡ option_and_then (λ (e : Ending). total_if t e.how) o
-none-by None t isnt = refl
-none-by (Some e) t isnt = none-by-how e.how e.how t refl isnt
-
--- an attempt that isn't finished has no total
-pub unfinished-none : (l : Live) (qs : List Question) → has_finished l ≡ false → None ≡ total_by l qs
-unfinished-none l qs isnt = none-by l.ending (total_of (map scored (zip l.slots qs))) isnt

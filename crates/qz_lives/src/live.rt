@@ -6,7 +6,8 @@ ghost use Rattle.qz_grading.specs.declared.question.Question.{Question};
 ghost use Rattle.qz_grading.specs.Grading.{at_place};
 ghost use Rattle.qz_grading.specs.Steps.{is_save};
 ghost use Rattle.qz_usage.specs.Runs.{Run};
-ghost use Rattle.qz_usage.specs.Usages.{AreBound, IsTotal};
+ghost use Rattle.qz_terms.specs.Rows.{IsTotal};
+ghost use Rattle.qz_usage.specs.Usages.{AreBound};
 ghost use Rattle.qz_lives.specs.Runs.{AreFresh, CanBind, CanBindAt, CanFinish, CanOpen, CanTake, CanTakeAt, HasBound, HasBoundAt, HasTaken, HasTakenAt, HaveFinished, HaveRoom, IsRoomy};
 ghost use Rattle.qz_lives.specs.Ones.{IsRoomier, has_finished, total_by};
 

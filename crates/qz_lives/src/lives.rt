@@ -3,13 +3,12 @@
 ghost use Rattle.std.specs.Prelude.{◌≡◌, ◌+◌, ◌<◌, ◌≤◌, [], ◌∷◌, ◌++◌, ℕ, List, length, filter, option_map, IfOk, IfSome, OnErr, OnOk, true, is_some, Some};
 ghost use Rattle.std.specs.Option.{option_copied};
 ghost use Rattle.std.specs.BTreeMap.{get};
-ghost use Rattle.qz_grading.specs.Steps.{is_answering, is_save};
+ghost use Rattle.qz_grading.specs.Steps.{is_save};
 ghost use Rattle.qz_grading.specs.declared.refusal.AttemptId.{AttemptId};
 ghost use Rattle.qz_terms.specs.declared.record.Record.{Record};
 ghost use Rattle.qz_terms.specs.History as history;
-ghost use Rattle.qz_usage.specs.Usages.{IsTotal};
+ghost use Rattle.qz_terms.specs.Rows.{IsTotal};
 ghost use Rattle.qz_decimal.specs.Numbers.{IsMaxMark, IsMaxSum, IsQuizGrade, IsSlotMark};
-ghost use Rattle.qz_terms.specs.Lists.{how_many};
 ghost use Rattle.qz_usage.specs.Runs.{Run, bound_of};
 ghost use Rattle.qz_lives.specs.declared.live.Live.{Live};
 ghost use Rattle.qz_lives.specs.Attempts.{AreLives, IsSlotAt, begun_of, by_number, finished_in, goes_on_in, key_of, live_in, run_in};
@@ -48,13 +47,6 @@ fn key_of(attempt: AttemptId) -> (u32, u32)
     ensures { result ≡ key_of attempt }
 {
     (attempt.user, attempt.nth)
-}
-
-/// How many of these steps are a Save, a Submit or an Again.
-fn answering(steps: &[Step]) -> usize
-    ensures { result ≡ how_many is_answering steps.now }
-{
-    steps.iter().filter(|step| step.is_answering()).count()
 }
 
 impl Lives {
@@ -150,17 +142,6 @@ impl Lives {
         match self.slot(attempt, slot) {
             Some(run) => (run.state(), run.mark()),
             None => (State::Todo, None),
-        }
-    }
-
-    /// How many Save, Submit and Again steps a slot has taken, at most 10,000; none where there is no such slot.
-    pub fn answering(&self, attempt: AttemptId, slot: u16) -> usize
-        ensures { (h : List Record) → AreLives self.now h → is_some (history.slot h attempt slot) ≡ true
-            → result ≡ how_many is_answering (history.steps h attempt slot) }
-    {
-        match self.slot(attempt, slot) {
-            Some(run) => answering(run.steps()),
-            None => 0,
         }
     }
 

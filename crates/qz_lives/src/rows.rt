@@ -2,7 +2,7 @@
 
 ghost use Rattle.std.specs.BTreeMap.{get};
 ghost use Rattle.std.specs.Prelude.{◌≡◌, ◌<◌, ℕ, IfSome, OnOk, true, is_some};
-ghost use Rattle.qz_usage.specs.Usages.{IsTotal};
+ghost use Rattle.qz_terms.specs.Rows.{IsTotal};
 ghost use Rattle.qz_lives.specs.Attempts.{by_number, finished_in};
 ghost use Rattle.qz_lives.specs.Changes.{HasRow, HasRowRoom, row_with};
 

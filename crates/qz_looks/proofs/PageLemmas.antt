@@ -1,20 +1,15 @@
 -- A page: one part more at a time, and the feedback of a response.
-use Rattle.std.proofs.Common.{◌≡◌, ℕ, suc, ◌+◌, Bool, true, false, not, List, [], ◌∷◌, ◌++◌, Option, Some, None, append-nil, map, take, refl, sym, ap, ◌∙◌, arith}
+use Rattle.std.proofs.Common.{◌≡◌, ℕ, suc, ◌+◌, Bool, true, false, not, List, [], ◌∷◌, ◌++◌, Some, None, append-nil, map, take, refl, sym, ap, ◌∙◌, arith}
 use Rattle.std.specs.List.{prefix_len}
-use Rattle.std.specs.Prelude.{filter, filter_map, option_map, unwrap_or}
-use Rattle.qz_grading.specs.declared.question.Kind.{Kind}
-use Rattle.qz_grading.specs.declared.question.Kind.TheVariants as kind
-use Rattle.qz_grading.specs.declared.question.Rich.{Rich}
+use Rattle.std.specs.Prelude.{filter_map}
 use Rattle.qz_grading.specs.declared.refusal.AttemptId.{AttemptId}
-use Rattle.qz_grading.specs.declared.response.Answer.TheVariants as answer
 use Rattle.qz_grading.specs.declared.response.Step.{Step}
 use Rattle.qz_grading.specs.Steps.{before, is_finish}
 use Rattle.qz_terms.specs.declared.record.Record.{Record}
 use Rattle.qz_terms.specs.declared.reply.Part.{Part}
 use Rattle.qz_terms.specs.History.{Slot, slot}
 use Rattle.qz_terms.specs.Lists.{places_to}
-use Rattle.qz_terms.specs.Parts.{feedbacks_by, nonempty, part}
-use Rattle.qz_looks.specs.Pages.{alone}
+use Rattle.qz_terms.specs.Parts.{part}
 use Rattle.qz_book.proofs.PlayLemmas.{slots-more}
 
 -- ---- a part for each slot
@@ -30,32 +25,6 @@ parts-more visible h a n ps p s so_far is made =
 
 pub parts-same : (visible : Bool) (h : List Record) (a : AttemptId) (n : ℕ) (ps : List Part) → ps ≡ parts_to visible h a n → slot h a (n + 1) ≡ None → ps ≡ parts_to visible h a (n + 1)
 parts-same visible h a n ps so_far is = so_far ∙ sym (append-nil (parts_to visible h a n)) ∙ sym (slots-more (part visible) h a n None is)
-
--- ---- feedback
-
-pub alone-text : (o : Option Rich) → alone o ≡ filter nonempty (unwrap_or (option_map (λ (r : Rich). r.text) o) [] ∷ [])
-alone-text None = refl
-alone-text (Some r) = refl
-
-pub blank-told : (k : Kind) → feedbacks_by k answer.Blank ≡ []
-blank-told kind.Description = refl
-blank-told kind.Essay = refl
-blank-told (kind.TrueFalse right on_wrong on_right) = refl
-blank-told (kind.One choices) = refl
-blank-told (kind.Several choices) = refl
-blank-told (kind.Matching pairs) = refl
-blank-told (kind.ShortAnswer answers) = refl
-blank-told (kind.Numerical answers) = refl
-
-pub match-told : (k : Kind) (ns : List ℕ) → feedbacks_by k (answer.Match ns) ≡ []
-match-told kind.Description ns = refl
-match-told kind.Essay ns = refl
-match-told (kind.TrueFalse right on_wrong on_right) ns = refl
-match-told (kind.One choices) ns = refl
-match-told (kind.Several choices) ns = refl
-match-told (kind.Matching pairs) ns = refl
-match-told (kind.ShortAnswer answers) ns = refl
-match-told (kind.Numerical answers) ns = refl
 
 -- ---- steps before a finish
 

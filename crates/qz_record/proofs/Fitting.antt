@@ -1,13 +1,11 @@
 -- What is written of a value whose Rust type keeps its numbers in their ranges: at least one byte, and one that fits where they are few.
-use Rattle.std.proofs.Common.{◌≡◌, ℕ, ◌+◌, ◌-◌, ◌^◌, ◌<◌, ◌≤◌, Bool, true, false, ◌&&◌, ltb, List, [], ◌∷◌, ◌++◌, length, get_or, take, ℤ, Result, Ok, Err, OnOk, refl, sym, ap, subst, ◌∙◌, arith}
+use Rattle.std.proofs.Common.{◌≡◌, ℕ, ◌+◌, ◌-◌, ◌^◌, ◌<◌, ◌≤◌, Bool, true, false, ◌&&◌, ltb, List, [], ◌∷◌, ◌++◌, length, ℤ, Result, Ok, Err, OnOk, refl, arith}
 use mir.Val.{SFits}
 use Rattle.std.specs.Int.{to_le_bytes, w16, w32, w64, w128}
 use Rattle.std.specs.List.{flat_map, list_all}
 use Rattle.std.specs.Str.{is_utf8}
 use Rattle.std.proofs.lemmas.Bool.{and_from, lt-ltb}
-use Rattle.std.proofs.lemmas.List.{append-nil, length-append, take_more}
-use Rattle.std.proofs.lemmas.List.Concat.{flat_map-append}
-use Rattle.std.proofs.lemmas.List.Folds.{list_all-append}
+use Rattle.std.proofs.lemmas.List.{length-append}
 use Rattle.qz_terms.specs.declared.record.How.{How}
 use Rattle.qz_terms.specs.declared.record.How.TheVariants as how
 use Rattle.qz_terms.specs.declared.access.Handling.{Handling}
@@ -90,19 +88,6 @@ utf8 t is = record {
 pub record AreFit {A : Type 0} (f : Field A) (bytes : A → List ℕ) (xs : List A) : Type 0 where
   pub count : length xs ≤ length (flat_map bytes xs)
   pub fits : length (flat_map bytes xs) < 2 ^ 32 → list_all f.fits xs ≡ true
-
-pub none_are : {A : Type 0} (f : Field A) (bytes : A → List ℕ) (xs : List A) → AreFit f bytes (take 0 xs)
-none_are f bytes xs = record { count = omega arith; fits = λ short. refl }
-
-pub more_are : {A : Type 0} (f : Field A) (bytes : A → List ℕ) (xs : List A) (i : ℕ) (x : A) → i < length xs → x ≡ get_or xs i x → AreFit f bytes (take i xs) → IsFit (bytes x) (f.fits x) → AreFit f bytes (take (i + 1) xs)
-more_are {A} f bytes xs i x lt is are here =
-    let longer : take (i + 1) xs ≡ take i xs ++ x ∷ [] = take_more xs i x lt ∙ ap (λ (y : A). take i xs ++ y ∷ []) (sym is) in
-    let split : flat_map bytes (take i xs ++ x ∷ []) ≡ flat_map bytes (take i xs) ++ bytes x = flat_map-append bytes (take i xs) (x ∷ []) ∙ ap (λ (l : List ℕ). flat_map bytes (take i xs) ++ l) (append-nil (bytes x)) in
-    let len : length (flat_map bytes (take i xs ++ x ∷ [])) ≡ length (flat_map bytes (take i xs)) + length (bytes x) = ap (λ (l : List ℕ). length l) split ∙ length-append (flat_map bytes (take i xs)) (bytes x) in
-    subst (AreFit f bytes) (sym longer) (record {
-      count = omega (arith, length-append (take i xs) (x ∷ []), len, are.count, here.some);
-      fits = λ short. list_all-append f.fits (take i xs) (x ∷ []) ∙ and_from (list_all f.fits (take i xs)) (f.fits x && true) (are.fits (omega (arith, len, short))) (and_from (f.fits x) true (here.fits (omega (arith, len, short))) refl);
-    })
 
 pub list : {A : Type 0} (f : Field A) (bytes : A → List ℕ) (xs : List A) → AreFit f bytes xs → IsFit (list_bytes bytes xs) ((list_field f).fits xs)
 unfolding list_field

@@ -16,11 +16,8 @@ ghost use Rattle.qz_record.specs.Records.{keeps_described};
 use crate::lengths::{MOST_TEXT, has_short_texts, is_short_together};
 use qz_decimal::{Fraction, Grade, ONE};
 use qz_grading::{Answer, Item, Kind, Question, Response, Step, is_sound};
-use qz_terms::{Bound, Event, Learned, Record, Request, Settings};
+use qz_terms::{Bound, Event, GREATEST_MOMENT, Learned, Record, Request, Settings};
 use qz_text::Text;
-
-/// The last moment, in seconds since 1970.
-const LAST_MOMENT: u64 = 4_102_444_799;
 
 /// The longest time, in seconds: a year of 365 days.
 const LONGEST: u32 = 31_536_000;
@@ -49,7 +46,7 @@ const GREATEST_GRADE: i128 = 10_000 * 100_000;
 fn is_moment(moment: u64) -> bool
     ensures { result ≡ is_moment moment }
 {
-    moment <= LAST_MOMENT
+    moment <= GREATEST_MOMENT
 }
 
 fn is_duration(seconds: u32) -> bool

@@ -4,7 +4,6 @@ ghost use Rattle.std.specs.Prelude.{◌≡◌};
 ghost use Rattle.qz_record.specs.declared.list_fault.ListFault.TheVariants.{Memory};
 
 use qz_text::NoMemory;
-use std::alloc::{AllocError, AllocFailed};
 
 /// Why no list of records was read.
 #[derive(Clone, Copy, Debug, PartialEq, Eq)]
@@ -19,14 +18,6 @@ impl From<NoMemory> for ListFault {
     ghost from_gives = { λ _ e. e ≡ Memory };
 
     fn from(_: NoMemory) -> Self {
-        ListFault::Memory
-    }
-}
-
-impl<T: Drop> From<AllocFailed<T>> for ListFault {
-    ghost from_gives = { λ _ e. e ≡ Memory };
-
-    fn from(_: AllocFailed<T>) -> Self {
         ListFault::Memory
     }
 }

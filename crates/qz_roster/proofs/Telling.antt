@@ -1,20 +1,20 @@
 -- What the records of a list tell, counted and numbered from 1.
-use Rattle.std.proofs.Common.{◌≡◌, ℕ, zero, suc, ◌+◌, ◌-◌, ◌<◌, ◌≤◌, inl, inr, Bool, true, false, not, List, [], ◌∷◌, ◌++◌, Option, Some, None, option_map, length, take, get_or, map, refl, sym, ap, ◌∙◌, arith, length-append, append-nil}
+use Rattle.std.proofs.Common.{◌≡◌, ℕ, zero, suc, ◌+◌, ◌-◌, ◌<◌, ◌≤◌, inl, inr, Bool, true, false, not, List, [], ◌∷◌, ◌++◌, Option, Some, None, option_map, length, map, refl, sym, ap, ◌∙◌, arith, length-append, append-nil}
 use Rattle.std.specs.Int.{from_bool}
 use Rattle.std.specs.List.{enumerate_from, list_any}
 use Rattle.std.specs.Option.{option_or}
-use Rattle.std.specs.Prelude.{◌==◌, filter, filter_map, if◌then◌else◌, is_none, is_some, option_and_then, option_to_list, position, slice_get}
+use Rattle.std.specs.Prelude.{◌==◌, filter, if◌then◌else◌, is_none, is_some, option_and_then, option_to_list, position, slice_get}
 use Rattle.std.proofs.Math.Dec.{eqb-suc-suc, eqb-zero-suc}
 use Rattle.std.proofs.lemmas.Bool.{eqb-true, eqb-false}
 use Rattle.std.proofs.lemmas.Bool.Decides.{nat_tests}
-use Rattle.std.proofs.lemmas.List.{length-take-le, take_all}
+use Rattle.std.proofs.lemmas.List.{length-take-le}
 use Rattle.std.proofs.lemmas.Option.{slice_get_past, slice_get_cases}
 use Rattle.qz_lemmas.proofs.Options.{or-none}
 use Rattle.qz_grading.specs.Grading.{at_place, is_place}
 use Rattle.qz_grading.specs.declared.refusal.Refusal.{Refusal}
 use Rattle.qz_grading.specs.Behaviours.{when}
 use Rattle.qz_terms.specs.Lists.{first_of, only_if, up_to_first}
-use Rattle.qz_terms.proofs.Walks.{all_kept, found_up_to, option_map-either}
+use Rattle.qz_terms.proofs.Walks.{found_up_to}
 
 -- ---- the place of the first that passes
 
@@ -86,65 +86,9 @@ pub count-more : {A : Type 0} (xs : List A) (o : Option A) → length (xs ++ opt
 count-more xs None = length-append xs []
 count-more xs (Some x) = length-append xs (x ∷ [])
 
-pub count-kept : {A B : Type 0} (f : A → Option B) (xs : List A) (i : ℕ) (x : A) → i < length xs → x ≡ get_or xs i x → length (filter_map f (take (i + 1) xs)) ≡ length (filter_map f (take i xs)) + from_bool (is_some (f x))
-count-kept f xs i x inside is = ap (λ (l : List _). length l) (all_kept f xs i x inside is) ∙ count-more (filter_map f (take i xs)) (f x)
-
-pub at-kept : {A B : Type 0} (f : A → Option B) (xs : List A) (i n : ℕ) (x : A) → i < length xs → x ≡ get_or xs i x → at_place (filter_map f (take (i + 1) xs)) n ≡ option_or (at_place (filter_map f (take i xs)) n) (if length (filter_map f (take i xs)) + from_bool (is_some (f x)) == n then f x else None)
-at-kept f xs i n x inside is = ap (λ (l : List _). at_place l n) (all_kept f xs i x inside is) ∙ at-more (filter_map f (take i xs)) (f x) n
-
-pub some-viewed : {A B : Type 0} (v : A → B) (o : Option A) → is_some (option_map v o) ≡ is_some o
-some-viewed v None = refl
-some-viewed v (Some x) = refl
-
-pub if-viewed : {A B : Type 0} (v : A → B) (o : Option A) (b : Bool) → option_map v (if b then o else None) ≡ (if b then option_map v o else None)
-if-viewed v o true = refl
-if-viewed v o false = refl
-
-pub same-viewed : {A : Type 0} (o : Option A) → option_map (λ (x : A). x) o ≡ o
-same-viewed None = refl
-same-viewed (Some x) = refl
-
 pub more-few : (count i more : ℕ) (b : Bool) → more ≡ from_bool b → count ≤ i → count + more ≤ i + 1
 more-few count i more true is few = omega arith
 more-few count i more false is few = omega arith
-
--- how many a walk has met so far
-pub record IsCounted {A B : Type 0} (f : A → Option B) (xs : List A) (i met : ℕ) : Type 0 where
-  pub few : met ≤ i
-  pub count : met ≡ length (filter_map f (take i xs))
-
-pub counted-more : {A B : Type 0} (f : A → Option B) (xs : List A) (i count more : ℕ) (x : A) → i < length xs → x ≡ get_or xs i x → more ≡ from_bool (is_some (f x)) → IsCounted f xs i count → IsCounted f xs (i + 1) (count + more)
-counted-more f xs i count more x inside is more_is counted = record {
-  few = more-few count i more (is_some (f x)) more_is counted.few;
-  count = ap (λ k. k + more) counted.count ∙ ap (λ k. length (filter_map f (take i xs)) + k) more_is ∙ sym (count-kept f xs i x inside is);
-}
-
-pub counted-all : {A B : Type 0} (f : A → Option B) (xs : List A) (i count : ℕ) → length xs ≤ i → IsCounted f xs i count → count ≡ length (filter_map f xs)
-counted-all f xs i count past counted = counted.count ∙ ap (λ (l : List _). length (filter_map f l)) (take_all i xs past)
-
--- what a walk has found so far of what is told with a number, and how many it has met
-pub record IsMet {A B C : Type 0} (v : C → B) (f : A → Option B) (xs : List A) (i n met : ℕ) (known : Option C) : Type 0 where
-  pub few : met ≤ i
-  pub count : met ≡ length (filter_map f (take i xs))
-  pub found : option_map v known ≡ at_place (filter_map f (take i xs)) n
-
-pub met-more : {A B C : Type 0} (v : C → B) (f : A → Option B) (xs : List A) (i n count more : ℕ) (found told here : Option C) (x : A) → i < length xs → x ≡ get_or xs i x → option_map v told ≡ f x
-    → more ≡ from_bool (is_some told) → here ≡ (if count + more == n then told else None) → IsMet v f xs i n count found → IsMet v f xs (i + 1) n (count + more) (option_or found here)
-met-more v f xs i n count more found told here x inside is tells more_is here_is met =
-    let same : is_some told ≡ is_some (f x) = sym (some-viewed v told) ∙ ap is_some tells in
-    let one : more ≡ from_bool (is_some (f x)) = more_is ∙ ap from_bool same in
-    let longer : count + more ≡ length (filter_map f (take i xs)) + from_bool (is_some (f x)) = ap (λ k. k + more) met.count ∙ ap (λ k. length (filter_map f (take i xs)) + k) one in
-    record {
-      few = let few = met.few in more-few count i more (is_some told) more_is few;
-      count = longer ∙ sym (count-kept f xs i x inside is);
-      found = option_map-either v found here
-          ∙ ap (λ (o : Option _). option_or o (option_map v here)) met.found
-          ∙ ap (λ (o : Option _). option_or (at_place (filter_map f (take i xs)) n) (option_map v o)) here_is
-          ∙ ap (λ (o : Option _). option_or (at_place (filter_map f (take i xs)) n) o) (if-viewed v told (count + more == n))
-          ∙ ap (λ (o : Option _). option_or (at_place (filter_map f (take i xs)) n) (if count + more == n then o else None)) tells
-          ∙ ap (λ k. option_or (at_place (filter_map f (take i xs)) n) (if k == n then f x else None)) longer
-          ∙ sym (at-kept f xs i n x inside is);
-    }
 
 -- ---- what is there
 

@@ -10,7 +10,6 @@ use Rattle.qz_terms.specs.declared.ask.Ask.{Ask}
 use Rattle.qz_terms.specs.declared.people.User.{User}
 use Rattle.qz_terms.specs.declared.plan.Plan.{Plan}
 use Rattle.qz_terms.specs.declared.record.Record.{Record}
-use Rattle.qz_terms.specs.declared.reply.Done.{Done}
 use Rattle.qz_terms.specs.declared.reply.Reply.TheVariants as reply
 use Rattle.qz_terms.specs.declared.request.Request.{Request}
 use Rattle.qz_terms.specs.declared.request.Request.TheVariants as request
@@ -25,9 +24,6 @@ use Rattle.qz_terms.specs.Serial.{is_report}
 use Rattle.qz_terms.proofs.Joined.{joined_law}
 use Rattle.qz_serial.specs.Paths.{goes_to_part}
 use Rattle.qz_serial.proofs.Plans.{planned-quiz}
-
-pub not-ok : (r : Refusal) (place : ℕ) (d : Done) → reply.Refused r ≡ reply.Ok place d → ⊥
-not-ok r place d told = cc
 
 pub keyless-by : (ask : Ask) (b : Bool) → is_keyless ask.request ≡ b → b ≡ true → is_keyed ask ≡ true → ask.key ≡ None
 keyless-by ask true is keyless keyed = none-of ask.key (rw is at keyed)
@@ -95,10 +91,6 @@ keyed-by ask true is keyed some = absurd (both ask.key (rw is at keyed) some)
     both (Some key) none some = absurd cc
 keyed-by ask false is keyed some = refl
 
-pub only-first : (o : Option Refusal) → first_some (o ∷ None ∷ []) ≡ o
-only-first None = refl
-only-first (Some r) = refl
-
 pub anywhere : (n : ℕ) (x : Request) → asks_catalog x ≡ true → missing_shard n x ≡ None
 anywhere n (request.Work job shard) of_catalog = absurd cc
 anywhere n (request.Live shard attempt) of_catalog = absurd cc
@@ -125,20 +117,6 @@ pub refused-here : (c : List Record) (now : ℕ) (user : User) (ask : Ask) (r : 
 refused-here c now user ask r (Some s) m may there refused = rw may (ap Denied cc)
 refused-here c now user ask r None (Some s) may there refused = rw (may, there) (ap Denied cc)
 refused-here c now user ask r None None may there refused = absurd cc
-
-pub planless : (c h : List Record) (user : User) (x : Request) → asks_catalog x ≡ true → plan_for c h user x ≡ None
-planless c h user (request.Start q) of_catalog = absurd cc
-planless c h user (request.Grade q u) of_catalog = absurd cc
-planless c h user (request.Save a k certainty response) of_catalog = absurd cc
-planless c h user (request.Submit a k certainty response) of_catalog = absurd cc
-planless c h user (request.Again a k) of_catalog = absurd cc
-planless c h user (request.Finish a) of_catalog = absurd cc
-planless c h user (request.Mark a k mark) of_catalog = absurd cc
-planless c h user (request.Settle a) of_catalog = absurd cc
-planless c h user (request.View a k) of_catalog = absurd cc
-planless c h user (request.Total a) of_catalog = absurd cc
-planless c h user (request.Page a) of_catalog = absurd cc
-planless c h user x of_catalog = refl
 
 -- it is answered as the catalogue says, whether it is refused first or not
 pub record IsRecorded (c : List Record) (ps : List (List Record)) (now : ℕ) (user : User) (ask : Ask) : Type 0 where

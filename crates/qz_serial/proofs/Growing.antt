@@ -109,15 +109,6 @@ plan_grown c h g user x plan grows is = subst (λ (l : List Record). plan_for c 
 
 -- ---- one of each
 
-pub same-some : {A : Type 0} (o : Option A) (x y : A) → o ≡ Some x → o ≡ Some y → x ≡ y
-same-some o x y one other = cc
-
-pub some-none : {A : Type 0} (o : Option A) (x : A) → o ≡ Some x → o ≡ None → ⊥
-some-none o x one other = cc
-
-pub one_user : (c : List Record) (ask : Ask) (u v : User) → catalog.user_of c ask.caller ≡ Some u → catalog.user_of c ask.caller ≡ Some v → u ≡ v
-one_user c ask u v one other = same-some (catalog.user_of c ask.caller) u v one other
-
 pub no-verdict : (is_same : Record → Bool) (caller : ℕ) (key : Option (List ℕ)) (l : List Record) (v : Verdict) → key ≡ None → by_key is_same caller key l ≡ Some v → ⊥
 no-verdict is_same caller None l v none found = absurd cc
 no-verdict is_same caller (Some key) l v none found = absurd cc

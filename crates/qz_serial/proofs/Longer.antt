@@ -1,15 +1,11 @@
 -- What stands in a catalogue stands in a longer one.
-use Rattle.std.proofs.Common.{◌≡◌, ℕ, zero, suc, ◌+◌, ◌-◌, ◌<◌, ◌≤◌, Bool, true, false, ◌&&◌, List, [], ◌∷◌, ◌++◌, Option, Some, None, length, map, take, option_map, refl, sym, ap, ◌∙◌, arith, length-append}
+use Rattle.std.proofs.Common.{◌≡◌, ℕ, zero, suc, ◌+◌, ◌-◌, ◌<◌, ◌≤◌, Bool, true, false, List, [], ◌∷◌, ◌++◌, Option, Some, None, length, map, take, refl, sym, ap, ◌∙◌, arith}
 use Rattle.std.specs.List.{enumerate_from}
-use Rattle.std.specs.Prelude.{◌==◌, filter, filter_map, fold, if◌then◌else◌, is_none, is_some, nat_le, option_and_then, slice_get}
-use Rattle.std.proofs.lemmas.Bool.{leb-true, le-leb}
-use Rattle.std.proofs.lemmas.Grind.{flat_map-append}
+use Rattle.std.specs.Prelude.{◌==◌, filter, filter_map, is_none, is_some, option_and_then, slice_get}
 use Rattle.std.proofs.lemmas.List.{take-append-le}
 use Rattle.std.proofs.lemmas.List.Elements.{filter-append, filter_map-append}
 use Rattle.std.proofs.lemmas.List.Folds.{list_any-append}
 use Rattle.qz_grading.specs.declared.outcome.Behaviour.{Behaviour}
-use Rattle.qz_grading.specs.declared.question.Item.{Item}
-use Rattle.qz_grading.specs.declared.question.Question.{Question}
 use Rattle.qz_grading.specs.declared.refusal.Refusal.{Refusal}
 use Rattle.qz_grading.specs.declared.refusal.Refusal.TheVariants as refusal
 use Rattle.qz_grading.specs.declared.refusal.Thing.TheVariants as thing
@@ -24,17 +20,19 @@ use Rattle.qz_terms.specs.declared.request.Request.{Request}
 use Rattle.qz_terms.specs.declared.request.Request.TheVariants as request
 use Rattle.qz_terms.specs.declared.request.Whom.{Whom}
 use Rattle.qz_terms.specs.declared.request.Whom.TheVariants as whom
-use Rattle.qz_terms.specs.Catalog.{Person, asked, changed_by, changes, entries, group_by, groups, has_token, imports_by, is_ready, job, job_with, jobs, made_user, plan, quiz_by, quizzes, readies, regrade_by, slot_by, slots, slots_made, user_of, user_with, users, version}
+use Rattle.qz_terms.specs.Catalog.{Person, asked, entries, group_by, groups, has_token, is_ready, job, job_with, jobs, made_user, plan, quiz_by, quizzes, readies, regrade_by, slot_by, slots, slots_made, user_of, user_with, users, version}
 use Rattle.qz_terms.specs.Catalog as catalog
 use Rattle.qz_terms.specs.Cause.{forbidden, missing_entry, missing_group, missing_in, missing_quiz, missing_user, missing_whom}
 use Rattle.qz_terms.specs.History as history
 use Rattle.qz_terms.specs.Lists.{first_of}
 use Rattle.qz_terms.specs.SchoolAnswer.{first_refusal, plan_for}
 use Rattle.qz_terms.proofs.Readings.{first_of-append}
+use Rattle.qz_terms.proofs.Staying.{at-append, entries-append, entry-stays}
+pub use Rattle.qz_terms.proofs.Staying.{version-stays}
 use Rattle.qz_serial.specs.Staying.{StaysThere}
-use Rattle.qz_serial.proofs.Places.{at-append, kept-there, numbered-append, numbered-there, numbered-told-append, present-append, some-there}
+use Rattle.qz_serial.proofs.Places.{kept-there, numbered-append, numbered-there, numbered-told-append, present-append, some-there}
 
--- ---- users, entries and versions
+-- ---- users and groups
 
 abbrev pub later-users : List Record → List Record → List User
 later-users c rest = map (λ (u : ℕ × Person). user_with u.0 u.1) (enumerate_from (1 + length (filter_map made_user c)) (filter_map made_user rest))
@@ -56,40 +54,6 @@ caller-stays c rest caller.Worker u found = found
 
 groups-append : (c rest : List Record) → groups (c ++ rest) ≡ groups c ++ groups rest
 groups-append c rest = filter_map-append (λ r. group_by (asked r)) c rest
-
-entries-append : (c rest : List Record) → entries (c ++ rest) ≡ entries c ++ entries rest
-entries-append c rest = flat_map-append (λ (r : Record). imports_by (asked r)) c rest
-
-entry-stays : (c rest : List Record) (n : ℕ) (i : Item) → at_place (entries c) n ≡ Some i → at_place (entries (c ++ rest)) n ≡ Some i
-entry-stays c rest n i found = rw (entries-append c rest) (at-append (entries c) (entries rest) n i found)
-
--- a version of an entry with these changes
-abbrev told : Option Item → ℕ → List Request → Option Question
-told o n xs = if nat_le 1 n && nat_le n (if is_some o then length xs + 1 else 0) then option_map (λ (i : Item). fold changed_by i.question (take (n - 1) xs)) o else None
-
-told-none : (n : ℕ) (xs : List Request) (b : Bool) → (nat_le 1 n && nat_le n 0) ≡ b → told None n xs ≡ None
-told-none n xs true is = rw is refl
-told-none n xs false is = rw is refl
-
-told-longer : (i : Item) (n : ℕ) (xs ys : List Request) (q : Question) (a b : Bool) → nat_le 1 n ≡ a → nat_le n (length xs + 1) ≡ b → told (Some i) n xs ≡ Some q → told (Some i) n (xs ++ ys) ≡ Some q
-told-longer i n xs ys q true true low high found =
-    let within : n ≤ length xs + 1 = leb-true n (length xs + 1) high in
-    let above : 1 ≤ n = leb-true 1 n low in
-    let front : take (n - 1) (xs ++ ys) ≡ take (n - 1) xs = take-append-le (n - 1) xs ys (omega arith) in
-    let more : nat_le n (length (xs ++ ys) + 1) ≡ true = le-leb n (length (xs ++ ys) + 1) (omega (arith, length-append xs ys)) in
-    let here : Some (fold changed_by i.question (take (n - 1) xs)) ≡ Some q = rw (low, high) at found in
-    rw (low, more, front) here
-told-longer i n xs ys q true false low high found = let none : None ≡ Some q = rw (low, high) at found in absurd cc
-told-longer i n xs ys q false b low high found = let none : None ≡ Some q = rw low at found in absurd cc
-
-told-stays : (o p : Option Item) (n : ℕ) (xs ys : List Request) (q : Question) → ((i : Item) → o ≡ Some i → p ≡ Some i) → told o n xs ≡ Some q → told p n (xs ++ ys) ≡ Some q
-told-stays None p n xs ys q same found = let none : None ≡ Some q = sym (told-none n xs (nat_le 1 n && nat_le n 0) refl) ∙ found in absurd cc
-told-stays (Some i) p n xs ys q same found = rw (same i refl) (told-longer i n xs ys q (nat_le 1 n) (nat_le n (length xs + 1)) refl refl found)
-
-pub version-stays : (c rest : List Record) (e n : ℕ) (q : Question) → version c e n ≡ Some q → version (c ++ rest) e n ≡ Some q
-version-stays c rest e n q found =
-    let more : changes (c ++ rest) e ≡ changes c e ++ changes rest e = filter_map-append (λ r. catalog.changes_by e (asked r)) c rest in
-    rw more (told-stays (at_place (entries c) e) (at_place (entries (c ++ rest)) e) n (changes c e) (changes rest e) q (λ i at. entry-stays c rest e i at) found)
 
 -- ---- quizzes
 

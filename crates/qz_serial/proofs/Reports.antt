@@ -134,10 +134,6 @@ report-ways a m parts ask user quiz w count =
     let asked : shards_asked l ask ≡ in_order 0 (length parts) = rw (kind, reporting-found a m parts ask user quiz w count) refl in
     ap (route l ask) w.known.caller_is ∙ ap (λ (rest : List (Option ℕ)). None ∷ rest) asked
 
--- of the shards before this one none is in doubt
-AreClear : ℕ → Held → List Held → Type 0
-AreClear i m parts = (k : ℕ) → k < i → is_in_doubt (with_parts m parts) (Some k) ≡ false
-
 clear-by : (m : Held) (parts : List Held) (k : ℕ) (o : Option Held) → slice_get parts k ≡ o → ((h : Held) → slice_get parts k ≡ Some h → h.doubt ≡ None) → is_in_doubt (with_parts m parts) (Some k) ≡ false
 clear-by m parts k None there clear = rw there refl
 clear-by m parts k (Some h) there clear = let none : h.doubt ≡ None = clear h there in rw (there, none) refl

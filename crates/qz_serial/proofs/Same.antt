@@ -21,7 +21,7 @@ use Rattle.qz_grading.specs.Sameness.{all_same, same_bank, same_bool, same_choic
 use Rattle.qz_terms.specs.declared.request.Request.{Request}
 use Rattle.qz_terms.specs.declared.request.Request.TheVariants as request
 use Rattle.qz_terms.specs.CatalogAnswer.{keeps_record}
-use Rattle.qz_terms.specs.Sameness.{same_request, same_setting, same_word}
+use Rattle.qz_terms.specs.Sameness.{same_request, same_setting}
 use Rattle.qz_terms.specs.Spelling.{behaviour_bytes, handling_bytes, method_bytes, review_bytes, role_bytes, whom_bytes}
 use Rattle.qz_terms.proofs.Standing.{bytes-same}
 
@@ -30,9 +30,6 @@ number-same n = eq-eqb n n refl
 
 mark-same : (m : ℤ) → int_eq m m ≡ true
 mark-same m = (Decides-int_eq m m).1 refl
-
-word-same : {A : Type 0} (code : A → List ℕ) (a : A) → same_word code a a ≡ true
-word-same code a = bytes-same (code a)
 
 both : (a b : Bool) → a ≡ true → b ≡ true → a && b ≡ true
 both a b one other = rw (one, other) refl

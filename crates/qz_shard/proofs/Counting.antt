@@ -1,6 +1,6 @@
 -- How often what a request puts grades, by the request.
-use Rattle.std.proofs.Common.{◌≡◌, ℕ, ◌+◌, ◌≤◌, Bool, true, false, List, [], ◌∷◌, ◌++◌, Option, Some, None, Result, Ok, Err, length, length-append, refl, ap, subst, ◌∙◌, arith, option_map}
-use Rattle.std.specs.Prelude.{IfOk, OnErr, if◌then◌else◌, option_and_then}
+use Rattle.std.proofs.Common.{◌≡◌, ℕ, ◌+◌, ◌≤◌, Bool, true, false, List, Option, Some, None, length, refl, ap, subst, arith, option_map}
+use Rattle.std.specs.Prelude.{if◌then◌else◌, option_and_then}
 use Rattle.qz_grading.specs.declared.outcome.Moved.{Moved}
 use Rattle.qz_grading.specs.declared.outcome.Moved.TheVariants as moved_as
 use Rattle.qz_grading.specs.declared.question.Question.{Question}
@@ -23,7 +23,6 @@ use Rattle.qz_terms.specs.declared.request.Request.TheVariants as request
 use Rattle.qz_terms.specs.Access.{settled_by}
 use Rattle.qz_terms.specs.declared.ask.Ask.{Ask}
 use Rattle.qz_terms.specs.declared.plan.Planned.{Planned}
-use Rattle.qz_terms.specs.declared.reply.Reply.{Reply}
 use Rattle.qz_grading.specs.Grading.{at_place, shape}
 use Rattle.qz_grading.specs.Shapes.{same_shape}
 use Rattle.qz_terms.specs.Answer.{acted_or_noted, event_here, first_target, is_overdue, max_now, named_user, put_target, rebound_or_skipped, record_of_job, started_by, stepped_by, target_event}
@@ -32,7 +31,7 @@ use Rattle.qz_shard.specs.declared.decision.Decision.TheVariants as decision
 use Rattle.qz_shard.specs.declared.working.Work.TheVariants as work
 use Rattle.qz_shard.specs.Decisions.{IsDecision}
 use Rattle.qz_shard.specs.Gradings.{most_gradings, most_of_work}
-use Rattle.qz_shard.specs.Puts.{IsPutWith, record_by}
+use Rattle.qz_shard.specs.Puts.{record_by}
 use Rattle.qz_shard.specs.Works.{IsWork}
 use Rattle.qz_lives.proofs.Legality.{told_event, told-pair}
 
@@ -70,18 +69,6 @@ few-gradings h moment user plan (request.Finish a) o e is = within h (event.Ende
 few-gradings h moment user plan (request.Mark a k m) o e is = within h (event.Acted a k (step.Mark m (max_now h a k))) e a.user o 1 is (omega arith)
 few-gradings h moment user plan (request.Settle a) o e is = settled-few h (is_overdue h moment plan a) a plan.settings.handling a.user o e is
 few-gradings h moment user plan x o e is = absurd cc
-
--- a list isn't as it was behind a record that is put
-pub longer : (h g : List Record) (r : Record) → g ≡ h ++ r ∷ [] → g ≡ h → ⊥
-longer h g r put same =
-    let long : length g ≡ length h + 1 = ap (λ (l : List Record). length l) put ∙ length-append h (r ∷ []) in
-    let as_before : length g ≡ length h = ap (λ (l : List Record). length l) same in
-    absurd (omega arith)
-
--- what isn't put grades nothing
-pub still-put : {E : Type 0} (told : Result Reply E) (h g : List Record) (r : Record) (before after : ℕ) → IfOk told (λ reply. IsPutWith h g r reply) → OnErr told (after ≡ before) → g ≡ h → after ≡ before
-still-put (Ok reply) h g r before after put still same = absurd (longer h g r put.put same)
-still-put (Err e) h g r before after put still same = still
 
 pub few-made : (h : List Record) (moment : ℕ) (user : User) (plan : Plan) (ask : Ask) (e : Event) (made : Record) (before after : ℕ) → IsDecision h moment user plan ask (decision.Made e) → made ≡ record_by moment user plan ask e → after ≤ before + gradings_by h made.event → after ≤ before + most_gradings h ask.request
 few-made h moment user plan ask e made before after decided is count =

@@ -1,9 +1,8 @@
 -- What stands under a key, and the first refusal of a request.
-use Rattle.std.proofs.Common.{◌≡◌, ℕ, ◌+◌, ◌<◌, Bool, true, false, List, Option, Some, None, length, take, get_or, option_map, refl, sym, ap, ◌∙◌}
+use Rattle.std.proofs.Common.{◌≡◌, ℕ, ◌+◌, Bool, true, false, List, Option, Some, None, length, take, get_or, option_map, refl, sym, ap, ◌∙◌}
 use Rattle.std.specs.Prelude.{slice_get, position, filter}
 use Rattle.std.proofs.lemmas.Option.{slice_get_read}
 use Rattle.qz_grading.specs.declared.refusal.Refusal.TheVariants as refusal
-use Rattle.qz_grading.specs.declared.refusal.Refusal.{Refusal}
 use Rattle.qz_terms.specs.declared.record.Record.{Record}
 use Rattle.qz_terms.specs.declared.reply.Done.{Done}
 use Rattle.qz_terms.specs.declared.reply.Reply.{Reply}
@@ -12,7 +11,7 @@ use Rattle.qz_terms.specs.Answer.{reply_by, said}
 use Rattle.qz_index.specs.Keys.{said_under}
 use Rattle.qz_terms.specs.Cause.{Denied, Repeated, by_key, has_key, repeated_or_reused, said_at}
 use Rattle.qz_terms.specs.Lists.{first_of, up_to_first}
-use Rattle.qz_terms.proofs.Walks.{IsFirstAt, found_up_to, found_nowhere}
+use Rattle.qz_terms.proofs.Walks.{IsFirstAt, found_up_to}
 use Rattle.qz_shard.specs.declared.keys.Found.TheVariants as found
 use Rattle.qz_shard.specs.Decisions.{IsFound}
 
@@ -20,12 +19,6 @@ use Rattle.qz_shard.specs.Decisions.{IsFound}
 
 same-some : {A : Type 0} (x y : A) → Some x ≡ Some y → x ≡ y
 same-some x y is = cc
-
-refused-said : (l : List Record) (own : Record) (r : Refusal) → reply.Refused r ≡ said l own → ⊥
-refused-said l own r is = cc
-
-pub key-nowhere : (is_same : Record → Bool) (caller : ℕ) (key : List ℕ) (h : List Record) → position (has_key caller key) h ≡ None → by_key is_same caller (Some key) h ≡ None
-key-nowhere is_same caller key h none = rw (found_nowhere (has_key caller key) h none) refl
 
 key-at : (is_same : Record → Bool) (caller : ℕ) (key : List ℕ) (h : List Record) (n : ℕ) (r : Record) → position (has_key caller key) h ≡ Some n → r ≡ get_or h n r → (slice_get h n ≡ Some r) × (by_key is_same caller (Some key) h ≡ Some (repeated_or_reused (is_same r) (take (n + 1) h) r))
 key-at is_same caller key h n r is item =
@@ -56,9 +49,6 @@ kept-said h caller key n r told is item kept =
     let same : k.own ≡ r = same-some k.own r (sym k.first ∙ at.item ∙ got) in
     k.says ∙ ap (λ (l : List Record). said l k.own) at.up_to ∙ ap (said (take (n + 1) h)) same
 
-pub key-inside : (caller : ℕ) (key : List ℕ) (h : List Record) (n : ℕ) → position (has_key caller key) h ≡ Some n → n < length h
-key-inside caller key h n is = (found_up_to (has_key caller key) h n is).inside
-
 pub key-same : (is_same : Record → Bool) (caller : ℕ) (key : List ℕ) (h : List Record) (n : ℕ) (r : Record) (kept told : Reply) → position (has_key caller key) h ≡ Some n → r ≡ get_or h n r → Some kept ≡ said_under h caller key → told ≡ kept → is_same r ≡ true → IsFound (Some (found.Same told)) (by_key is_same caller (Some key) h)
 key-same is_same caller key h n r kept told is item keeps copied same =
     let at = key-at is_same caller key h n r is item in
@@ -74,6 +64,3 @@ key-other is_same caller key h n r kept place d is item keeps accepted other =
     let says : reply.Ok place d ≡ said (take (n + 1) h) r = sym accepted ∙ kept-said h caller key n r kept is item keeps in
     let place_is : place ≡ said_at (take (n + 1) h) r = place-same place (said_at (take (n + 1) h) r) d (reply_by (take (n + 1) h) r r.event) says in
     at.1 ∙ ap (λ (b : Bool). Some (repeated_or_reused b (take (n + 1) h) r)) other ∙ ap (λ (p : ℕ). Some (Denied (refusal.KeyReused p))) (sym place_is)
-
-pub never-refused : (h : List Record) (caller : ℕ) (key : List ℕ) (r : Refusal) → Some (reply.Refused r) ≡ said_under h caller key → ⊥
-never-refused h caller key r kept = let k = kept-of h caller key (reply.Refused r) kept in absurd (refused-said (up_to_first (has_key caller key) h) k.own r k.says)

@@ -1,5 +1,5 @@
 -- What the calls of a shard that a keeper keeps come to.
-use Rattle.std.proofs.Common.{◌≡◌, ◌≤◌, ◌+◌, ℕ, arith, true, List, [], ◌∷◌, ◌++◌, Option, Some, None, IfSome, IfOk, OnErr, MatchResult, Result, Ok, Err, length, refl, sym, ap, subst, ◌∙◌}
+use Rattle.std.proofs.Common.{◌≡◌, ◌≤◌, ◌+◌, ℕ, arith, List, [], ◌∷◌, ◌++◌, Option, Some, None, IfSome, IfOk, OnErr, MatchResult, Result, Ok, Err, length, refl, sym, ap, subst, ◌∙◌}
 use Rattle.std.specs.Prelude.{unwrap_or}
 use Rattle.qz_disks.specs.declared.keeper.KeepErr.{KeepErr}
 use Rattle.qz_keeper.specs.Custody.{Custody, pending, pending_of}
@@ -51,9 +51,6 @@ pub answer_told : (index count now : ℕ) (user : User) (plan : Plan) (ask : Ask
 answer_told index count now user plan ask h posed =
     let itself : IsAnswered h now user plan ask (answer_here h now user plan ask) (list_after h now user plan ask) = record { reply = refl; list = refl } in
     record { answered = itself; newer = posed.newer; alone = answered_alone (record { index = index; count = count; records = h }) h now user plan ask _ _ _ refl itself refl }
-
-pub told_there : (index count i n now : ℕ) (user : User) (plan : Plan) (ask : Ask) (h : List Record) (told : Reply) (g : List Record) → i ≡ index → n ≡ count → IsTold i n now user plan ask h told g → IsTold index count now user plan ask h told g
-told_there index count i n now user plan ask h told g same many is = subst (λ j. IsTold j count now user plan ask h told g) same (subst (λ m. IsTold i m now user plan ask h told g) many is)
 
 -- a call that stopped at its mending counts nothing
 pub counts_none : (most : List Record → ℕ) (old new : Held) (n : ℕ) → CountsFew most old new n n

@@ -1,12 +1,10 @@
 -- What a look is answered.
 use Rattle.std.proofs.Common.{◌≡◌, ℕ, true, List, Option, Some, None, append-nil, refl, sym}
 use Rattle.std.specs.Prelude.{is_none}
-use Rattle.qz_grading.specs.declared.refusal.Refusal.{Refusal}
 use Rattle.qz_terms.specs.declared.ask.Ask.{Ask}
 use Rattle.qz_terms.specs.declared.people.User.{User}
 use Rattle.qz_terms.specs.declared.plan.Plan.{Plan}
 use Rattle.qz_terms.specs.declared.record.Record.{Record}
-use Rattle.qz_terms.specs.declared.reply.Reply.TheVariants as reply
 use Rattle.qz_terms.specs.declared.request.Request.{Request}
 use Rattle.qz_terms.specs.declared.request.Request.TheVariants as request
 use Rattle.qz_terms.specs.Answer.{event_here, looked, moment_of}
@@ -15,12 +13,6 @@ use Rattle.qz_shard.specs.Answering.{IsAnswered}
 use Rattle.qz_shard.specs.Holdings.{is_look}
 
 -- ---- the answer
-
-pub refused-caller : (h : List Record) (now : ℕ) (user : User) (plan : Plan) (ask : Ask) (r : Refusal) → forbidden user ask.request ≡ Some r → IsAnswered h now user plan ask (reply.Refused r) h
-refused-caller h now user plan ask r is = record { reply = rw is refl; list = rw is refl }
-
-pub refused-missing : (h : List Record) (now : ℕ) (user : User) (plan : Plan) (ask : Ask) (r : Refusal) → forbidden user ask.request ≡ None → missing_here h user ask.request ≡ Some r → IsAnswered h now user plan ask (reply.Refused r) h
-refused-missing h now user plan ask r allowed is = record { reply = rw (allowed, is) refl; list = rw (allowed, is) refl }
 
 -- a look has no key, no cause behind it, and makes no event
 record IsPlain (h : List Record) (m : ℕ) (user : User) (plan : Plan) (x : Request) : Type 0 where

@@ -6,7 +6,6 @@ use Rattle.std.proofs.lemmas.Bool.{le-leb, leb-true}
 use Rattle.std.proofs.lemmas.List.Elements.{All-cons, All-filter, All-head, All-map, All-nil, All-tail}
 use Rattle.qz_grading.specs.declared.question.Question.{Question}
 use Rattle.qz_grading.specs.declared.refusal.AttemptId.{AttemptId}
-use Rattle.qz_grading.specs.declared.refusal.Refusal.{Refusal}
 use Rattle.qz_grading.specs.declared.response.Step.{Step}
 use Rattle.qz_grading.specs.declared.response.Step.TheVariants as step
 use Rattle.qz_grading.specs.declared.outcome.Moved.{Moved}
@@ -31,7 +30,7 @@ use Rattle.qz_terms.specs.declared.request.Request.{Request}
 use Rattle.qz_terms.specs.declared.request.Request.TheVariants as request
 use Rattle.qz_terms.specs.Access.{settled_by}
 use Rattle.qz_terms.specs.Answer.{acted_or_noted, answer_here, bind, event_here, is_overdue, list_after, looked_by, max_now, moment_of, named_user, new_versions, put_here, record_under, said, same_version, started_by, stepped_by}
-use Rattle.qz_terms.specs.Cause.{Denied, Granted, Repeated, by_key, cause_here, forbidden, spells, is_keyed, missing_attempt, missing_here, missing_slot, verdict_here}
+use Rattle.qz_terms.specs.Cause.{Granted, Repeated, by_key, cause_here, forbidden, spells, is_keyed, missing_attempt, missing_here, missing_slot, verdict_here}
 use Rattle.qz_terms.specs.Kept.{AreLearned, AreQuestions, IsKept, IsKeptPlan, KeepsAsked, KeepsEvent, has_terms, is_bound, is_moment, is_planned, is_step}
 use Rattle.qz_terms.specs.Legal.{is_plan_for}
 use Rattle.qz_terms.specs.Lists.{once}
@@ -221,9 +220,6 @@ next-made index count h now user plan who key (request.Settle a) e change here m
 next-made index count h now user plan who key x e change here m = absurd cc
 
 -- ---- the answer by the verdict
-
-pub answer-denied : (h : List Record) (now : ℕ) (user : User) (plan : Plan) (ask : Ask) (r : Refusal) → verdict_here h (moment_of h now user ask.request) user plan ask ≡ Denied r → (answer_here h now user plan ask ≡ reply.Refused r) × (list_after h now user plan ask ≡ h)
-answer-denied h now user plan ask r is = (rw is refl, rw is refl)
 
 pub answer-repeated : (h : List Record) (now : ℕ) (user : User) (plan : Plan) (ask : Ask) (l : List Record) (r : Record) → verdict_here h (moment_of h now user ask.request) user plan ask ≡ Repeated l r → (answer_here h now user plan ask ≡ said l r) × (list_after h now user plan ask ≡ h)
 answer-repeated h now user plan ask l r is = (rw is refl, rw is refl)

@@ -1,13 +1,11 @@
 -- The record that a worker's request puts may stand next, and what is then answered.
-use Rattle.std.proofs.Common.{◌≡◌, ℕ, ◌-◌, Bool, true, false, List, [], ◌∷◌, ◌++◌, Option, Some, None, append-nil, refl, sym, ap, subst, ◌∙◌, option_map, eq-eqb, All}
+use Rattle.std.proofs.Common.{◌≡◌, ℕ, ◌-◌, Bool, true, false, List, [], ◌∷◌, ◌++◌, Option, Some, None, refl, sym, ap, subst, ◌∙◌, option_map, eq-eqb, All}
 use Rattle.std.specs.List.{list_all}
 use Rattle.std.specs.Prelude.{◌-◌, ◌==◌, if◌then◌else◌, option_and_then, slice_get}
 use Rattle.std.proofs.lemmas.List.Elements.{All-cons, All-nil}
 use Rattle.std.proofs.lemmas.Option.{get_or_from_slice_get, slice_get_within}
 use Rattle.qz_grading.specs.declared.question.Question.{Question}
 use Rattle.qz_grading.specs.declared.refusal.AttemptId.{AttemptId}
-use Rattle.qz_grading.specs.declared.refusal.Refusal.TheVariants as refusal
-use Rattle.qz_grading.specs.declared.refusal.Thing.TheVariants as thing
 use Rattle.qz_grading.specs.Grading.{at_place, shape}
 use Rattle.qz_grading.specs.Questions.{IsQuestion}
 use Rattle.qz_grading.specs.Shapes.{same_shape}
@@ -16,9 +14,7 @@ use Rattle.qz_terms.specs.declared.plan.Planned.{Planned}
 use Rattle.qz_terms.specs.declared.record.Event.{Event}
 use Rattle.qz_terms.specs.declared.record.Event.TheVariants as event
 use Rattle.qz_terms.specs.declared.record.Record.{Record}
-use Rattle.qz_terms.specs.declared.reply.Done.TheVariants as done
 use Rattle.qz_terms.specs.declared.reply.Reply.{Reply}
-use Rattle.qz_terms.specs.declared.reply.Reply.TheVariants as reply
 use Rattle.qz_terms.specs.Answer.{bind, done_place, first_target, learned_as, new_versions, put_target, rebound_or_skipped, record_of_job, target_event}
 use Rattle.qz_terms.specs.Kept.{is_planned}
 use Rattle.qz_terms.specs.Legal.{is_here}
@@ -207,14 +203,6 @@ work-next index count h now caller job r held able w =
     next-by index count h now caller job held able w.0 r (first_target h job) refl put
 
 -- ---- what is answered
-
-pub worked-before : (h : List Record) (now caller : ℕ) (job : Job) (place : ℕ) (told : Reply) → IsWork h now caller job (work.AlreadyDone place) → told ≡ reply.Ok place (done.AlreadyDone job.number) → IsWorked h now caller job told h
-worked-before h now caller job place told w says = record { reply = says ∙ rw (w.0, w.1) refl; list = rw w.0 (sym (append-nil h)) }
-
-pub worked-nowhere : (h : List Record) (now caller : ℕ) (job : Job) (told : Reply) → IsWork h now caller job work.NoSlot → told ≡ reply.Refused (refusal.Unknown thing.Slot) → IsWorked h now caller job told h
-worked-nowhere h now caller job told w says =
-    let put : put_target h now caller job (first_target h job) ≡ None = rw w.0 at w.1 in
-    record { reply = says ∙ rw (w.0, put) refl; list = rw w.1 (sym (append-nil h)) }
 
 pub worked-put : (h g : List Record) (now caller : ℕ) (job : Job) (r : Record) (told : Reply) → IsWork h now caller job (work.Put r) → IsPutWith h g r told → IsWorked h now caller job told g
 worked-put h g now caller job r told w put =

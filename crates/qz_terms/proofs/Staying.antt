@@ -28,7 +28,7 @@ at-append xs ys n x found = at-by xs ys n x (n == 0) refl found
 
 -- ---- an entry
 
-entries-append : (c rest : List Record) → entries (c ++ rest) ≡ entries c ++ entries rest
+pub entries-append : (c rest : List Record) → entries (c ++ rest) ≡ entries c ++ entries rest
 entries-append c rest = flat_map-append (λ (r : Record). imports_by (asked r)) c rest
 
 pub entry-stays : (c rest : List Record) (n : ℕ) (i : Item) → at_place (entries c) n ≡ Some i → at_place (entries (c ++ rest)) n ≡ Some i

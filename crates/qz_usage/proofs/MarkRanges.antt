@@ -6,18 +6,11 @@ use Rattle.std.proofs.lemmas.Int.{ints, unsigned_abs-mul}
 use Rattle.std.proofs.lemmas.Nat.{mul-le}
 use Rattle.std.proofs.lemmas.Bool.{false_from_ne_true}
 use Rattle.std.proofs.lemmas.Bool.Decides.{Decides-int_eq}
-use Rattle.qz_decimal.specs.Numbers.{nearest, one, mark_of, rescale, IsWithin, IsMaxMark, IsSlotMark, IsEarnedFraction}
+use Rattle.qz_decimal.specs.Numbers.{nearest, one, rescale, IsWithin, IsMaxMark, IsSlotMark}
 use Rattle.qz_decimal.proofs.Nearest.{nearest-within}
 
 slot_mark-by_size : (z : ℤ) → unsigned_abs z ≤ 60000 * one → IsSlotMark z
 slot_mark-by_size z h = (omega (arith, ints, h), omega (arith, ints, h))
-
-pub mark_of-within : (f max : ℤ) → IsEarnedFraction f → IsMaxMark max → IsSlotMark (mark_of f max)
-mark_of-within f max earned small =
-    let f_le : unsigned_abs f ≤ 6 * one = omega (arith, ints, earned.0, earned.1) in
-    let max_le : unsigned_abs max ≤ 10000 * one = omega (arith, ints, small.0, small.1) in
-    let product : unsigned_abs (f *ℤ max) ≤ 60000 * one * one = rw unsigned_abs-mul (omega (arith, mul-le (unsigned_abs f) (unsigned_abs max) (6 * one) (10000 * one) f_le max_le)) in
-    slot_mark-by_size (mark_of f max) (nearest-within (f *ℤ max) one (60000 * one) (omega arith) product)
 
 rescale-positive : (mark : ℤ) (n : ℕ) (max : ℤ) → IsWithin (pos 0) (pos (suc n)) mark → IsMaxMark max → IsSlotMark (nearest (mark *ℤ max) (suc n))
 rescale-positive mark n max between small =

@@ -4,19 +4,16 @@ use Rattle.std.specs.Prelude.{if◌then◌else◌, filter, filter_map, ℤ, IfSo
 use Rattle.std.proofs.lemmas.Bool.Decides.{nat_tests}
 use Rattle.std.specs.Int.{from_bool}
 use Rattle.std.specs.Option.{option_or}
-use Rattle.std.proofs.lemmas.List.Folds.{list_any-append}
 use Rattle.std.proofs.lemmas.List.Elements.{filter-append, filter_map-append}
-use Rattle.qz_grading.specs.declared.outcome.Behaviour.{Behaviour}
-use Rattle.qz_grading.specs.declared.question.Question.{Question}
 use Rattle.qz_grading.specs.declared.refusal.Refusal.{Refusal}
 use Rattle.qz_grading.specs.declared.refusal.Refusal.TheVariants as refusal
 use Rattle.qz_grading.specs.declared.response.Step.{Step}
 use Rattle.qz_grading.specs.declared.response.Step.TheVariants as step
 use Rattle.qz_grading.specs.Steps.{is_answering, is_finish, is_mark, has_finish, given, last_of}
 use Rattle.qz_grading.specs.Behaviours.{first_some, when}
-use Rattle.qz_grading.specs.Slots.{last_given, is_full_for, is_misfit, most_answering, most_marks}
+use Rattle.qz_grading.specs.Slots.{last_given, is_full_for, most_answering, most_marks}
 use Rattle.qz_grading.proofs.StepLemmas.{last_of-push, has_finish-more}
-use Rattle.qz_usage.specs.Runs.{IsGiven, IsWithinLimits, has_misfit}
+use Rattle.qz_usage.specs.Runs.{IsGiven, IsWithinLimits}
 
 one_more : {A : Type 0} (p : A → Bool) (x : A) (b : Bool) → p x ≡ b → length (filter p (x ∷ [])) ≡ (if b then 1 else 0)
 one_more p x true is = rw is refl
@@ -42,9 +39,6 @@ length-by_kind (step.Mark m max ∷ s) = omega (arith, length-by_kind s)
 -- a slot has no more than 11,001 steps
 pub few : (s : List Step) → IsWithinLimits s → length s ≤ 11001
 few s h = omega (arith, length-by_kind s, h.answering, h.marks, h.finishes)
-
-pub has_misfit-push : (b : Behaviour) (q : Question) (s : List Step) (x : Step) → has_misfit b q s ≡ false → is_misfit b q x ≡ false → has_misfit b q (s ++ x ∷ []) ≡ false
-has_misfit-push b q s x none fits = list_any-append (is_misfit b q) s (x ∷ []) ∙ rw (none, fits) refl
 
 pub finished_more : (items s : List Step) (x : Step) (had b : Bool) → items ≡ s ++ x ∷ [] → had ≡ has_finish s → b ≡ is_finish x → (had || b) ≡ has_finish items
 finished_more items s x had b longer before is = rw (longer, has_finish-more s x, before, is) refl

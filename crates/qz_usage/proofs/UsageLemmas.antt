@@ -5,49 +5,13 @@ use Rattle.std.specs.List.{list_any}
 use Rattle.std.proofs.lemmas.Int.{ints, to_z-of_z, fits_signed_from_abs}
 use Rattle.std.specs.Int.{w64}
 use Rattle.qz_decimal.specs.Numbers.{one, IsSlotMark}
-use Rattle.std.proofs.lemmas.List.{map-append, take_more, take_all, take-append-drop}
+use Rattle.std.proofs.lemmas.List.{map-append, take_all, take-append-drop}
 use Rattle.std.proofs.lemmas.List.Folds.{list_any-append}
 use Rattle.std.proofs.lemmas.List.Sums.{fold-append}
-use Rattle.qz_grading.specs.declared.outcome.Behaviour.{Behaviour}
 use Rattle.qz_grading.specs.declared.question.Question.{Question}
-use Rattle.qz_grading.specs.Behaviours.{behaviour_for}
-use Rattle.qz_terms.specs.declared.plan.Planned.{Planned}
-use Rattle.qz_terms.specs.Answer.{bind}
 use Rattle.qz_terms.specs.Rows.{Scored, awaits_mark, sum_of, total_of}
-use Rattle.qz_usage.specs.Runs.{Run, behaviour_of, bound_of, steps_of, IsBound}
-use Rattle.qz_usage.specs.Usages.{AreBound, AreOpened, scored}
-
--- ---- opening
-
-AreBound-push : (rs : List Run) (qs : List Question) (r : Run) (q : Question) → AreBound rs qs → IsBound r q → AreBound (rs ++ r ∷ []) (qs ++ q ∷ [])
-AreBound-push [] [] r q all h = (h, tt)
-AreBound-push [] (q' ∷ qs) r q all h = absurd all
-AreBound-push (r' ∷ rs) [] r q all h = absurd all
-AreBound-push (r' ∷ rs) (q' ∷ qs) r q all h = (all.0, AreBound-push rs qs r q all.1 h)
-
-map-push : {A B : Type 0} (f : A → B) (xs : List A) (x : A) (ys : List B) (y : B) → map f xs ≡ ys → f x ≡ y → map f (xs ++ x ∷ []) ≡ ys ++ y ∷ []
-map-push f xs x ys y all one = map-append f xs (x ∷ []) ∙ rw (all, one) refl
-
-module _ (b : Behaviour) (at : ℕ) (planned : List Planned) (questions : List Question) (slots : List Run) (p : Planned) (q : Question) (r : Run) where
-  opened-push : AreOpened b at planned questions slots → IsBound r q → behaviour_of r ≡ behaviour_for q.kind b → r.bound ≡ bind at p → r.steps ≡ [] → AreOpened b at (planned ++ p ∷ []) (questions ++ q ∷ []) (slots ++ r ∷ [])
-  opened-push h bound behaviour bound_is none = record {
-    bound = AreBound-push slots questions r q h.bound bound;
-    behaviours = map-push behaviour_of slots r _ _ h.behaviours behaviour ∙ sym (map-append (λ (q : Question). behaviour_for q.kind b) questions (q ∷ []));
-    bounds = map-push bound_of slots r _ _ h.bounds bound_is ∙ sym (map-append (bind at) planned (p ∷ []));
-    steps = map-push steps_of slots r _ _ h.steps none ∙ sym (map-append (λ (q : Question). []) questions (q ∷ []));
-  }
-
-take-push : {A : Type 0} (xs : List A) (i : ℕ) (x : A) → i < length xs → x ≡ slice_index_or xs i x → take (i + 1) xs ≡ take i xs ++ x ∷ []
-take-push xs i x inside is = take_more xs i x inside ∙ ap (λ y. take i xs ++ y ∷ []) (sym is)
-
-module _ (b : Behaviour) (at : ℕ) (planned : List Planned) (questions : List Question) (slots : List Run) (i : ℕ) where
-  pub opened_more : (p : Planned) (q : Question) (r : Run) → i < length planned → p ≡ slice_index_or planned i p → i < length questions → q ≡ slice_index_or questions i q → AreOpened b at (take i planned) (take i questions) slots
-      → IsBound r q → behaviour_of r ≡ behaviour_for q.kind b → r.bound ≡ bind at p → r.steps ≡ [] → AreOpened b at (take (i + 1) planned) (take (i + 1) questions) (slots ++ r ∷ [])
-  opened_more p q r inside is inside' is' h bound behaviour bound_is none =
-      rw (take-push planned i p inside is, take-push questions i q inside' is') (opened-push b at (take i planned) (take i questions) slots p q r h bound behaviour bound_is none)
-
-  pub opened_all : length planned ≤ i → length questions ≤ i → AreOpened b at (take i planned) (take i questions) slots → AreOpened b at planned questions slots
-  opened_all planned_le questions_le h = rw (take_all i planned planned_le, take_all i questions questions_le) at h
+use Rattle.qz_usage.specs.Runs.{Run, IsBound}
+use Rattle.qz_usage.specs.Usages.{AreBound, scored}
 
 -- ---- totals
 

@@ -1,14 +1,9 @@
 -- The slots of an attempt, in order.
-use Rattle.std.specs.Prelude.{◌≡◌, ℕ, ◌-◌, ◌*◌, ◌==◌, if◌then◌else◌, slice_set, List, [], ◌∷◌, map, ℤ, pos, neg_ℤ}
-use Rattle.qz_decimal.specs.Numbers.{IsWithin, one}
-use Rattle.qz_grading.specs.declared.outcome.Behaviour.{Behaviour}
+use Rattle.std.specs.Prelude.{ℕ, ◌-◌, ◌==◌, if◌then◌else◌, slice_set, List, [], ◌∷◌}
 use Rattle.qz_grading.specs.declared.question.Question.{Question}
-use Rattle.qz_grading.specs.Behaviours.{behaviour_for}
 use Rattle.qz_grading.specs.Slots.{slot_mark, slot_state}
-use Rattle.qz_terms.specs.declared.plan.Planned.{Planned}
-use Rattle.qz_terms.specs.Answer.{bind}
 use Rattle.qz_terms.specs.Rows.{Scored}
-use Rattle.qz_usage.specs.Runs.{Run, behaviour_of, bound_of, steps_of, IsBound}
+use Rattle.qz_usage.specs.Runs.{Run, behaviour_of, IsBound}
 
 -- the questions that are bound to the slots, one to each
 abbrev pub AreBound : List Run → List Question → Type 0
@@ -16,13 +11,6 @@ AreBound [] [] = Unit {0}
 AreBound [] (q ∷ qs) = ⊥
 AreBound (r ∷ rs) [] = ⊥
 AreBound (r ∷ rs) (q ∷ qs) = IsBound r q × AreBound rs qs
-
--- slots without a step, one for each that is planned
-pub record AreOpened (preferred : Behaviour) (at : ℕ) (planned : List Planned) (questions : List Question) (slots : List Run) : Type 0 where
-  pub bound : AreBound slots questions
-  pub behaviours : map behaviour_of slots ≡ map (λ (q : Question). behaviour_for q.kind preferred) questions
-  pub bounds : map bound_of slots ≡ map (bind at) planned
-  pub steps : map steps_of slots ≡ map (λ (q : Question). []) questions
 
 -- what a slot adds to the total
 abbrev pub scored : Run × Question → Scored
@@ -35,7 +23,3 @@ with_slot slots k r = if k == 0 then slots else slice_set slots (k - 1) r
 -- so many slots a quiz has
 abbrev pub most_slots : ℕ
 most_slots = 200
-
--- a total of so many slots is from -12,000,000 to 12,000,000
-abbrev pub IsTotal : ℤ → Type 0
-IsTotal = IsWithin (neg_ℤ (pos (12000000 * one))) (pos (12000000 * one))

@@ -259,13 +259,6 @@ impl SlotRun {
         self.player.outcome()
     }
 
-    /// How the slot behaves.
-    pub fn behaviour(&self) -> Behaviour
-        ensures { result ≡ behaviour_of self.now }
-    {
-        self.player.behaviour()
-    }
-
     /// What is bound to the slot.
     pub fn bound(&self) -> &Bound
         ensures value { result.now ≡ self.now.bound }

@@ -1,24 +1,20 @@
 //! The slots of an attempt.
 
-ghost use Rattle.std.specs.Prelude.{◌≡◌, ◌≤◌, List, length, map, zip, unwrap_or, option_map, All, IfOk, IfSome, pos};
+ghost use Rattle.std.specs.Prelude.{◌≡◌, ◌≤◌, List, length, map, zip, unwrap_or, option_map, IfSome, pos};
 ghost use Rattle.std.specs.Option.{option_copied};
 ghost use Rattle.std.specs.Borrow.{LendsIf, sem};
 ghost use Rattle.qz_usage.specs.contracts.usage.Usage.{the_row as usage_row};
 ghost use Rattle.qz_usage.specs.contracts.slot_run.SlotRun.{the_row as run_row};
-ghost use Rattle.qz_decimal.specs.Numbers.{IsMaxMark, IsSlotMark};
+ghost use Rattle.qz_decimal.specs.Numbers.{IsSlotMark};
+ghost use Rattle.qz_grading.specs.declared.question.Question.{Question};
 ghost use Rattle.qz_grading.specs.Grading.{at_place};
-ghost use Rattle.qz_grading.specs.Questions.{IsQuestion};
-ghost use Rattle.qz_terms.specs.Answer.{bind};
-ghost use Rattle.qz_terms.specs.Rows.{awaits_mark, total_of};
+ghost use Rattle.qz_terms.specs.Rows.{IsTotal, awaits_mark, total_of};
 ghost use Rattle.qz_usage.specs.Runs.{IsBound};
-ghost use Rattle.qz_usage.specs.Usages.{AreBound, AreOpened, scored, with_slot, most_slots, IsTotal};
+ghost use Rattle.qz_usage.specs.Usages.{AreBound, scored, with_slot, most_slots};
 
 use crate::SlotRun;
 use qz_decimal::Mark;
-use qz_grading::{Behaviour, Question, State};
-use qz_terms::{Bound, Plan, Planned};
-use qz_text::NoMemory;
-use std::alloc::Global;
+use qz_grading::State;
 use std::marker::Model;
 
 /// The slots of an attempt, in order, seen as their list.
@@ -39,17 +35,6 @@ impl Model for Usage {
     ghost invariant = { λ u. length u.slots.items ≤ most_slots };
 }
 
-fn bind(at: u64, planned: Planned) -> Bound
-    ensures { result ≡ bind at planned }
-{
-    Bound {
-        entry: planned.entry,
-        version: planned.version,
-        max: planned.max,
-        at,
-    }
-}
-
 /// Whether a teacher's mark is missing that would count.
 fn awaits_mark(slot: &SlotRun) -> bool
     ensures { (q : Question) → IsBound slot.now q → result ≡ awaits_mark (scored (slot.now, q)) }
@@ -66,23 +51,6 @@ fn counted(slot: &SlotRun) -> i64
 }
 
 impl Usage {
-    /// The slots of a plan, which has one question for each, without a step. Every max mark is from 0 to 10,000.
-    pub fn new(alloc: Global, preferred: Behaviour, plan: &Plan) -> Result<Usage, NoMemory>
-        requires one_each { length plan.now.questions ≡ length plan.now.slots }
-        requires few { length plan.now.slots ≤ most_slots }
-        requires questions { All IsQuestion plan.now.questions }
-        requires maxes { All (λ s. IsMaxMark s.max) plan.now.slots }
-        ensures { IfOk result (AreOpened preferred plan.now.at plan.now.slots plan.now.questions) }
-    {
-        let questions = plan.questions.as_slice();
-        let mut slots = Vec::with_capacity(alloc, questions.len())?;
-        for (place, planned) in plan.slots.as_slice().iter().enumerate() {
-            let bound = bind(plan.at, *planned);
-            slots.push(SlotRun::new(alloc, preferred, &questions[place], bound)?)?;
-        }
-        Ok(Usage { slots })
-    }
-
     /// The slots that are given, at most 200.
     pub fn of(slots: Vec<SlotRun>) -> Usage
         requires { length slots.items ≤ most_slots }

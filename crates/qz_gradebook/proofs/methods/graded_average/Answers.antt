@@ -3,7 +3,7 @@ use Rattle.std.specs.Prelude.{IfSome, if◌then◌else◌, is_some}
 use Rattle.std.specs.Int.{w128}
 use Rattle.std.proofs.lemmas.List.Elements.{All-get_or}
 use Rattle.qz_gradebook.specs.declared.finished.Finished.{Finished}
-use Rattle.qz_gradebook.specs.Totals.{IsTotal}
+use Rattle.qz_terms.specs.Rows.{IsTotal}
 use Rattle.qz_gradebook.proofs.GradeLemmas.{added-none, added_more, few-more, one-if, sum-kept}
 use Rattle.qz_gradebook.proofs.methods.graded_average.Goals as goal
 
