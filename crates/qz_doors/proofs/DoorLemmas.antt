@@ -119,15 +119,6 @@ ends_at_door asks peer most old mid new a b c result d n same within fewer fault
   later = omega (arith, d.later, n.later);
 }
 
-takes_no_link : {L : Type 0} (old : Entrance L) → TakesNoLink old old
-takes_no_link old = record { left = refl; returned = refl; returns = refl; out = refl; later = omega arith }
-
--- as many as asked for
-pub ends_full : {L S : Type 0} (asks : S → S → Ask → Reply → Type 0) (peer : L → Peer) (most : ℕ) (old new : Entrance L) (a b : S) (result : DoorEnd)
-    → IsAtDoor asks peer old new a b result.taken result.short → result.fault ≡ false → result.taken ≤ most → most ≤ result.taken → ServesDoor asks peer most old new a b result
-ends_full asks peer most old new a b result d fine within full =
-    ends_at_door asks peer most old new new a b b result d (takes_no_link new) refl within (λ below. absurd (omega (arith, full, below))) (λ is. absurd (false≢true (sym fine ∙ is)))
-
 -- none is left
 pub ends_empty : {L S : Type 0} (asks : S → S → Ask → Reply → Type 0) (peer : L → Peer) (most : ℕ) (old mid new : Entrance L) (a b c : S) (result : DoorEnd)
     → IsAtDoor asks peer old mid a b result.taken result.short → result.fault ≡ false → result.taken ≤ most → c ≡ b → TakesNoLink mid new → IfSome new.left (λ left. left ≡ []) → ServesDoor asks peer most old new a c result

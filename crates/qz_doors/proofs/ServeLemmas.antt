@@ -214,10 +214,6 @@ answers_now : {S : Type 0} (asks : S → S → Ask → Reply → Type 0) (old ne
     → Answers asks (whole_link s.bytes) a s.items s.replies s.output (ended_link (fed core [])) b
 answers_now asks old new a b core s = subst (λ (l : List ℕ). Answers asks (whole_link l) a s.items s.replies s.output (ended_link (fed core [])) b) (append-nil s.bytes) (s.ahead [] (λ is. refl))
 
--- nothing was given, and the link's outside is as it was
-pub serves_kept : {S : Type 0} (asks : S → S → Ask → Reply → Type 0) (old new : Peer) (a b : S) (core next : Link) → next ≡ core → IsServing asks old new a b core → IsServing asks old new a b next
-serves_kept asks old new a b core next same s = subst (λ (l : Link). IsServing asks old new a b l) (sym same) s
-
 -- one more request is answered
 pub serves_request : {S : Type 0} (asks : S → S → Ask → Reply → Type 0) (old mid new : Peer) (a b c : S) (core next : Link) (given : Item) → IsServing asks old mid a b core → is_request given ≡ true → Gives core given next
     → AnswersItem asks mid new b c next given → IsServing asks old new a c next

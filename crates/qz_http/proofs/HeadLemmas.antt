@@ -49,12 +49,6 @@ head_length h is =
     let section = front_length (flat_map print_field h.fields) (print_end h.last) in
     omega (arith, fields, section, back_length (print_blank h.blank ++ h.method ++ 32 ∷ h.target ++ 32 ∷ print_version h.minor ++ print_end h.line_end) (flat_map print_field h.fields ++ print_end h.last))
 
-pub few_fields : (bytes rest : List ℕ) (h : RequestHead) → ReadsRequest bytes h rest → length bytes ≤ 8192 → length h.fields ≤ 2731
-few_fields bytes rest h reads short =
-    let whole = front_length (print_request h) rest in
-    let same : length bytes ≡ length (print_request h ++ rest) = ap length reads.1 in
-    omega (arith, head_length h reads.0, whole, same)
-
 pub not_too_many : (bytes : List ℕ) → length bytes ≤ 8192 → RequestExceeds 2731 bytes → ⊥
 not_too_many bytes short over =
     let reads = over.4 in

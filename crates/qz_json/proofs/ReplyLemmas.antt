@@ -6,7 +6,7 @@ use Rattle.serde_json.specs.Written.{has_float, items_have_float}
 use Rattle.qz_terms.specs.declared.reply.Reply.{Reply}
 use Rattle.qz_terms.specs.declared.reply.Reply.TheVariants as reply
 use Rattle.qz_wire.specs.Refusals.{refusal_list}
-use Rattle.qz_replies.specs.Said.{done_list}
+use Rattle.qz_replies.specs.Replies.{done_list}
 use Rattle.qz_json.specs.Replies.{reply_data}
 
 texts-plain : (words : List (List ℕ)) → items_have_float (items_of (map string words)) ≡ false

@@ -6,7 +6,7 @@ use Rattle.serde_json.specs.Written.{compact_text}
 use Rattle.qz_terms.specs.declared.reply.Reply.{Reply}
 use Rattle.qz_terms.specs.declared.reply.Reply.TheVariants as reply
 use Rattle.qz_wire.specs.Refusals.{refusal_list, refusal_number}
-use Rattle.qz_replies.specs.Said.{done_list}
+use Rattle.qz_replies.specs.Replies.{done_list}
 
 -- the list of these texts
 abbrev pub texts : List (List ℕ) → Data

@@ -2,8 +2,6 @@
 
 ghost use Rattle.std.specs.Prelude.{◌≡◌, IfOk};
 ghost use Rattle.serde_json.specs.View.{view};
-ghost use Rattle.qz_replies.specs.Lines.{line_by_words};
-ghost use Rattle.qz_replies.specs.Replies.{reply_line};
 ghost use Rattle.qz_json.specs.Replies.{texts, accepted_data, refused_data, reply_data, reply_text};
 
 use qz_replies::done_onto;
@@ -58,10 +56,8 @@ fn value_of(alloc: Global, reply: &Reply) -> Result<Value, NoMemory>
 /// A reply as one JSON object without white space: `{"ok":true,"place":P,"words":[..]}`, or
 /// `{"ok":false,"refusal":N,"words":[..]}` for a refusal. The words are those of the reply's line, each as the text that it
 /// spells, behind the place or the number. Only want of memory is an error.
-#[tactic(auto, using(qz_replies::proofs::LineLemmas::line_tied))]
 pub fn json_of(alloc: Global, reply: &Reply) -> Result<Text, NoMemory>
-    ensures text { IfOk result (λ text. text ≡ reply_text reply.now) }
-    ensures line { reply_line reply.now ≡ line_by_words reply.now }
+    ensures { IfOk result (λ text. text ≡ reply_text reply.now) }
 {
     let value = value_of(alloc, reply)?;
     Ok(Text {

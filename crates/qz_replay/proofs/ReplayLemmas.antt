@@ -20,10 +20,6 @@ with_front-more : (front line : List ℕ) (reading : Result (List ℕ) ℕ) → 
 with_front-more front line (Ok more) = ap (λ (t : List ℕ). Ok t) (sym (append_assoc front line more))
 with_front-more front line (Err n) = refl
 
-pub with_front-nil : (reading : Result (List ℕ) ℕ) → with_front [] reading ≡ reading
-with_front-nil (Ok more) = refl
-with_front-nil (Err n) = refl
-
 abbrev pub said : ℕ → Play → Asked → List ℕ
 said number p a = line_of number (told p a)
 

@@ -1,4 +1,2 @@
 pub mod Replies
-pub mod Said
-pub mod Lines
 pub mod Examples

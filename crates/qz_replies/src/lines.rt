@@ -1,7 +1,8 @@
 //! The lines that a script says of replies.
 
-ghost use Rattle.std.specs.Prelude.{◌≡◌, ◌++◌, IfOk, OnOk, codes, string_bytes};
-ghost use Rattle.qz_replies.specs.Replies.{done_words, reply_words, reply_line};
+ghost use Rattle.std.specs.Prelude.{◌≡◌, ◌++◌, IfOk, OnOk, string_bytes};
+ghost use Rattle.qz_replies.specs.Replies.{done_list, reply_words, reply_line};
+ghost use Rattle.qz_wire.specs.Spaced.{behind};
 
 use crate::said::done_onto;
 use qz_terms::{Done, Reply};
@@ -10,9 +11,8 @@ use qz_wire::{behind_onto, refused_onto};
 use std::alloc::Global;
 
 /// The words behind the place, with a space before each.
-#[tactic(auto, using(crate::proofs::LineLemmas::done_spaced))]
 fn done_words_onto(out: &mut String, done: &Done) -> Result<(), NoMemory>
-    ensures { OnOk result (string_bytes out.new ≡ string_bytes out.old ++ (codes " " ++ done_words done.now)) }
+    ensures { OnOk result (string_bytes out.new ≡ string_bytes out.old ++ behind (done_list done.now)) }
 {
     let mut words = Listed::empty(*out.allocator());
     done_onto(&mut words, done)?;

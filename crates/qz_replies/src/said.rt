@@ -5,8 +5,7 @@ ghost use Rattle.qz_grading.specs.Canonical.{canonical_question};
 ghost use Rattle.qz_grading.specs.Words.{grade_text, mark_text};
 ghost use Rattle.qz_pages.specs.Pages.{is_page, page_text};
 ghost use Rattle.qz_pages.specs.Shown.{shown_words};
-ghost use Rattle.qz_replies.specs.Replies.{how_word, moment_word, row_word, status_word};
-ghost use Rattle.qz_replies.specs.Said.{standing_list, slot_list, done_list};
+ghost use Rattle.qz_replies.specs.Replies.{done_list, how_word, moment_word, row_word, slot_list, standing_list, status_word};
 
 use gift_write::question_onto;
 use qz_decimal::{Grade, Mark};

@@ -26,32 +26,12 @@ line-by line hint false false true e l u is = record { same = sym cc; short = gr
 pub hint-line : (line hint : List ℕ) → hint_of line ≡ Some hint → IsLine line hint
 hint-line line hint is = line-by line hint _ _ _ refl refl refl is
 
--- a line that is no hint, among others
-pub bad-hint : (hints : List (List ℕ)) (line : List ℕ) (more : List (List ℕ)) → hint_of line ≡ None → hints_on (hints ++ line ∷ more) ≡ None
-bad-hint hints line more none = rw (list_all-append is_hint hints (line ∷ more), none) (no (list_all is_hint hints) (nat_le (length (hints ++ line ∷ more)) 20))
-  where
-    no : (all few : Bool) → cond (few && (all && false)) (Some (hints ++ line ∷ more)) None ≡ None
-    no true true = refl
-    no true false = refl
-    no false true = refl
-    no false false = refl
-
--- and more lines than may be
+-- more lines than may be
 pub too-many : (lines hints : List (List ℕ)) (line : List ℕ) (more : List (List ℕ)) → lines ≡ hints ++ line ∷ more → 0 < length more → 19 ≤ length hints → None ≡ hints_on lines
 too-many lines hints line more parts some many =
     let long : 20 < length lines = omega (arith, ap (λ (l : List (List ℕ)). length l) parts, length-append hints (line ∷ more), some, many) in
     let test : nat_le (length lines) 20 ≡ false = grind (arith, nat_tests) in
     rw test refl
-
--- all are hints, and no more than may be
-pub last-hint : (hints : List (List ℕ)) (line hint : List ℕ) → list_all is_hint hints ≡ true → hint_of line ≡ Some hint → length hints < 20 → hints_on (hints ++ line ∷ []) ≡ Some (hints ++ hint ∷ [])
-last-hint hints line hint all is few =
-    let short : length (hints ++ line ∷ []) ≤ 20 = omega (arith, length-append hints (line ∷ []), few) in
-    let test : nat_le (length (hints ++ line ∷ [])) 20 ≡ true = grind (arith, nat_tests) in
-    rw (test, list_all-append is_hint hints (line ∷ []), all, is) (ap (λ (h : List ℕ). Some (hints ++ h ∷ [])) (sym (hint-line line hint is).same))
-
-pub more-hints : (hints : List (List ℕ)) (line hint : List ℕ) → list_all is_hint hints ≡ true → hint_of line ≡ Some hint → list_all is_hint (hints ++ hint ∷ []) ≡ true
-more-hints hints line hint all is = rw (list_all-append is_hint hints (hint ∷ []), all, (hint-line line hint is).same, is) refl
 
 -- ---- what every hint keeps
 

@@ -10,4 +10,3 @@ pub mod BankLemmas
 pub mod DescribedLemmas
 pub mod RequestLemmas
 pub mod BriefLemmas
-pub mod SpacedLemmas

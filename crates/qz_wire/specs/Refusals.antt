@@ -1,15 +1,12 @@
--- What is said of a refusal: its number and the words behind it, on a line and one by one.
-use Rattle.std.specs.Prelude.{ℕ, List, [], ◌∷◌, ◌++◌, decimal, codes}
+-- What is said of a refusal: its number and the words behind it.
+use Rattle.std.specs.Prelude.{ℕ, List, [], ◌∷◌, ◌++◌, decimal}
 use Rattle.qz_grading.specs.declared.question.Shape.{Shape}
 use Rattle.qz_grading.specs.declared.refusal.Refusal.{Refusal}
 use Rattle.qz_grading.specs.declared.refusal.Refusal.TheVariants as refusal
 use Rattle.qz_grading.specs.declared.refusal.Thing.{Thing}
 use Rattle.qz_grading.specs.declared.refusal.Thing.TheVariants as thing
 use Rattle.qz_grading.specs.Words.{attempt_word, behaviour_word, kind_word, mark_text, state_word}
-use Rattle.qz_wire.specs.Spaced.{then_word}
-
-abbrev pub shape_words : Shape → List ℕ
-shape_words s = then_word (then_word (kind_word s.kind) (decimal s.first)) (decimal s.second)
+use Rattle.qz_wire.specs.Spaced.{behind}
 
 abbrev pub thing_number : Thing → ℕ
 thing_number thing.User = 1
@@ -21,31 +18,6 @@ thing_number thing.Slot = 6
 thing_number thing.Attempt = 7
 thing_number thing.Job = 8
 thing_number thing.Shard = 9
-
--- the number of a refusal and its words
-abbrev pub refused_words : Refusal → List ℕ
-refused_words (refusal.Malformed place rule) = then_word (then_word (codes "1") (decimal place)) (decimal rule)
-refused_words refusal.UnknownToken = codes "2"
-refused_words (refusal.Forbidden rule) = then_word (codes "3") (decimal rule)
-refused_words (refusal.Unknown what) = then_word (codes "4") (decimal (thing_number what))
-refused_words (refusal.KeyReused place) = then_word (codes "5") (decimal place)
-refused_words (refusal.NotOpen opens) = then_word (codes "6") (decimal opens)
-refused_words (refusal.Late due) = then_word (codes "7") (decimal due)
-refused_words (refusal.Closed place) = then_word (codes "8") (decimal place)
-refused_words (refusal.NoAttemptsLeft allowed) = then_word (codes "9") (decimal allowed)
-refused_words (refusal.Unfinished attempt) = then_word (codes "10") (attempt_word attempt)
-refused_words (refusal.WrongAction behaviour) = then_word (codes "11") (behaviour_word behaviour)
-refused_words (refusal.SlotEnded state) = then_word (codes "12") (state_word state)
-refused_words refusal.NeedsTryAgain = codes "13"
-refused_words refusal.Misfit = codes "14"
-refused_words (refusal.OutOfRange max) = then_word (codes "15") (mark_text max)
-refused_words refusal.NotFinished = codes "16"
-refused_words (refusal.Incompatible bound newer) = then_word (then_word (codes "17") (shape_words bound)) (shape_words newer)
-refused_words (refusal.TooMany limit) = then_word (codes "18") (decimal limit)
-refused_words refusal.KeepFault = codes "19"
-refused_words refusal.Memory = codes "20"
-
--- ---- one by one
 
 abbrev pub shape_list : Shape → List (List ℕ)
 shape_list s = kind_word s.kind ∷ decimal s.first ∷ decimal s.second ∷ []
@@ -95,3 +67,7 @@ refusal_list (refusal.Incompatible bound newer) = shape_list bound ++ shape_list
 refusal_list (refusal.TooMany limit) = decimal limit ∷ []
 refusal_list refusal.KeepFault = []
 refusal_list refusal.Memory = []
+
+-- on a line
+abbrev pub refused_words : Refusal → List ℕ
+refused_words r = decimal (refusal_number r) ++ behind (refusal_list r)

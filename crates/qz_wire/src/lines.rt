@@ -4,11 +4,13 @@ ghost use Rattle.std.specs.Prelude.{◌≡◌, ◌+◌, ◌<◌, ◌≤◌, ◌=
 ghost use Rattle.std.specs.List.{position_from};
 ghost use Rattle.qz_wire.specs.Lines.{lines_of, after, digits_up_to, number_within};
 
+use memchr::memchr;
+
 /// The place of the first of these bytes.
 pub fn place_of(text: &[u8], byte: u8) -> Option<usize>
     ensures { result ≡ position_from (λ c. c == byte) 0 text.now }
 {
-    text.iter().position(|c| *c == byte)
+    memchr(byte, text)
 }
 
 /// The first line of a text, without its line feed, and what stands after it. None exactly for the empty text.

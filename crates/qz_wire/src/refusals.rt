@@ -98,7 +98,6 @@ pub fn refusal_onto(words: &mut Listed<Text>, refusal: Refusal) -> Result<(), No
     }
 }
 
-#[tactic(auto, using(crate::proofs::SpacedLemmas::refused_spaced))]
 fn numbered_onto(out: &mut String, refusal: &Refusal) -> Result<(), NoMemory>
     ensures { OnOk result (string_bytes out.new ≡ string_bytes out.old ++ refused_words refusal.now) }
 {

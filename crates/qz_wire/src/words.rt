@@ -10,7 +10,6 @@ ghost use Rattle.qz_wire.specs.Words.{parts_at, words_of, words_after, moment_of
 use crate::lines::{number, place_of};
 use qz_grading::{AttemptId, Refusal};
 use qz_text::NoMemory;
-use std::alloc::{AllocError, AllocFailed};
 
 /// Why words couldn't be read.
 #[derive(Clone, Copy, Debug, PartialEq, Eq)]
