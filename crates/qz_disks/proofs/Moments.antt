@@ -1,8 +1,7 @@
 -- How runs of calls go on in time.
-use Rattle.std.proofs.Common.{◌≡◌, ◌⊎◌, inl, inr, ⊎_elim, ℕ, ◌<◌, ◌≤◌, List, length, refl, sym, subst, arith}
+use Rattle.std.proofs.Common.{◌≡◌, ◌⊎◌, inl, inr, ⊎_elim, ℕ, ◌<◌, ◌≤◌, List, refl, sym, subst, arith}
 use Rattle.std.proofs.lemmas.Bool.{cases_lt}
-use Rattle.std.proofs.lemmas.List.{take_all}
-use Rattle.qz_disks.specs.Disks.{Torn, Cut, Same, Elapses, LeavesOnly}
+use Rattle.qz_disks.specs.Disks.{Same, Elapses, LeavesOnly}
 
 split_lt : (a b : ℕ) → a ≤ b → (a ≡ b) ⊎ (a < b)
 split_lt a b le = ⊎_elim (λ less. inr less) (λ same. inl (omega arith)) (cases_lt a b)

@@ -3,11 +3,9 @@ use Rattle.std.proofs.Common.{◌≡◌, ℕ, ◌+◌, ◌<◌, true, List, [], 
 use Rattle.std.specs.Int.{from_le_bytes, w32}
 use Rattle.std.proofs.lemmas.Bool.{lt-ltb}
 use Rattle.std.proofs.lemmas.Bool.Decides.{nat_tests}
-use Rattle.std.proofs.lemmas.List.{append_assoc, append-nil, take-take, drop-drop, drop_more}
+use Rattle.std.proofs.lemmas.List.{append_assoc, take-take, drop-drop, drop_more}
 use Rattle.qz_journal.specs.Frames.{header, in_front, payload_length, is_whole, frames_from, stands_for}
-use Rattle.qz_journal.specs.Journals.{gate_behind, frames_at, StandsAt, NextFrame, length_behind, IsRead, TellsDamage}
-use Rattle.qz_journal.specs.declared.fault.JournalFault.{JournalFault}
-use Rattle.qz_journal.specs.declared.fault.JournalFault.TheVariants.{Fault, Damaged, Memory}
+use Rattle.qz_journal.specs.Journals.{gate_behind, frames_at, StandsAt, NextFrame, length_behind}
 use Rattle.std.proofs.lemmas.Slice.Eq.{bytes_eq-Decides}
 use Rattle.qz_journal.proofs.Images.{long_image}
 use Rattle.qz_journal.proofs.Fronts.{enough_frames, open_whole}

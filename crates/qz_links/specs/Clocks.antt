@@ -1,5 +1,5 @@
 -- What clocks tell.
-use Rattle.std.specs.Prelude.{◌≡◌, ℕ, ◌≤◌, nat_lt, if◌then◌else◌, List, [], ◌∷◌, length, drop, slice_index_or}
+use Rattle.std.specs.Prelude.{◌≡◌, ℕ, ◌≤◌, nat_lt, if◌then◌else◌, List, length, drop, slice_index_or}
 
 -- a clock in memory tells its moments in order, the last of them again and again, and 0 where it has none
 pub record TellsFirst (old : List ℕ) (moment : ℕ) (new : List ℕ) : Type 0 where
