@@ -106,10 +106,6 @@ names-front (c ∷ cs) rest others e = names-more c cs rest ∙ ap (onto_first (
 abbrev pub are_names : List (List ℕ) → Bool
 are_names css = list_all ink.begins_name css
 
--- a slash stands before it
-names-separator : (c : ℕ) (rest : Marks) → (c == 47) ≡ false → names (Plain 47 ∷ Plain c ∷ rest) ≡ [] ∷ names (Plain c ∷ rest)
-names-separator c rest other = rw other refl
-
 abbrev begins_other : Marks → Bool
 begins_other [] = false
 begins_other (m ∷ marks) = not (is_slash m)

@@ -84,10 +84,6 @@ ends_line (Escaped c ∷ marks) = false
 ends_line (Sign c ∷ marks) = false
 ends_line (Plain c ∷ marks) = c == 10
 
-further-ends : (lines : List Line) → ends_line (further lines) ≡ true
-further-ends [] = refl
-further-ends (line ∷ lines) = refl
-
 -- a character that is neither a line feed nor written by an escape pair
 abbrev is_letter : ℕ → Bool
 is_letter c = not (c == 10) && not (lex.is_sign c || c == 92)

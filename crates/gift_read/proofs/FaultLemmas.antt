@@ -28,12 +28,6 @@ too_many_parts b count asked named no_stray closed counted many =
     let long : is_long (question b) ≡ true = rw (lt-ltb most_parts (parts (question b).kind) (omega (arith, same))) (or-true (not short)) in
     rw (asked, named, no_stray, closed, long) refl
 
-pub few_parts : (b : Block) (count : ℕ) → is_category b.marks ≡ false → is_nameless b.marks ≡ false → has_stray_brace (body b.marks) ≡ false → is_unclosed (body b.marks) ≡ false
-    → ((format : Format) → count ≡ parts (kind_in format (answers (answer_part (body b.marks))) (sort_of (body b.marks)))) → count ≤ most_parts → IsWhole b
-few_parts b count asked named no_stray closed counted few =
-    let same = parts-question b count counted in
-    record { flaws = rw (asked, named, no_stray, closed) refl; few = omega (arith, same) }
-
 -- where nothing is told before, the length of the whole is
 told_last : (b : Block) (flaws : List ℕ) → None ≡ first_of flaws → first_of (or_large flaws b) ≡ first_of (when (is_large b) 2)
 told_last b [] none = refl

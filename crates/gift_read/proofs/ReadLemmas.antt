@@ -12,10 +12,6 @@ abbrev pub in_front : List Item → Result (List Item) Fault → Result (List It
 in_front items (Ok later) = Ok (items ++ later)
 in_front items (Err fault) = Err fault
 
-pub in_front-nil : (later : Result (List Item) Fault) → in_front [] later ≡ later
-in_front-nil (Ok later) = refl
-in_front-nil (Err fault) = refl
-
 pub in_front-onto : (items : List Item) (item : Item) (later : Result (List Item) Fault) → in_front items (onto item later) ≡ in_front (items ++ item ∷ []) later
 in_front-onto items item (Ok later) = rw append_assoc refl
 in_front-onto items item (Err fault) = refl

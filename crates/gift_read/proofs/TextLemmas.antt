@@ -11,11 +11,3 @@ characters_at-whole [] [] e = refl
 characters_at-whole [] (m ∷ marks) e = absurd (omega arith)
 characters_at-whole (c ∷ word) [] e = absurd (omega arith)
 characters_at-whole (c ∷ word) (m ∷ marks) e = ap (λ b. eqb (character m) c && b) (characters_at-whole word marks (omega arith))
-
-pub or_question-blank : (name : List ℕ) → true ≡ eqb (length name) 0 → or_question name ≡ codes "Question"
-or_question-blank [] e = refl
-or_question-blank (b ∷ name) e = let some = ne_eqb (length (b ∷ name)) 0 (λ e. omega arith) in cc
-
-pub or_question-some : (name : List ℕ) → false ≡ eqb (length name) 0 → or_question name ≡ name
-or_question-some [] e = cc
-or_question-some (b ∷ name) e = refl

@@ -12,11 +12,11 @@ ghost use Rattle.gift_read.specs.Places.{is_at};
 ghost use Rattle.gift_read.specs.Values.{kind_in, question};
 
 use crate::faults_of_values::fault_of_values;
-use crate::limits::{MOST_PARTS, is_long_text};
+use crate::limits::is_long_text;
 use crate::parts::{PartedBlock, Sort, first_piece, split_piece};
 use crate::places::{Landmark, behind, occurs, split};
 use gift_lex::Piece;
-use qz_grading::{Question, canonical_size_is_at_most};
+use qz_grading::{MOST_PARTS, MOST_TOGETHER, Question, canonical_size_is_at_most};
 use qz_text::NoMemory;
 use std::alloc::Global;
 
@@ -104,9 +104,6 @@ pub(crate) fn early_fault(block: &PartedBlock) -> Option<u8>
 }
 
 // ---- with the question built
-
-/// The most bytes of a question's canonical text and its hints.
-const MOST_TOGETHER: usize = 262_144;
 
 /// The first of the rules 2 and 6 to 11 that a question breaks, read from the answers of a block.
 fn value_fault(alloc: Global, block: &PartedBlock, built: &Question) -> Result<Option<u8>, NoMemory>

@@ -13,14 +13,8 @@ ghost use Rattle.gift_read.specs.Texts.{spelled, text_of};
 
 use crate::places::{character, trimmed};
 use gift_lex::Piece;
-use qz_grading::{Choice, Kind, Num, Pair, Question, Short, parts};
+use qz_grading::{Choice, Kind, MOST_PARTS, MOST_TEXT, Num, Pair, Question, Short, parts};
 use qz_text::Text;
-
-/// The most bytes of a text.
-const MOST_BYTES: usize = 65_536;
-
-/// The most choices, pairs or answers.
-pub(crate) const MOST_PARTS: usize = 64;
 
 /// What is left of a room behind the characters of marks, where they fit.
 fn behind_spelled(room: usize, marks: &[Piece]) -> Option<usize>
@@ -39,13 +33,13 @@ fn behind_spelled(room: usize, marks: &[Piece]) -> Option<usize>
 pub(crate) fn is_long_text(marks: &[Piece]) -> bool
     ensures { result ≡ nat_lt most_bytes (length (text_of marks.now)) }
 {
-    behind_spelled(MOST_BYTES, trimmed(marks)).is_none()
+    behind_spelled(MOST_TEXT, trimmed(marks)).is_none()
 }
 
 fn is_short(text: &Text) -> bool
     ensures { result ≡ nat_le (length text.now) most_bytes }
 {
-    text.as_bytes().len() <= MOST_BYTES
+    text.as_bytes().len() <= MOST_TEXT
 }
 
 fn are_short(one: &Text, other: &Text) -> bool

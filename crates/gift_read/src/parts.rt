@@ -4,7 +4,7 @@ ghost use Rattle.std.specs.Prelude.{◌≡◌, ℕ, ◌<◌, [], ◌∷◌, ◌+
 ghost use Rattle.gift_read.specs.declared.places.Landmark.TheVariants.{Closing};
 ghost use Rattle.gift_read.specs.Faults.{is_nameless, is_unclosed};
 ghost use Rattle.gift_read.specs.Places.{is_at, before, from};
-ghost use Rattle.gift_read.specs.Parts.{name_marks, body, text_before, in_braces, answer_part, text_behind, gap, question_text, general_marks, answers, truth, sort_in, sort_of, cut, pieces, numbers, answer_marks, feedback_marks};
+ghost use Rattle.gift_read.specs.Parts.{name_marks, body, text_before, in_braces, answer_part, text_behind, gap, question_text, general_marks, answers, truth, sort_in, sort_of, cut, pieces, answer_marks, feedback_marks};
 
 use crate::places::{
     Landmark, are_blank, behind, character, occurs, split, split_last, trimmed, unled,
@@ -301,11 +301,4 @@ pub(crate) fn split_piece(begins: Landmark, marks: &[Piece]) -> (&[Piece], Optio
         [sign, after @ ..] => (first, Some((character(*sign), after))),
         [] => (first, None),
     }
-}
-
-/// The marks of a numerical question's pieces.
-pub(crate) fn numbers(answers: &[Piece]) -> &[Piece]
-    ensures { result.now ≡ numbers answers.now }
-{
-    split(Landmark::Others, behind(answers, 1)).0
 }

@@ -5,6 +5,8 @@ ghost use Rattle.std.specs.Str.{is_utf8};
 ghost use Rattle.gift_lex.specs.Gathering.{split_lines};
 ghost use Rattle.gift_read.specs.Gift.{line_of_bad_byte};
 
+use simdutf8::compat::from_utf8;
+
 /// Bytes as text. Where they aren't UTF-8, the line of the first byte behind the longest front that is.
 pub(crate) fn as_text(bytes: &[u8]) -> Result<&str, usize>
     ensures text { IfOk result (λ text. text.now ≡ bytes.now) }
@@ -12,7 +14,7 @@ pub(crate) fn as_text(bytes: &[u8]) -> Result<&str, usize>
     ensures not_utf8 { IfErr result (λ line. is_utf8 bytes.now ≡ false) }
     ensures line { IfErr result (λ line. line ≡ line_of_bad_byte bytes.now) }
 {
-    match std::str::from_utf8(bytes) {
+    match from_utf8(bytes) {
         Ok(text) => Ok(text),
         Err(fault) => {
             let (front, _) = bytes.split_at(fault.valid_up_to());

@@ -26,12 +26,6 @@ writes_front old mid new before between bytes piece rest written part = record {
   appends = Appends-trans old mid new written.front part.front written.appends part.appends;
 }
 
--- nothing is left
-pub writes_all : (old new : Option (List ℕ)) (before now : ℕ) (bytes rest : List ℕ) → WritesOn old new before now bytes rest → rest ≡ [] → Appends old new bytes
-writes_all old new before now bytes rest written none =
-    let all : bytes ≡ written.front = written.split ∙ ap (λ t. written.front ++ t) none ∙ append-nil written.front in
-    rw all written.appends
-
 -- what is left begins with the item at this place
 pub left-item : (before : List (List ℕ)) (items : List Item) (n : ℕ) (item : Item) → n < length items → item ≡ get_or items n item
     → canonical_items before (drop n items) ≡ (category_line before item.category ++ canonical_question item.question) ++ canonical_items item.category (drop (n + 1) items)

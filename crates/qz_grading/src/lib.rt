@@ -4,6 +4,7 @@
 mod counting;
 mod fitting;
 mod grading;
+mod limits;
 mod matching;
 mod outcome;
 mod question;
@@ -22,6 +23,7 @@ mod written;
 pub use counting::Steps;
 pub use fitting::{complete, fits, gradable};
 pub use grading::{grade, same, same_answer};
+pub use limits::{MOST_HINT, MOST_PARTS, MOST_TEXT, MOST_TOGETHER};
 pub use outcome::{Behaviour, Moved, Outcome, State};
 pub use question::{
     Bank, Choice, Extent, Format, Item, Kind, Num, Pair, Question, Rich, Shape, Short,

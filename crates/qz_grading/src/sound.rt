@@ -4,11 +4,8 @@ ghost use Rattle.std.specs.Prelude.{◌≡◌, ◌↔◌, IsTrue};
 ghost use Rattle.qz_grading.specs.Questions.{is_weight, is_short_number, is_extent, parts, least_parts, are_weighed, are_weighed_shorts, are_weighed_extents, has_numbers_in_range, no_blank_choice, no_blank_answer, no_blank_pattern, has_no_blank, some_choice_right, has_right_choice, has_stem, IsSound};
 
 use crate::matching::{is_blank, stem_count};
-use crate::{Choice, Extent, Kind, Num, Pair, Short};
+use crate::{Choice, Extent, Kind, MOST_PARTS, Num, Pair, Short};
 use qz_decimal::{Decimal, Fraction, ONE};
-
-/// The most choices, pairs or answers.
-const MOST_PARTS: usize = 64;
 
 /// A number in units of 10^-10 that is no longer short: it has 16 whole digits.
 const LONG: u128 = 10_000_000_000_000_000_000_000_000;

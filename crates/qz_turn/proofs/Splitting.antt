@@ -14,9 +14,6 @@ use Rattle.qz_turn.specs.Steps.{dealing, dealt_to, noted}
 use Rattle.qz_turn.proofs.Prefixes.{follows_blank}
 use Rattle.qz_turn.proofs.Frames.{all_set, sum_set, value_set, value_push}
 
-pub stands_resting : (base : ℕ) (queue : List ℕ) (id : ℕ) (stage : Stage) → stage ≡ Resting → Stands base queue id stage
-stands_resting base queue id stage rests = subst (Stands base queue id) (sym rests) tt
-
 both_counts : (ns : List ℕ) → length (drop 1 ns) + length (take 1 ns) ≡ length ns
 both_counts [] = refl
 both_counts (n ∷ ns) = omega arith
