@@ -11,7 +11,7 @@ use crate::entry::{edited, first_versions, tuned};
 use crate::room::{make_room, take_room};
 use crate::{Entry, Prepared};
 use qz_decimal::Fraction;
-use qz_grading::{Bank, Question, Refusal, Thing, canonical_size_is_at_most};
+use qz_grading::{Bank, MOST_TOGETHER, Question, Refusal, Thing, canonical_size_is_at_most};
 use qz_text::{Listed, Text};
 use std::alloc::Global;
 use std::marker::Model;
@@ -21,9 +21,6 @@ const MOST_ENTRIES: usize = 20_000;
 
 /// So many versions an entry has at most.
 const MOST_VERSIONS: usize = 1_000;
-
-/// So many bytes the canonical text of a version and its hints have together at most.
-const MOST_BYTES: usize = 262_144;
 
 /// The entries of a bank, seen as their list. They count from 1, and none is ever taken away.
 ///
@@ -178,9 +175,9 @@ impl Entries {
         ensures free { OnOk result (size_cause newer ≡ None) }
         ensures refused { IfErr result (λ r. (r ≡ Refusal.Memory) ⊎ (size_cause newer ≡ Some r)) }
     {
-        if !canonical_size_is_at_most(&newer, MOST_BYTES) {
+        if !canonical_size_is_at_most(&newer, MOST_TOGETHER) {
             return Err(Refusal::TooMany {
-                limit: MOST_BYTES as u32,
+                limit: MOST_TOGETHER as u32,
             });
         }
         let count = self.latest(entry).unwrap_or(0);

@@ -14,11 +14,8 @@ use crate::halt::Halt;
 use qz_grading::Refusal;
 use qz_http::{Item, LinkCore, LinkEnd};
 use qz_links::{Clock, Link, send_all};
-use qz_terms::{Desk, Reply};
+use qz_terms::{Desk, GREATEST_MOMENT, Reply};
 use std::alloc::Global;
-
-/// The greatest moment: the last second of the year 2099.
-const GREATEST_MOMENT: u64 = 4_102_444_799;
 
 /// One read gives at most so many bytes: as many as a head has.
 const PIECE: usize = 8192;

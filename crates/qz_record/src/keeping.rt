@@ -13,9 +13,9 @@ ghost use Rattle.qz_terms.specs.CatalogAnswer.{keeps_record};
 ghost use Rattle.qz_terms.specs.Kept.{AreQuestions, IsKept, KeepsEvent, KeepsRequest, are_hints, are_settings, asks_described, has_terms, if_there, is_allowed, is_answer, is_bound, is_described, is_duration, is_moment, is_penalty, is_quiz_grade, is_response, is_step};
 ghost use Rattle.qz_record.specs.Records.{keeps_described};
 
-use crate::lengths::{MOST_TEXT, has_short_texts, is_short_together};
+use crate::lengths::{has_short_texts, is_short_together};
 use qz_decimal::{Fraction, Grade, ONE};
-use qz_grading::{Answer, Item, Kind, Question, Response, Step, is_sound};
+use qz_grading::{Answer, Item, Kind, MOST_HINT, MOST_TEXT, Question, Response, Step, is_sound};
 use qz_terms::{Bound, Event, GREATEST_MOMENT, Learned, Record, Request, Settings};
 use qz_text::Text;
 
@@ -25,10 +25,8 @@ const LONGEST: u32 = 31_536_000;
 /// The most attempts that a setting allows.
 const MOST_ALLOWED: u32 = 1000;
 
-/// The most hints of a question, and the most bytes of one.
+/// The most hints of a question.
 const MOST_HINTS: usize = 20;
-
-const MOST_HINT: usize = 4096;
 
 /// The most slots of a quiz.
 const MOST_SLOTS: usize = 200;

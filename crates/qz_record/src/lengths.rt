@@ -9,14 +9,8 @@ ghost use Rattle.qz_grading.specs.declared.question.Num.{Num};
 ghost use Rattle.qz_grading.specs.declared.question.Pair.{Pair};
 ghost use Rattle.qz_grading.specs.declared.question.Short.{Short};
 
-use qz_grading::{Choice, Kind, Num, Pair, Question, Short};
+use qz_grading::{Choice, Kind, MOST_TEXT, MOST_TOGETHER, Num, Pair, Question, Short};
 use qz_text::Text;
-
-/// The most bytes of one text.
-pub(crate) const MOST_TEXT: usize = 65_536;
-
-/// The most bytes of all texts and hints of a question.
-const MOST_TOGETHER: usize = 262_144;
 
 /// What has texts.
 trait Worded {

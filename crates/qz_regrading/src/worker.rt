@@ -13,11 +13,8 @@ ghost use Rattle.qz_regrading.specs.Workers.{CountsFault, KeepsParts, ServesWork
 use crate::met::Met;
 use qz_grading::{AttemptId, Refusal};
 use qz_links::Clock;
-use qz_terms::{Ask, Caller, Desk, Done, Reply, Request};
+use qz_terms::{Ask, Caller, Desk, Done, GREATEST_MOMENT, Reply, Request};
 use std::alloc::Global;
-
-/// The greatest moment: the last second of the year 2099.
-const GREATEST_MOMENT: u64 = 4_102_444_799;
 
 /// Asks a request of a worker at the moment that the clock tells, or at the greatest where it tells a later one.
 fn ask<D: Desk, C: Clock>(alloc: Global, desk: &mut D, clock: &mut C, request: Request) -> Reply

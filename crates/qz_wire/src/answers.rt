@@ -7,15 +7,12 @@ ghost use Rattle.qz_wire.specs.Answers.{pick_of, numbers_of, picks_of, match_of,
 use crate::escapes::unescaped;
 use crate::lines::{after, number};
 use crate::words::cut;
-use qz_grading::Answer;
+use qz_grading::{Answer, MOST_TEXT};
 use qz_text::{Listed, NoMemory, Typed};
 use std::alloc::Global;
 
 /// No choice or answer has a greater number.
 const GREATEST: u32 = 64;
-
-/// A typed text has at most so many bytes.
-const LONGEST: usize = 65_536;
 
 fn pick_in(word: &[u8]) -> Option<Answer>
     ensures { result ≡ pick_of word.now }
@@ -71,7 +68,7 @@ fn typed_in(alloc: Global, word: &[u8]) -> Result<Option<Answer>, NoMemory>
         return Ok(None);
     };
     let bytes = found.as_slice();
-    if bytes.len() > LONGEST {
+    if bytes.len() > MOST_TEXT {
         return Ok(None);
     }
     match str::from_utf8(bytes) {

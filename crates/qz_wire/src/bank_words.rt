@@ -14,16 +14,13 @@ use crate::escapes::{text_in, utf8_in};
 use crate::words::cut;
 use gift_read::{GiftFault, read};
 use qz_decimal::{Fraction, Grade, Mark};
-use qz_grading::{Bank, Behaviour, Item, Question, Refusal};
+use qz_grading::{Bank, Behaviour, Item, MOST_HINT, Question, Refusal};
 use qz_terms::{Handling, Method, Review, Role, Whom};
 use qz_text::{Listed, NoMemory, Text};
 use std::alloc::Global;
 
 /// A name has at most so many bytes.
 const LONGEST_NAME: usize = 255;
-
-/// A hint has at most so many bytes.
-const LONGEST_HINT: usize = 4_096;
 
 /// There are at most so many hints.
 const MOST_HINTS: usize = 20;
@@ -191,7 +188,7 @@ pub fn penalty_in(word: &[u8]) -> Option<Fraction>
 fn hint_in(alloc: Global, line: &[u8]) -> Result<Option<Text>, NoMemory>
     ensures { IfOk result (λ found. found ≡ hint_of line.now) }
 {
-    if line.is_empty() || line.len() > LONGEST_HINT {
+    if line.is_empty() || line.len() > MOST_HINT {
         return Ok(None);
     }
     utf8_in(alloc, line)
