@@ -1,4 +1,4 @@
--- What the first records of a catalogue tell of versions stays, whatever comes behind them.
+-- What the first records of a catalogue tell of a quiz's questions stays, whatever comes behind them.
 use Rattle.std.proofs.Common.{◌≡◌, ℕ, ◌+◌, ◌-◌, true, List, [], ◌∷◌, ◌++◌, Option, Some, None, map, take, drop, refl, sym, ap, subst, ◌∙◌}
 use Rattle.std.specs.List.{enumerate_from, list_all}
 use Rattle.std.specs.Prelude.{ℤ, is_some}

@@ -1,9 +1,6 @@
 //! Checking a GIFT text, and laying it out anew.
 
-ghost use Rattle.std.specs.Prelude.{◌≡◌, string_bytes, MatchResult, Some, None, Err, OnOk, IfErr, IfOk};
-ghost use Rattle.std.specs.Io.KnownBytes.{Appends};
-ghost use Rattle.qz_outside.specs.Causes.{HasRisen};
-ghost use Rattle.qz_outside.specs.Sources.{AppendsFront};
+ghost use Rattle.std.specs.Prelude.{MatchResult, Some, None};
 ghost use Rattle.qz_ending.specs.Endings.{Ended};
 ghost use Rattle.qz_gift.specs.GiftEndings.{GiftEnds, GiftsAll, bank_text, fault_text, Writes};
 

@@ -10,9 +10,8 @@ use Rattle.qz_grading.specs.Grading.{at_place}
 use Rattle.qz_lemmas.proofs.Lists.{enumerate-append}
 use Rattle.qz_terms.proofs.Staying.{at-append}
 
--- ---- a longer list
+-- ---- what is there
 
--- what is there
 pub some-there : {A : Type 0} (o : Option A) → is_some o ≡ true → (x : A) × (o ≡ Some x)
 some-there None some = absurd cc
 some-there (Some x) some = (x, refl)
