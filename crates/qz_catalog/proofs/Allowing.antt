@@ -23,9 +23,8 @@ use Rattle.qz_terms.specs.Legal.{AskIsAllowed, CatalogEventIsAllowed, IsAllowedI
 use Rattle.qz_terms.proofs.Standing.{free-by, never-granted}
 use Rattle.qz_bank.specs.declared.entry.Entry.{Entry}
 use Rattle.qz_bank.specs.Laws.{IsBankOf}
-use Rattle.qz_catalog.specs.Allowed.{can_be_asked, can_begin, can_stand, can_stand_by, is_founding, is_permitted}
+use Rattle.qz_catalog.specs.Allowed.{can_be_asked, can_stand, can_stand_by, is_permitted}
 use Rattle.qz_catalog.specs.Applying.{bank_cause, early_cause, stand_in}
-use Rattle.qz_catalog.proofs.AdoptLemmas.{nobody}
 use Rattle.qz_catalog.proofs.Deciding.{cause-none, cause-same}
 use Rattle.qz_catalog.proofs.Marks.{and-left, and-right}
 use Rattle.qz_catalog.proofs.Versions.{bank-free}
@@ -189,13 +188,3 @@ stand-decides c r some kept = (passes, stands)
 
     stands : IsAllowedInCatalog c r → can_stand c r ≡ true
     stands a = both _ _ (eq-eqb r.owner 0 a.owner) (both _ _ a.terms (both _ _ (eq-eqb (moment_in c r.moment) r.moment a.moment) (can-by c r r.event refl some a.owner a.terms a.event)))
-
--- ---- a first record
-
-begins-by : (r : Record) (e : Event) → CatalogEventIsAllowed [] r e → is_founding e ≡ true
-begins-by r (event.Founded shards token) allowed = refl
-begins-by r (event.Asked x) allowed = absurd (nobody r.caller allowed.user (r.caller == 0) refl allowed.by_caller)
-begins-by r e allowed = absurd allowed
-
-    begins : IsAllowedInCatalog [] r → can_begin r ≡ true
-    begins a = both _ _ (eq-eqb r.owner 0 a.owner) (both _ _ a.terms (begins-by r r.event a.event))
