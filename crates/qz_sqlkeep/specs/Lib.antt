@@ -1,0 +1,4 @@
+pub mod Tables
+pub mod Schema
+pub mod Keeping
+pub mod Told

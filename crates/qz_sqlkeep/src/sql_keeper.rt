@@ -1,0 +1,140 @@
+//! The keeper.
+
+ghost use Rattle.std.specs.Prelude.{◌≡◌, ◌≤◌, false, [], length, None, IsTrue, IfOk, IsErrOf};
+ghost use Rattle.qz_disks.specs.declared.keeper.KeepErr.TheVariants.{Fault};
+ghost use Rattle.qz_disks.specs.declared.keeper.TheConstants.{MOST_PAYLOAD};
+ghost use Rattle.qz_disks.specs.Keepers.{EndsAppending, EndsReopening, HasKeepCause};
+ghost use Rattle.qz_disks.specs.Sound.{StaysSound};
+ghost use Rattle.sqlite.specs.Held.{state};
+ghost use Rattle.sqlite.specs.State.{HasCleanDisk};
+ghost use Rattle.sqlite.specs.Steps.{over_memory};
+ghost use Rattle.qz_sqlkeep.specs.Schema.{HasTables, payloads_in};
+ghost use Rattle.qz_sqlkeep.specs.Keeping.{kept_in, EndsFinding, EndsStoring};
+
+use crate::Base;
+use crate::payloads::{append_payload, read_payloads};
+use crate::refusals::told;
+use crate::schema::make_tables;
+use qz_disks::{KeepErr, Keeper};
+use qz_text::{Bytes, Listed};
+use sqlite::{Connection, Error, MemStore};
+use std::alloc::Global;
+use std::marker::Model;
+
+/// A list of payloads in the tables of a database.
+///
+/// Each refusal of SQLite but want of memory raises the count of faults. A database that a fault of its disk has shut
+/// refuses every call from then on.
+#[derive(Drop)]
+pub struct SqlKeeper<S: Base> {
+    conn: Connection<S>,
+    doubt: Option<Bytes>,
+    faults: u64,
+}
+
+impl<S: Base> Model for SqlKeeper<S> {
+    ghost use Rattle.sqlite.specs.Held.{state};
+    ghost use Rattle.qz_sqlkeep.specs.Keeping.{Keeping, keeping_code, IsAtRest};
+
+    ghost Value = { Keeping S };
+
+    ghost coded = { keeping_code S.code };
+
+    ghost view = { λ k. record { conn = k.conn; doubt = k.doubt; faults = k.faults } };
+
+    ghost invariant = { λ k. IsAtRest S.Base.tells (state S.Store k.conn) };
+}
+
+impl<S: Base> SqlKeeper<S> {
+    /// The keeper of the list whose tables a database has.
+    pub fn new(conn: Connection<S>) -> SqlKeeper<S>
+        requires idle { conn.in_transaction ≡ false }
+        requires tables { IsTrue S.Base.tells
+            → HasTables (payloads_in (state S.Store conn).now) (state S.Store conn).now }
+        ensures { result ≡ record { conn = conn; doubt = None; faults = 0 } }
+    {
+        SqlKeeper {
+            conn,
+            doubt: None,
+            faults: 0,
+        }
+    }
+
+    /// How often SQLite has refused for another cause than want of memory.
+    pub fn faults(&self) -> u64
+        ensures { result ≡ self.now.faults }
+    {
+        self.faults
+    }
+}
+
+impl SqlKeeper<MemStore> {
+    /// A keeper of an empty list, in memory.
+    pub fn in_memory(alloc: Global) -> Result<SqlKeeper<MemStore>, Error>
+        ensures tables { IfOk result (λ k. HasTables [] (state over_memory k.conn).now) }
+        ensures fresh { IfOk result (λ k. (k.doubt ≡ None) × (k.faults ≡ 0)) }
+    {
+        let mut conn = Connection::open_in_memory(alloc)?;
+        make_tables(&mut conn)?;
+        Ok(SqlKeeper::new(conn))
+    }
+}
+
+impl<S: Base> Keeper for SqlKeeper<S> {
+    ghost kept = { λ k. kept_in S.Base.tells (state S.Store k.conn).now };
+
+    ghost doubt = { λ k. k.doubt };
+
+    ghost faults = { λ k. k.faults };
+
+    // A statement may be refused.
+    ghost sound = { λ _. ⊥ };
+
+    fn append(&mut self, alloc: Global, payload: &[u8]) -> Result<(), KeepErr>
+        requires settled { self.old.doubt ≡ None }
+        requires size { length payload.now ≤ MOST_PAYLOAD }
+        ensures list { EndsAppending (kept_in S.Base.tells (state S.Store self.old.conn).now)
+            (kept_in S.Base.tells (state S.Store self.new.conn).now) self.new.doubt
+            payload.now result }
+        ensures cause { HasKeepCause self.old.faults self.new.faults result }
+        ensures stays_sound { StaysSound ⊥ ⊥
+            self.old.faults self.new.faults (IsErrOf result Fault) }
+
+        // What it does to the tables, of a database in a file too.
+        ensures tables { HasCleanDisk (state S.Store self.new.conn) → EndsStoring payload.now
+            (state S.Store self.old.conn) (state S.Store self.new.conn) result }
+    {
+        let copy = Bytes::of(alloc, payload)?;
+        match append_payload(&mut self.conn, payload) {
+            Ok(()) => Ok(()),
+            Err(error) => match told(&mut self.faults, error) {
+                KeepErr::Memory => Err(KeepErr::Memory),
+                KeepErr::Fault => {
+                    self.doubt = Some(copy);
+                    Err(KeepErr::Fault)
+                }
+            },
+        }
+    }
+
+    fn reopen(&mut self, alloc: Global) -> Result<Listed<Bytes>, KeepErr>
+        ensures list { EndsReopening (kept_in S.Base.tells (state S.Store self.old.conn).now)
+            (kept_in S.Base.tells (state S.Store self.new.conn).now)
+            self.old.doubt self.new.doubt result }
+        ensures cause { HasKeepCause self.old.faults self.new.faults result }
+        ensures stays_sound { StaysSound ⊥ ⊥
+            self.old.faults self.new.faults (IsErrOf result Fault) }
+
+        // What it finds in a database in a file too.
+        ensures tables { HasCleanDisk (state S.Store self.new.conn) → EndsFinding
+            (state S.Store self.old.conn) (state S.Store self.new.conn) result }
+    {
+        match read_payloads(alloc, &mut self.conn) {
+            Ok(found) => {
+                self.doubt = None;
+                Ok(found)
+            }
+            Err(error) => Err(told(&mut self.faults, error)),
+        }
+    }
+}
