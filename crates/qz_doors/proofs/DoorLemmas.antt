@@ -11,7 +11,7 @@ use Rattle.std.specs.Prelude.{IfSome}
 use Rattle.qz_doors.specs.declared.door.DoorEnd.{DoorEnd}
 use Rattle.qz_doors.specs.Doors.{Entrance, ServesDoor, ServesInTurn, ServesNext, TakesNoLink, is_short, shorter}
 use Rattle.qz_doors.specs.Doors as turns
-use Rattle.qz_doors.specs.Answers.{Answerer}
+use Rattle.qz_asking.specs.Asking.{Answerer}
 use Rattle.qz_doors.specs.Links.{LinkEnds, Peer}
 
 -- one link more is served

@@ -9,7 +9,8 @@ use Rattle.qz_http.specs.declared.items.Item.TheVariants as item
 use Rattle.qz_http.specs.declared.items.LinkEnd.{LinkEnd}
 use Rattle.qz_http.specs.declared.items.LinkEnd.TheVariants as end
 use Rattle.qz_http.specs.Links.{Link}
-use Rattle.qz_doors.specs.Answers.{Answerer, Answers, Asks, RepliesTo}
+use Rattle.qz_asking.specs.Asking.{Answerer, Asks}
+use Rattle.qz_doors.specs.Answers.{Answers, RepliesTo}
 use Rattle.qz_doors.specs.Answers as chain
 use Rattle.qz_doors.specs.declared.door.DoorEnd.{DoorEnd}
 use Rattle.qz_doors.specs.Doors.{Entrance, ServesDoor, ServesInTurn}

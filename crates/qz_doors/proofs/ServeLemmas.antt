@@ -65,7 +65,7 @@ nothing_behind : (core : Link) → core.finished ≡ true → ended_link (fed co
 nothing_behind core finished = ap (λ (l : List ℕ). ended_link (record core { left = l })) (append-nil core.left) ∙ ap (λ (b : Bool). record core { finished = b }) (sym finished)
 
 -- what is given stays so, whatever bytes follow, and at their end
-gives_whole : (core next : Link) (given : Item) (more : List ℕ) (finished : Bool) → core.finished ≡ finished → MayCome core more → (given ≡ item.Need → ⊥) → Gives core given next
+pub gives_whole : (core next : Link) (given : Item) (more : List ℕ) (finished : Bool) → core.finished ≡ finished → MayCome core more → (given ≡ item.Need → ⊥) → Gives core given next
     → Gives (ended_link (fed core more)) given (ended_link (fed next more))
 gives_whole core next given more false is may decided step = gives_at_end (fed core more) (fed next more) given is decided (gives-append core next given more is decided step)
 gives_whole core next given more true is may decided step =
@@ -74,7 +74,7 @@ gives_whole core next given more true is may decided step =
     subst (λ (m : List ℕ). Gives (ended_link (fed core m)) given (ended_link (fed next m))) (sym (may is)) here
 
 -- the response doesn't depend on the bytes left
-same_response : (link : Link) (more : List ℕ) (given : Item) (reply : Reply) → written (ended_link (fed link more)) given reply ≡ written link given reply
+pub same_response : (link : Link) (more : List ℕ) (given : Item) (reply : Reply) → written (ended_link (fed link more)) given reply ≡ written link given reply
 same_response link more (item.Ask asked) reply = refl
 same_response link more (item.Refused refusal) reply = refl
 same_response link more (item.Bare status) reply = refl
@@ -210,7 +210,7 @@ serves_none asks old a core fresh = rw fresh (record {
 })
 
 -- its answers up to now
-answers_now : {S : Type 0} (asks : S → S → Ask → Reply → Type 0) (old new : Peer) (a b : S) (core : Link) (s : IsServing asks old new a b core)
+pub answers_now : {S : Type 0} (asks : S → S → Ask → Reply → Type 0) (old new : Peer) (a b : S) (core : Link) (s : IsServing asks old new a b core)
     → Answers asks (whole_link s.bytes) a s.items s.replies s.output (ended_link (fed core [])) b
 answers_now asks old new a b core s = subst (λ (l : List ℕ). Answers asks (whole_link l) a s.items s.replies s.output (ended_link (fed core [])) b) (append-nil s.bytes) (s.ahead [] (λ is. refl))
 
@@ -442,7 +442,7 @@ ends_reading asks old mid new a b core s need r =
       λ below. omega (arith, s.later, r.risen below),
     )
 
-responds_need : (given : Item) → has_response given ≡ true → given ≡ item.Need → ⊥
+pub responds_need : (given : Item) → has_response given ≡ true → given ≡ item.Need → ⊥
 responds_need given responds is = false≢true (sym (ap has_response is) ∙ responds)
 
 -- it stopped within a response

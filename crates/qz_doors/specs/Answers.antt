@@ -1,24 +1,12 @@
 -- How the requests of a link are answered, one after the other.
-use Rattle.std.specs.Prelude.{◌≡◌, ℕ, min, true, List, [], ◌∷◌, ◌++◌}
+use Rattle.std.specs.Prelude.{◌≡◌, ℕ, true, List, [], ◌∷◌, ◌++◌}
 use Rattle.qz_terms.specs.declared.ask.Ask.{Ask}
 use Rattle.qz_terms.specs.declared.reply.Reply.{Reply}
 use Rattle.qz_terms.specs.declared.reply.Reply.TheVariants as replies
-use Rattle.qz_links.specs.Clocks.{greatest_moment}
 use Rattle.qz_http.specs.declared.items.Item.{Item}
 use Rattle.qz_http.specs.declared.items.Item.TheVariants as item
 use Rattle.qz_http.specs.Links.{Gives, Link, written}
 use Rattle.qz_http.specs.Talk.{is_request}
-
--- what answers: a desk and a clock
-pub record Answerer (D C : Type 0) : Type 0 where
-  pub desk : D
-  pub clock : C
-
--- a desk is asked at the moment that the clock tells, or at the greatest where it tells a later one
-pub record Asks {D C : Type 0} (tells : C → ℕ → C → Type 0) (answers : D → D → ℕ → Ask → Reply → Type 0) (a b : Answerer D C) (asked : Ask) (reply : Reply) : Type 0 where
-  pub moment : ℕ
-  pub told : tells a.clock moment b.clock
-  pub answered : answers a.desk b.desk (min moment greatest_moment) asked reply
 
 -- An ask is replied to by the desk, and what is refused by its refusal. The desk isn't asked anything else.
 abbrev pub RepliesTo : {S : Type 0} → (S → S → Ask → Reply → Type 0) → Item → S → S → Reply → Type 0

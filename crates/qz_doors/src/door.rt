@@ -5,7 +5,7 @@ ghost use Rattle.qz_outside.specs.Causes.{HasRisen};
 ghost use Rattle.qz_terms.specs.declared.ask.Ask.{Ask};
 ghost use Rattle.qz_terms.specs.Kept.{is_moment};
 ghost use Rattle.qz_http.specs.Items.{IsAskable};
-ghost use Rattle.qz_doors.specs.Answers.{Asks};
+ghost use Rattle.qz_asking.specs.Asking.{Asks};
 ghost use Rattle.qz_doors.specs.Doors.{ServesDoor, ServesNext, TakesNoLink, is_short, shorter};
 
 use crate::link::serve_link;

@@ -7,4 +7,4 @@ mod halt;
 mod link;
 
 pub use door::{DoorEnd, serve_door};
-pub use link::serve_link;
+pub use link::{has_response, reply_to, serve_link};

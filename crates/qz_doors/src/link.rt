@@ -6,7 +6,8 @@ ghost use Rattle.qz_terms.specs.Kept.{is_moment};
 ghost use Rattle.qz_http.specs.declared.items.Item.TheVariants as items;
 ghost use Rattle.qz_http.specs.Items.{AsksAskable, IsAskable};
 ghost use Rattle.qz_http.specs.Links.{new_link};
-ghost use Rattle.qz_doors.specs.Answers.{Asks, RepliesTo};
+ghost use Rattle.qz_asking.specs.Asking.{Asks};
+ghost use Rattle.qz_doors.specs.Answers.{RepliesTo};
 ghost use Rattle.qz_doors.specs.Links.{LinkEnds, has_response};
 ghost use Rattle.qz_doors.specs.Steps.{AnswersItem, AnswerStops, GoesOn, IsDone, ItemStops, ReadStops, ReadsOn, StepEnds, StepStops, StepsOn, halt_end};
 
@@ -136,8 +137,8 @@ fn step<D: Desk, L: Link, C: Clock>(
     act(alloc, desk, link, clock, core, room, &item)
 }
 
-/// Whether an item has a response.
-fn has_response(item: &Item) -> bool
+/// Whether an item has a response: a request does, and a head that is refused.
+pub fn has_response(item: &Item) -> bool
     ensures { result ≡ has_response item.now }
 {
     match item {
@@ -256,8 +257,9 @@ fn answer<D: Desk, L: Link, C: Clock>(
     Ok(())
 }
 
-/// The reply to an item. Where it has none, nobody looks at what is answered here.
-fn reply_to<D: Desk, C: Clock>(alloc: Global, desk: &mut D, clock: &mut C, item: &Item) -> Reply
+/// The reply to an item: an ask is answered over the desk, at the moment that the clock tells, or at 4,102,444,799 where it tells
+/// a later one. Where an item has no reply, what is answered here means nothing.
+pub fn reply_to<D: Desk, C: Clock>(alloc: Global, desk: &mut D, clock: &mut C, item: &Item) -> Reply
     requires takes { (moment : ℕ) (ask : Ask) → is_moment moment ≡ true → IsAskable ask → D.takes moment ask }
     requires asked { AsksAskable item.now }
     ensures { RepliesTo (Asks C.tells D.answers) item.now

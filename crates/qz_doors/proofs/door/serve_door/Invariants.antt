@@ -1,5 +1,5 @@
 use Rattle.std.proofs.Common.{◌≡◌, ◌-◌, ◌≤◌, false}
-use Rattle.qz_doors.specs.Answers.{Asks}
+use Rattle.qz_asking.specs.Asking.{Asks}
 use Rattle.qz_doors.proofs.DoorLemmas.{IsAtDoor}
 use Rattle.qz_doors.proofs.door.serve_door.Given as goal
 

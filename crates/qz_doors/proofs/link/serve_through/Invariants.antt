@@ -1,5 +1,5 @@
 use Rattle.std.proofs.Common.{◌<◌, length}
-use Rattle.qz_doors.specs.Answers.{Asks}
+use Rattle.qz_asking.specs.Asking.{Asks}
 use Rattle.qz_doors.proofs.ServeLemmas.{IsServing, steps_left}
 use Rattle.qz_doors.proofs.link.serve_through.Given as goal
 

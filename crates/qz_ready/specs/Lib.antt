@@ -1,0 +1,4 @@
+pub mod Looks
+pub mod Arrivals
+pub mod Paces
+pub mod Sockets

@@ -1,0 +1,6 @@
+//! Tests of links and doors over sockets. In a crate of their own, so that they are proved without proving what they test
+//! once more.
+#![tactic(auto)]
+
+#[cfg(test)]
+mod sockets;
