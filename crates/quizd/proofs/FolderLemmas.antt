@@ -7,8 +7,8 @@ use Rattle.std.proofs.lemmas.List.{length-map}
 use Rattle.std.proofs.lemmas.List.Sums.{sum_by-cons}
 use Rattle.std.proofs.lemmas.Slice.Eq.{bytes_eq-Decides}
 use Rattle.qz_catalog_turns.specs.Turning.{tale_of}
-use Rattle.qz_disks.specs.Shelves.{Files, NoneOutIn, Place, place}
-use Rattle.qz_doors.specs.Answers.{Answerer}
+use Rattle.qz_disks.specs.Shelves.{ChangesAt, Files, NoneOutIn, Place, place}
+use Rattle.qz_asking.specs.Asking.{Answerer}
 use Rattle.qz_doors.specs.declared.door.DoorEnd.{DoorEnd}
 use Rattle.qz_ending.specs.declared.stop.Stop.{Stop}
 use Rattle.qz_ending.specs.declared.stop.Stop.TheVariants as stop
@@ -22,9 +22,11 @@ use Rattle.qz_regrading.specs.declared.ends.LoopEnd.{LoopEnd}
 use Rattle.qz_regrading.specs.declared.ends.LoopEnd.TheVariants as ends
 use Rattle.qz_regrading.specs.Loops.{AllDone}
 use Rattle.qz_regrading.specs.Loops as loops
+use Rattle.qz_regrading.proofs.Searching.{regrades_follow}
 use Rattle.qz_script_schools.specs.Folders.{Disks, FolderEnds, IsGivenBack, ServedFolder, Unserved, disk_faults, journal_faults}
 use Rattle.qz_script_schools.proofs.FolderLemmas.{follows_count, follows_goes, not_raised, unloaded-for, unserved_status}
 use Rattle.qz_shard.specs.Keeping as part
+use Rattle.qz_school.specs.Answering.{IsServed}
 use Rattle.qz_school.specs.Solos.{School, faults_of, lists_in}
 use Rattle.qz_stations.specs.declared.ends.ServeEnd.{ServeEnd}
 use Rattle.qz_stations.specs.Passing.{Lasts, ServesNone, ServesSchool, with_clock}
@@ -66,21 +68,21 @@ closes_later faults a b c =
 -- ---- a school that was served and regraded
 
 -- what a last pass leaves of it
-lasts_count : {K R C : Type 0} (sound : K → Type 0) (faults : K → ℕ) (regraders : ℕ) (a b : School K) (doors after : List (R × C)) (last : Option LoopEnd) → Lasts sound faults regraders a b doors after last → length b.parts ≡ length a.parts
-lasts_count sound faults regraders a b doors after None is = ap (λ (x : School _). length x.parts) is.1
-lasts_count sound faults regraders a b doors after (Some end) is = follows_count sound faults a b is.1.follows
+lasts_count : {K R C : Type 0} (tells : C → ℕ → C → Type 0) (sound : K → Type 0) (faults : K → ℕ) (regraders : ℕ) (a b : School K) (doors after : List (R × C)) (last : Option LoopEnd) → Lasts tells sound faults regraders a b doors after last → length b.parts ≡ length a.parts
+lasts_count tells sound faults regraders a b doors after None is = ap (λ (x : School _). length x.parts) is.1
+lasts_count tells sound faults regraders a b doors after (Some end) is = follows_count sound faults a b (regrades_follow tells (IsServed sound faults) lists_in _ _ end is.1.regrades)
 
-lasts_later : {K R C : Type 0} (sound : K → Type 0) (faults : K → ℕ) (regraders : ℕ) (a b : School K) (doors after : List (R × C)) (last : Option LoopEnd) → Lasts sound faults regraders a b doors after last → faults_of faults a ≤ faults_of faults b
-lasts_later sound faults regraders a b doors after None is = let same = ap (λ (x : School _). faults_of faults x) is.1 in omega (arith, same)
-lasts_later sound faults regraders a b doors after (Some end) is = (follows_goes sound faults a b is.1.follows).later
+lasts_later : {K R C : Type 0} (tells : C → ℕ → C → Type 0) (sound : K → Type 0) (faults : K → ℕ) (regraders : ℕ) (a b : School K) (doors after : List (R × C)) (last : Option LoopEnd) → Lasts tells sound faults regraders a b doors after last → faults_of faults a ≤ faults_of faults b
+lasts_later tells sound faults regraders a b doors after None is = let same = ap (λ (x : School _). faults_of faults x) is.1 in omega (arith, same)
+lasts_later tells sound faults regraders a b doors after (Some end) is = (follows_goes sound faults a b (regrades_follow tells (IsServed sound faults) lists_in _ _ end is.1.regrades)).later
 
 clock_count : {R C : Type 0} (clock : C) (doors : List (R × C)) → length (with_clock clock doors) ≡ length doors
 clock_count clock [] = refl
 clock_count clock (d ∷ ds) = refl
 
-lasts_many : {K R C : Type 0} (sound : K → Type 0) (faults : K → ℕ) (regraders : ℕ) (a b : School K) (doors after : List (R × C)) (last : Option LoopEnd) → Lasts sound faults regraders a b doors after last → length after ≡ length doors
-lasts_many sound faults regraders a b doors after None is = ap length is.2
-lasts_many sound faults regraders a b doors after (Some end) is = ap length is.1.doors ∙ clock_count is.1.clock doors
+lasts_many : {K R C : Type 0} (tells : C → ℕ → C → Type 0) (sound : K → Type 0) (faults : K → ℕ) (regraders : ℕ) (a b : School K) (doors after : List (R × C)) (last : Option LoopEnd) → Lasts tells sound faults regraders a b doors after last → length after ≡ length doors
+lasts_many tells sound faults regraders a b doors after None is = ap length is.2
+lasts_many tells sound faults regraders a b doors after (Some end) is = ap length is.1.doors ∙ clock_count is.1.clock doors
 
 -- the door at a place, with some clock
 record IsDoor {R C : Type 0} (doors : List (R × C)) (k : ℕ) (door : R) : Type 0 where
@@ -92,10 +94,10 @@ clock_door clock own [] k door at = absurd cc
 clock_door clock own (d ∷ ds) zero door at = let same : d ≡ (door, own) = cc in record { clock = clock; there = ap (λ (x : _ × _). Some (x.0, clock)) same }
 clock_door clock own (d ∷ ds) (suc k) door at = record { clock = own; there = at }
 
-lasts_door : {K R C : Type 0} (sound : K → Type 0) (faults : K → ℕ) (regraders : ℕ) (a b : School K) (doors after : List (R × C)) (last : Option LoopEnd) → Lasts sound faults regraders a b doors after last
+lasts_door : {K R C : Type 0} (tells : C → ℕ → C → Type 0) (sound : K → Type 0) (faults : K → ℕ) (regraders : ℕ) (a b : School K) (doors after : List (R × C)) (last : Option LoopEnd) → Lasts tells sound faults regraders a b doors after last
     → (own : C) (k : ℕ) (door : R) → slice_get doors k ≡ Some (door, own) → IsDoor after k door
-lasts_door sound faults regraders a b doors after None is own k door at = subst (λ (l : List _). IsDoor l k door) (sym is.2) (record { clock = own; there = at })
-lasts_door sound faults regraders a b doors after (Some end) is own k door at = subst (λ (l : List _). IsDoor l k door) (sym is.1.doors) (clock_door is.1.clock own doors k door at)
+lasts_door tells sound faults regraders a b doors after None is own k door at = subst (λ (l : List _). IsDoor l k door) (sym is.2) (record { clock = own; there = at })
+lasts_door tells sound faults regraders a b doors after (Some end) is own k door at = subst (λ (l : List _). IsDoor l k door) (sym is.1.doors) (clock_door is.1.clock own doors k door at)
 
 module _ {K R C E : Type 0} (sound : K → Type 0) (faults : K → ℕ) (serves : Serving R C) (workers regraders : ℕ) (a b : School K) (doors after : List (R × C)) where
   -- what serving a school came to
@@ -103,15 +105,15 @@ module _ {K R C E : Type 0} (sound : K → Type 0) (faults : K → ℕ) (serves 
   Ends served = MatchResult served (ServesSchool sound faults serves workers regraders a b doors after) (λ _. ServesNone faults a b doors after)
 
   pub school_count : (served : Result ServeEnd E) → Ends served → length b.parts ≡ length a.parts
-  school_count (Ok end) so = lasts_count sound faults regraders so.left b so.after after end.last so.last ∙ closes_count faults a so.left so.closes
+  school_count (Ok end) so = lasts_count serves.tells sound faults regraders so.left b so.after after end.last so.last ∙ closes_count faults a so.left so.closes
   school_count (Err e) so = closes_count faults a b so.closes
 
   pub school_later : (served : Result ServeEnd E) → Ends served → faults_of faults a ≤ faults_of faults b
-  school_later (Ok end) so = le_trans (closes_later faults a so.left so.closes) (lasts_later sound faults regraders so.left b so.after after end.last so.last)
+  school_later (Ok end) so = le_trans (closes_later faults a so.left so.closes) (lasts_later serves.tells sound faults regraders so.left b so.after after end.last so.last)
   school_later (Err e) so = closes_later faults a b so.closes
 
   pub doors_as_many : (served : Result ServeEnd E) → Ends served → length after ≡ length doors
-  doors_as_many (Ok end) so = lasts_many sound faults regraders so.left b so.after after end.last so.last ∙ so.beside.as_many
+  doors_as_many (Ok end) so = lasts_many serves.tells sound faults regraders so.left b so.after after end.last so.last ∙ so.beside.as_many
   doors_as_many (Err e) so = ap length so.stay
 
 -- ---- doors
@@ -133,14 +135,14 @@ faulty (e ∷ es) some = by e.fault refl (faulty es)
 
 -- what failed at a door shows in its count
 abbrev pub Counts : {R C : Type 0} → Serving R C → (R → ℕ) → Type 0
-Counts {R} {C} serves faults = (door served : R) (a b : Answerer Tellings C) (end : DoorEnd) → serves door served a b end → end.fault ≡ true → HasRisen (faults door) (faults served)
+Counts {R} {C} serves faults = (door served : R) (a b : Answerer Tellings C) (end : DoorEnd) → serves.serves door served a b end → end.fault ≡ true → HasRisen (faults door) (faults served)
 
 none-failed : {K R C : Type 0} (sound : K → Type 0) (count : K → ℕ) (serves : Serving R C) (faults : R → ℕ) (workers regraders : ℕ) (a b : School K) (doors after : List (R × C)) (end : ServeEnd) → Counts serves faults
     → ServesSchool sound count serves workers regraders a b doors after end → NoDoorFails faults doors after → end.doors.fault ≡ true → ⊥
 none-failed sound count serves faults workers regraders a b doors after end counts so quiet failed =
     let one = faulty so.beside.ends (sym (ap (λ (e : DoorEnd). e.fault) so.beside.end_is) ∙ failed) in
     let here = so.beside.each one.place one.end one.there in
-    let last = lasts_door sound count regraders so.left b so.after after end.last so.last here.ticked one.place here.served here.after in
+    let last = lasts_door serves.tells sound count regraders so.left b so.after after end.last so.last here.ticked one.place here.served here.after in
     quiet.each one.place (here.door, here.clock) (here.served, last.clock) here.before last.there (counts here.door here.served _ _ one.end here.going one.failed)
 
 says-status : (old new : Option (List ℕ)) (before now : ℕ) (end : ServeEnd) (s : Option Stop) → SaysServed old new before now end s → ¬ HasRisen before now → (end.doors.fault ≡ true → ⊥) → (status_of s ≡ 0) ⊎ (status_of s ≡ 8)
@@ -186,7 +188,7 @@ module _ {D R C : Type 0} (disks : Disks D) (workers regraders : ℕ) (serves : 
       λ few. let more = often few in omega (arith, more, some)
 
   last-done : (a left b : School (Ledger D)) (folder : List ℕ) (old new : Shelved) (doors' : List (R × C)) (last : Option LoopEnd) → disk_faults disks a ≤ disk_faults disks left → IsGivenBack disks folder old new a b
-      → Lasts (IsSound disks.sound) (journal_faults disks) regraders left b doors' after last → is_last_short last ≡ false → 0 < regraders → ¬ HasRisen old.faults new.faults → AllDone (lists_in b)
+      → Lasts serves.tells (IsSound disks.sound) (journal_faults disks) regraders left b doors' after last → is_last_short last ≡ false → 0 < regraders → ¬ HasRisen old.faults new.faults → AllDone (lists_in b)
   last-done a left b folder old new doors' None later back is short some quiet = let zero_is = is.0 in absurd (omega (arith, zero_is, some))
   last-done a left b folder old new doors' (Some ends.Done) later back is short some quiet = is.1.ends
   last-done a left b folder old new doors' (Some (ends.Left n)) later back is short some quiet = absurd (quiet (left-risen a left b folder old new n later back is.1.ends.0 is.1.ends.1))
@@ -225,16 +227,19 @@ other-folder folder count at apart = record {
   no_part = record { each = λ k within is. apart (ap (λ (p : Place). p.folder) is) };
 }
 
-none-out-by : (folder : List ℕ) (count : ℕ) (old new : Files) (at : Place) (b : Bool) → bytes_eq at.folder folder ≡ b → NoneOut old → NoneOutIn folder new → KeepsElsewhere folder count old new → new.is_out at ≡ false
-none-out-by folder count old new at true same was inside apart =
+none-out-by : (folder : List ℕ) (old new : Files) (at : Place) (b : Bool) → bytes_eq at.folder folder ≡ b → NoneOut old → NoneOutIn folder new → ((at.folder ≡ folder → ⊥) → new.is_out at ≡ old.is_out at) → new.is_out at ≡ false
+none-out-by folder old new at true same was inside apart =
     let is : at.folder ≡ folder = (bytes_eq-Decides at.folder folder).0 same in
     subst (λ (p : Place). new.is_out p ≡ false) (same-folder folder at is) (inside.each at.name)
-none-out-by folder count old new at false same was inside apart =
+none-out-by folder old new at false same was inside apart =
     let other : at.folder ≡ folder → ⊥ = λ is. true≢false (sym ((bytes_eq-Decides at.folder folder).1 is) ∙ same) in
-    apart.is_out at (other-folder folder count at other) ∙ was.each at
+    apart other ∙ was.each at
 
 elsewhere_none_out : (folder : List ℕ) (count : ℕ) (old new : Files) → NoneOut old → NoneOutIn folder new → KeepsElsewhere folder count old new → NoneOut new
-elsewhere_none_out folder count old new was inside apart = record { each = λ at. none-out-by folder count old new at (bytes_eq at.folder folder) refl was inside apart }
+elsewhere_none_out folder count old new was inside apart = record { each = λ at. none-out-by folder old new at (bytes_eq at.folder folder) refl was inside (λ other. apart.is_out at (other-folder folder count at other)) }
+
+pub one_none_out : (folder name : List ℕ) (old new : Files) → NoneOut old → NoneOutIn folder new → ChangesAt (place folder name) old new → NoneOut new
+one_none_out folder name old new was inside others = record { each = λ at. none-out-by folder old new at (bytes_eq at.folder folder) refl was inside (λ other. others.is_out at (λ is. other (ap (λ (p : Place). p.folder) is))) }
 
 pub folder_none_out : {D : Type 0} (disks : Disks D) (folder : List ℕ) (serves : School (Ledger D) → School (Ledger D) → Option Stop → Type 0) (kept : Type 0) (old new : Shelved) (before now : Sunk) (s : Option Stop)
     → NoneOut old.files → FolderEnds disks folder serves kept old new before now s → NoneOut new.files

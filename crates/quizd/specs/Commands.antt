@@ -18,6 +18,7 @@ use Rattle.qz_disks.specs.Shelves.{Files, Place}
 use Rattle.qz_found.specs.FoundEndings.{FoundEnds, FoundsAll, Shelved}
 use Rattle.quizd.specs.Folders.{DoorsFolderEnds, ServesDoors}
 use Rattle.qz_stations.specs.Stations.{Serving}
+use Rattle.qz_stats_school.specs.Endings.{SaysAll, StatsEnds}
 use Rattle.qz_script.specs.Scripts.{ServesAll, script_limit}
 use Rattle.qz_gift.specs.GiftEndings.{GiftEnds, GiftsAll}
 
@@ -28,7 +29,7 @@ is_memory folder = bytes_eq folder (codes "memory")
 -- ---- words that are no command
 
 abbrev pub usage : List ℕ
-usage = codes "usage: quizd replay | gift check | gift fmt | script FOLDER | found FOLDER SHARDS TOKEN | serve FOLDER PORT WORKERS REGRADERS LINKS | bulk N" ++ newline
+usage = codes "usage: quizd replay | gift check | gift fmt | script FOLDER | found FOLDER SHARDS TOKEN | serve FOLDER PORT WORKERS REGRADERS LINKS | bulk N | stats FOLDER QUIZ WORKERS" ++ newline
 
 -- the usage line was written, or the sink failed under it
 abbrev pub UsageWritten : Option (List ℕ) → Option (List ℕ) → ℕ → ℕ → Stop → Type 0
@@ -69,6 +70,7 @@ CommandEnds (Some command.GiftFormat) old new s = GiftEnds true old new s
 CommandEnds (Some (command.Script folder)) old new s = ⊥
 CommandEnds (Some (command.Found folder shards token)) old new s = ⊥
 CommandEnds (Some (command.Serve folder port workers regraders links)) old new s = ⊥
+CommandEnds (Some (command.Stats folder quiz workers)) old new s = ⊥
 CommandEnds (Some (command.Bulk count)) old new s = Keeps old.left new.left × BulkEnds count old.holds new.holds old.sink_faults new.sink_faults s
 
 -- A script is answered over the school in memory, and the shelf stays; or over the school of a folder.
@@ -77,8 +79,8 @@ ScriptEndsIn disks folder stays old new before now s =
     MatchBool (is_memory folder) (ScriptEnds script_limit first_lists before now s × stays)
     (ScriptFolderEnds disks folder script_limit old new before now s)
 
--- A script and founding leave the doors as they are, and neither founding nor serving links reads anything of the source. All other commands
--- leave doors and shelf as they are.
+-- A script, founding and an analysis leave the doors as they are, and neither founding nor serving links nor an analysis reads anything of
+-- the source. What an analysis tells doesn't depend on the number of its workers. All other commands leave doors and shelf as they are.
 abbrev pub CommandEndsAt : {D R C F : Type 0} → Disks D → (ℕ → Serving R C) → Beside R C F → Beside R C F → Option Command → Outside → Outside → Option Stop → Type 0
 CommandEndsAt disks serving at after (Some (command.Script folder)) old new s =
     (after.doors ≡ at.doors) × ScriptEndsIn disks folder (after.shelf ≡ at.shelf) at.told after.told old new s
@@ -88,6 +90,8 @@ CommandEndsAt disks serving at after (Some (command.Found folder shards token)) 
 CommandEndsAt disks serving at after (Some (command.Serve folder port workers regraders links)) old new s =
     Keeps old.left new.left
     × DoorsFolderEnds disks folder workers regraders (serving links) at.doors after.doors at.told after.told (sunk old) (sunk new) s
+CommandEndsAt disks serving at after (Some (command.Stats folder quiz workers)) old new s =
+    Keeps old.left new.left × (after.doors ≡ at.doors) × StatsEnds disks folder quiz at.told after.told (sunk old) (sunk new) s
 CommandEndsAt disks serving at after c old new s = CommandEnds c old new s × AreLeft at after
 
 -- memory was wanting for the words, and nothing was done
@@ -117,6 +121,7 @@ CommandDoesAll none_fails at after (Some (command.Found folder shards token)) ol
     FoundsAll (record { folder = folder; shards = shards; token = token }) at after (sunk old) (sunk new) status
 CommandDoesAll none_fails at after (Some (command.Serve folder port workers regraders links)) old new status =
     ServesDoors none_fails at after (sunk old) (sunk new) status
+CommandDoesAll none_fails at after (Some (command.Stats folder quiz workers)) old new status = SaysAll at after (sunk old) (sunk new) status
 CommandDoesAll none_fails at after (Some (command.Bulk count)) old new status = ¬ HasRisen old.sink_faults new.sink_faults → (status ≡ 0) ⊎ (status ≡ 8)
 
 abbrev pub RunsAll : Type 0 → Shelved → Shelved → List (List ℕ) → Outside → Outside → ℕ → Type 0

@@ -199,7 +199,11 @@ fn main(rt: HostRuntime) -> ExitCode {
             tell_folder(&rt, folder, status);
             status
         }
-        Ok(Command::Found { folder, .. } | Command::Script { folder }) => {
+        Ok(
+            Command::Found { folder, .. }
+            | Command::Script { folder }
+            | Command::Stats { folder, .. },
+        ) => {
             let status = run_alone(rt, &rt, &words);
             tell_folder(&rt, folder, status);
             status

@@ -18,20 +18,22 @@ use qz_outside::{Sink, Source, write_all};
 use qz_replay::replay;
 use qz_script_schools::{script, script_folder};
 use qz_stations::Crew;
+use qz_stats_school::stats;
 use qz_text::Text;
 use std::alloc::Global;
 use std::sync::Wait;
 use std::thread::Threads;
 
 const USAGE: &str =
-    "usage: quizd replay | gift check | gift fmt | script FOLDER | found FOLDER SHARDS TOKEN | serve FOLDER PORT WORKERS REGRADERS LINKS | bulk N\n";
+    "usage: quizd replay | gift check | gift fmt | script FOLDER | found FOLDER SHARDS TOKEN | serve FOLDER PORT WORKERS REGRADERS LINKS | bulk N | stats FOLDER QUIZ WORKERS\n";
 
 /// Runs the command that the words name, over a source, a sink, sixteen doors with a clock each, eight clocks more, and a shelf of which no file
 /// is out, and answers its exit status.
 ///
-/// The commands are `replay`, `gift check`, `gift fmt`, `script FOLDER`, `found FOLDER SHARDS TOKEN`, `bulk N` and
-/// `serve FOLDER PORT WORKERS REGRADERS LINKS`, which serves the first doors, one a worker, while others regrade by the first clocks. The
-/// folder's school is loaded, and given back with all that was accepted; for a script `memory` stands for a school in memory, just founded.
+/// The commands are `replay`, `gift check`, `gift fmt`, `script FOLDER`, `found FOLDER SHARDS TOKEN`, `bulk N`,
+/// `stats FOLDER QUIZ WORKERS`, which only reads, and `serve FOLDER PORT WORKERS REGRADERS LINKS`, which serves the first doors, one a
+/// worker, while others regrade by the first clocks. The folder's school is loaded, and given back with all that was accepted; for a script
+/// `memory` stands for a school in memory, just founded.
 /// Words that are no command are status 2: nothing is read, and the usage line is written. Where the sink fails under the usage line the status
 /// is 5. Where memory is wanting for the words it is 8, and nothing is done.
 pub fn run<
@@ -113,6 +115,13 @@ where
             )
         }
         Ok(Command::Bulk { count }) => bulk(alloc, count, sink),
+        Ok(
+            Command::Stats {
+                folder,
+                quiz,
+                workers,
+            },
+        ) => stats(rt, alloc, folder.as_bytes(), quiz, workers, sink, shelf),
         Err(WordsFault::BadWords) => show_usage(sink).status(),
         Err(WordsFault::Memory) => Stop::Memory.status(),
     }

@@ -66,30 +66,31 @@ module _ (name : Text) where
 
 -- ---- three words
 
-abbrev pub found_app : App
-found_app = words_app (codes "found") (codes "folder" ∷ codes "shards" ∷ codes "token" ∷ [])
+abbrev pub three_app : Text → App
+three_app name = words_app name (codes "first" ∷ codes "second" ∷ codes "third" ∷ [])
 
-abbrev found : Shape
-found = (built found_app).top
+abbrev three : Text → Shape
+three name = (built (three_app name)).top
 
-pub three_read : (ws : List Text) (m : ArgMatches) → has_flag ws ≡ false → Fits found_app ws m
-    → (a : Text) × (b : Text) × (c : Text) × (ws ≡ a ∷ b ∷ c ∷ [])
-    × (first_value (found_of m) (codes "folder") ≡ Some a) × (first_value (found_of m) (codes "shards") ≡ Some b) × (first_value (found_of m) (codes "token") ≡ Some c)
-three_read [] m plain fits = absurd (unfit MissingRequiredArgument _ (fault_is found refl [] plain) fits.faultless)
-three_read (a ∷ []) m plain fits = absurd (unfit MissingRequiredArgument _ (fault_is found refl (a ∷ []) plain) fits.faultless)
-three_read (a ∷ b ∷ []) m plain fits = absurd (unfit MissingRequiredArgument _ (fault_is found refl (a ∷ b ∷ []) plain) fits.faultless)
-three_read (a ∷ b ∷ c ∷ []) m plain fits =
-    let rows = fits.rows ∙ rows_are found refl (a ∷ b ∷ c ∷ []) plain in
-    let value = λ (id : Text). first_value-rows (found_of m) id ∙ ap (first_of id) rows in
-    (a, b, c, refl, value (codes "folder"), value (codes "shards"), value (codes "token"))
-three_read (a ∷ b ∷ c ∷ d ∷ ws) m plain fits = absurd (unfit UnknownArgument _ (fault_is found refl (a ∷ b ∷ c ∷ d ∷ ws) plain) fits.faultless)
+module _ (name : Text) where
+  pub three_read : (ws : List Text) (m : ArgMatches) → has_flag ws ≡ false → Fits (three_app name) ws m
+      → (a : Text) × (b : Text) × (c : Text) × (ws ≡ a ∷ b ∷ c ∷ [])
+      × (first_value (found_of m) (codes "first") ≡ Some a) × (first_value (found_of m) (codes "second") ≡ Some b) × (first_value (found_of m) (codes "third") ≡ Some c)
+  three_read [] m plain fits = absurd (unfit MissingRequiredArgument _ (fault_is (three name) refl [] plain) fits.faultless)
+  three_read (a ∷ []) m plain fits = absurd (unfit MissingRequiredArgument _ (fault_is (three name) refl (a ∷ []) plain) fits.faultless)
+  three_read (a ∷ b ∷ []) m plain fits = absurd (unfit MissingRequiredArgument _ (fault_is (three name) refl (a ∷ b ∷ []) plain) fits.faultless)
+  three_read (a ∷ b ∷ c ∷ []) m plain fits =
+      let rows = fits.rows ∙ rows_are (three name) refl (a ∷ b ∷ c ∷ []) plain in
+      let value = λ (id : Text). first_value-rows (found_of m) id ∙ ap (first_of id) rows in
+      (a, b, c, refl, value (codes "first"), value (codes "second"), value (codes "third"))
+  three_read (a ∷ b ∷ c ∷ d ∷ ws) m plain fits = absurd (unfit UnknownArgument _ (fault_is (three name) refl (a ∷ b ∷ c ∷ d ∷ ws) plain) fits.faultless)
 
-pub three_refused : (ws : List Text) → has_flag ws ≡ false → IsAtFault found_app ws → so_many 3 ws ≡ None
-three_refused [] plain at = refl
-three_refused (a ∷ []) plain at = refl
-three_refused (a ∷ b ∷ []) plain at = refl
-three_refused (a ∷ b ∷ c ∷ []) plain at = absurd (at.at_fault (fault_is found refl (a ∷ b ∷ c ∷ []) plain))
-three_refused (a ∷ b ∷ c ∷ d ∷ ws) plain at = other_number 3 (a ∷ b ∷ c ∷ d ∷ ws) (λ e. absurd (omega arith))
+  pub three_refused : (ws : List Text) → has_flag ws ≡ false → IsAtFault (three_app name) ws → so_many 3 ws ≡ None
+  three_refused [] plain at = refl
+  three_refused (a ∷ []) plain at = refl
+  three_refused (a ∷ b ∷ []) plain at = refl
+  three_refused (a ∷ b ∷ c ∷ []) plain at = absurd (at.at_fault (fault_is (three name) refl (a ∷ b ∷ c ∷ []) plain))
+  three_refused (a ∷ b ∷ c ∷ d ∷ ws) plain at = other_number 3 (a ∷ b ∷ c ∷ d ∷ ws) (λ e. absurd (omega arith))
 
 -- ---- five words
 

@@ -1,5 +1,6 @@
 -- The commands that the words of the command line name.
 use Rattle.std.specs.Prelude.{ℕ, ◌≤◌, ◌&&◌, nat_le, if◌then◌else◌, List, [], ◌∷◌, length, Option, Some, None, option_map, bytes_eq, codes}
+use Rattle.qz_terms.specs.declared.limits.TheConstants.{MOST_SHARDS}
 use Rattle.qz_command.specs.declared.command.Command.{Command}
 use Rattle.qz_command.specs.declared.command.Command.TheVariants as command
 use Rattle.qz_command.specs.Flags.{has_flag}
@@ -69,6 +70,18 @@ abbrev pub bulk_of : List (List ℕ) → Option Command
 bulk_of (count ∷ []) = bulk_by count
 bulk_of words = None
 
+-- a quiz with any number, by 1 to 16 workers
+abbrev pub stats_by : List ℕ → List ℕ → List ℕ → Option Command
+stats_by folder quiz workers = do
+  number ← number_within 0 4294967295 quiz
+  crew ← number_within 1 16 workers
+  place ← folder_of folder
+  Some (command.Stats place number crew)
+
+abbrev pub stats_of : List (List ℕ) → Option Command
+stats_of (folder ∷ quiz ∷ workers ∷ []) = stats_by folder quiz workers
+stats_of words = None
+
 -- ---- the command that all the words are
 
 abbrev pub command_by : List ℕ → List (List ℕ) → Option Command
@@ -78,7 +91,8 @@ command_by first rest =
     else (if bytes_eq first (codes "script") then script_of rest
     else (if bytes_eq first (codes "found") then found_of rest
     else (if bytes_eq first (codes "serve") then serve_of rest
-    else (if bytes_eq first (codes "bulk") then bulk_of rest else None)))))
+    else (if bytes_eq first (codes "bulk") then bulk_of rest
+    else (if bytes_eq first (codes "stats") then stats_of rest else None))))))
 
 -- no word of a command begins with a dash
 abbrev pub command_of : List (List ℕ) → Option Command
@@ -93,9 +107,10 @@ IsFolder folder = (1 ≤ length folder) × (length folder ≤ 4096)
 abbrev pub IsInRange : Command → Type 0
 IsInRange (command.Script folder) = IsFolder folder
 IsInRange (command.Found folder shards token) =
-    IsFolder folder × ((1 ≤ shards) × (shards ≤ 64)) × IsBriefToken token
+    IsFolder folder × ((1 ≤ shards) × (shards ≤ MOST_SHARDS)) × IsBriefToken token
 IsInRange (command.Serve folder port workers regraders links) =
     IsFolder folder × ((1 ≤ port) × (port ≤ 65535)) × ((1 ≤ workers) × (workers ≤ 16))
     × (regraders ≤ 8) × ((1 ≤ links) × (links ≤ 1000000000))
 IsInRange (command.Bulk count) = (1 ≤ count) × (count ≤ 2000)
+IsInRange (command.Stats folder quiz workers) = IsFolder folder × ((1 ≤ workers) × (workers ≤ 16))
 IsInRange c = Unit {0}

@@ -1,13 +1,13 @@
 //! The command that the words of the command line name.
 
 ghost use Rattle.clap.specs.Walk.{texts};
-ghost use Rattle.qz_command.specs.Commands.{IsInRange, bulk_by, bulk_of, command_by, command_of, found_by, found_of, gift_by, gift_of, replay_of, script_by, script_of, serve_by, serve_of};
+ghost use Rattle.qz_command.specs.Commands.{IsInRange, bulk_by, bulk_of, command_by, command_of, found_by, found_of, gift_by, gift_of, replay_of, script_by, script_of, serve_by, serve_of, stats_by, stats_of};
 ghost use Rattle.qz_command.specs.Flags.{has_flag, is_flag};
 ghost use Rattle.qz_command.specs.Readings.{Reads};
 ghost use Rattle.std.specs.Prelude.{◌≡◌, IfOk, false};
 
 use crate::WordsFault;
-use crate::leaves::{one_word, words_of_found, words_of_replay, words_of_serve};
+use crate::leaves::{one_word, three_words, words_of_replay, words_of_serve};
 use crate::values::{folder_in, number_in, token_text};
 use qz_text::Text;
 use std::alloc::{AllocError, Global};
@@ -43,6 +43,12 @@ pub enum Command {
     /// A school of so many students is made in memory, from 1 to 2,000.
     Bulk {
         count: u32,
+    },
+    /// It is told how each slot of a quiz was answered, over the school in a folder, by 1 to 16 workers.
+    Stats {
+        folder: Text,
+        quiz: u32,
+        workers: u8,
     },
 }
 
@@ -104,6 +110,7 @@ fn command_by(alloc: Global, first: &str, rest: &[&str]) -> Result<Command, Word
         "found" => found(alloc, rest),
         "serve" => serve(alloc, rest),
         "bulk" => bulk(alloc, rest),
+        "stats" => stats(alloc, rest),
         _ => Err(WordsFault::BadWords),
     }
 }
@@ -159,7 +166,7 @@ fn found(alloc: Global, words: &[&str]) -> Result<Command, WordsFault>
     ensures value { Reads (λ c. c) result (found_of (texts words.now)) }
     ensures range { IfOk result IsInRange }
 {
-    let (folder, shards, token) = words_of_found(alloc, words)?;
+    let (folder, shards, token) = three_words(alloc, "found", words)?;
     found_by(alloc, folder, shards, token)
 }
 
@@ -227,4 +234,27 @@ fn bulk_by(word: &str) -> Result<Command, WordsFault>
 {
     let count = number_in(word, 1, 2000)?;
     Ok(Command::Bulk { count })
+}
+
+fn stats(alloc: Global, words: &[&str]) -> Result<Command, WordsFault>
+    requires { has_flag (texts words.now) ≡ false }
+    ensures value { Reads (λ c. c) result (stats_of (texts words.now)) }
+    ensures range { IfOk result IsInRange }
+{
+    let (folder, quiz, workers) = three_words(alloc, "stats", words)?;
+    stats_by(alloc, folder, quiz, workers)
+}
+
+fn stats_by(alloc: Global, folder: &str, quiz: &str, workers: &str) -> Result<Command, WordsFault>
+    ensures value { Reads (λ c. c) result (stats_by folder.now quiz.now workers.now) }
+    ensures range { IfOk result IsInRange }
+{
+    let quiz = number_in(quiz, 0, u32::MAX)?;
+    let workers = number_in(workers, 1, 16)?;
+    let folder = folder_in(alloc, folder)?;
+    Ok(Command::Stats {
+        folder,
+        quiz,
+        workers: workers as u8,
+    })
 }

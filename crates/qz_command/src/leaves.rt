@@ -93,20 +93,21 @@ pub fn one_word<'a>(
     }
 }
 
-/// A folder, a number of shards and a token.
-pub fn words_of_found<'a>(
+/// Three words.
+pub fn three_words<'a>(
     alloc: Global,
+    name: &'static str,
     words: &'a [&'a str],
 ) -> Result<(&'a str, &'a str, &'a str), WordsFault>
     requires { has_flag (texts words.now) ≡ false }
     ensures { Reads (λ r. r.0.now ∷ r.1.now ∷ r.2.now ∷ []) result
         (so_many 3 (texts words.entry.now)) }
 {
-    match parsed(alloc, "found", &["folder", "shards", "token"], words) {
+    match parsed(alloc, name, &["first", "second", "third"], words) {
         Ok(matches) => Ok((
-            value(&matches, "folder"),
-            value(&matches, "shards"),
-            value(&matches, "token"),
+            value(&matches, "first"),
+            value(&matches, "second"),
+            value(&matches, "third"),
         )),
         Err(fault) => Err(fault),
     }

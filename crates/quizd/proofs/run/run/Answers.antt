@@ -4,7 +4,11 @@ use Rattle.std.proofs.KnownBytes.{Keeps-refl}
 use Rattle.qz_command.specs.declared.command.Command.TheVariants as command
 use Rattle.qz_ending.specs.declared.stop.Stop.TheVariants as stop
 use Rattle.qz_command.specs.Commands.{command_of}
-use Rattle.quizd.proofs.FolderLemmas.{folder_none_out}
+use Rattle.qz_ending.specs.Endings.{Outside}
+use Rattle.qz_found.specs.FoundEndings.{Shelved}
+use Rattle.quizd.specs.Serving.{NoDoorFails}
+use Rattle.quizd.proofs.FolderLemmas.{folder_none_out, one_none_out}
+use Rattle.quizd.proofs.WantingLemmas.{wanting_runs}
 use Rattle.quizd.proofs.run.run.Goals as goal
 
 pub returns-in-Ok-Found-clause-ended : goal.returns-in-Ok-Found-clause-ended
@@ -12,6 +16,11 @@ returns-in-Ok-Found-clause-ended g c =
     let is : command_of c.args.words.now ≡ Some (command.Found c.in-Ok-Found.folder c.in-Ok-Found.shards c.in-Ok-Found.token) = search rules in
     let e = rw c.as_bytes.ensures at c.found_folder.ensures.ended in
     record { stop = e.stop; status_is = e.status_is; cause = inl (rw is (Keeps-refl _, refl, e.cause)) }
+
+pub returns-in-Ok-Found-clause-none_out : goal.returns-in-Ok-Found-clause-none_out
+returns-in-Ok-Found-clause-none_out g c =
+    let e = rw c.as_bytes.ensures at c.found_folder.ensures.ended in
+    one_none_out c.in-Ok-Found.folder _ _ _ c.requires.none_out e.cause.none_out e.cause.others
 
 pub returns-in-Ok-Script-clause-ended : goal.returns-in-Ok-Script-clause-ended
 returns-in-Ok-Script-clause-ended g c =
@@ -53,6 +62,24 @@ returns-in-Ok-Serve-clause-none_out g c =
     let e = rw c.as_bytes-in-Ok-Serve.ensures at c.serve_folder.ensures.ended in
     folder_none_out _ _ _ _ _ _ _ _ e.stop c.requires.none_out e.cause
 
+pub returns-in-Ok-Stats-clause-ended : goal.returns-in-Ok-Stats-clause-ended
+returns-in-Ok-Stats-clause-ended g c =
+    let s = c.in-Ok-Stats in
+    let is : command_of c.args.words.now ≡ Some (command.Stats s.folder s.quiz s.workers) = search rules in
+    let e = rw c.as_bytes-in-Ok-Stats.ensures at c.stats.ensures.ended in
+    record { stop = e.stop; status_is = e.status_is; cause = inl (rw is (Keeps-refl _, refl, e.cause)) }
+
+pub returns-in-Ok-Stats-clause-complete : goal.returns-in-Ok-Stats-clause-complete
+returns-in-Ok-Stats-clause-complete g c =
+    let s = c.in-Ok-Stats in
+    let is : command_of c.args.words.now ≡ Some (command.Stats s.folder s.quiz s.workers) = search rules in
+    rw is c.stats.ensures.complete
+
+pub returns-in-Ok-Stats-clause-none_out : goal.returns-in-Ok-Stats-clause-none_out
+returns-in-Ok-Stats-clause-none_out g c =
+    let e = rw c.as_bytes-in-Ok-Stats.ensures at c.stats.ensures.ended in
+    folder_none_out _ _ _ _ _ _ _ _ e.stop c.requires.none_out e.cause
+
 pub returns-in-Err-BadWords-clause-ended : goal.returns-in-Err-BadWords-clause-ended
 returns-in-Err-BadWords-clause-ended g c =
     let other : command_of c.args.words.now ≡ None = search rules in
@@ -64,3 +91,10 @@ returns-clause-ended g c = record {
   status_is = c.status-in-Err-Memory.ensures;
   cause = inr (record { memory = refl; stays = (refl, refl); unread = Keeps-refl _; unwritten = Keeps-refl _ });
 }
+
+pub returns-clause-complete : goal.returns-clause-complete
+returns-clause-complete g c =
+    let doors = c.args.doors.now.items in
+    let shelf : Shelved = record { files = g.F.Shelf.files c.args.shelf.now; faults = g.F.Shelf.faults c.args.shelf.now } in
+    let outside : Outside = record { left = g.S.Source.left c.args.source.now; source_faults = g.S.Source.faults c.args.source.now; holds = g.O.Sink.holds c.args.sink.now; sink_faults = g.O.Sink.faults c.args.sink.now } in
+    wanting_runs (NoDoorFails g.R.Door.faults doors doors) shelf shelf c.args.words.now outside outside _ c.status-in-Err-Memory.ensures

@@ -1,0 +1,29 @@
+-- Where memory was wanting a run ends with 8, which each command may.
+use Rattle.std.proofs.Common.{◌≡◌, ℕ, Bool, true, false, List, Option, Some, None, inl, inr, refl, sym, subst}
+use Rattle.std.specs.Prelude.{MatchBool}
+use Rattle.qz_command.specs.declared.command.Command.{Command}
+use Rattle.qz_command.specs.declared.command.Command.TheVariants as command
+use Rattle.qz_command.specs.Commands.{command_of}
+use Rattle.qz_found.specs.FoundEndings.{Shelved}
+use Rattle.qz_ending.specs.Endings.{Outside}
+use Rattle.qz_script.specs.Scripts.{ServesAll, script_limit}
+use Rattle.qz_script_schools.specs.Folders.{ServesFolder}
+use Rattle.quizd.specs.Commands.{CommandDoesAll, RunsAll, is_memory}
+
+script-wanting : (b : Bool) (at after : Shelved) (old new : Outside) → MatchBool b (ServesAll script_limit old new 8) (ServesFolder script_limit at after old new 8)
+script-wanting true at after old new = record { done = λ text left short source sink. inr refl }
+script-wanting false at after old new = record { done = λ text left short source sink shelf. inr (inr refl) }
+
+wanting-does : (none_fails : Type 0) (at after : Shelved) (c : Option Command) (old new : Outside) → CommandDoesAll none_fails at after c old new 8
+wanting-does none_fails at after None old new = tt
+wanting-does none_fails at after (Some command.Replay) old new = record { done = λ text output left short is source sink. inr refl }
+wanting-does none_fails at after (Some command.GiftCheck) old new = record { done = λ text bank left short is source sink. inr refl }
+wanting-does none_fails at after (Some command.GiftFormat) old new = record { done = λ text bank left short is source sink. inr refl }
+wanting-does none_fails at after (Some (command.Script folder)) old new = script-wanting (is_memory folder) at after old new
+wanting-does none_fails at after (Some (command.Found folder shards token)) old new = record { done = λ bytes reads is shelf sink. inr refl }
+wanting-does none_fails at after (Some (command.Serve folder port workers regraders links)) old new = record { done = λ sink shelf quiet. inr (inr refl) }
+wanting-does none_fails at after (Some (command.Bulk count)) old new = λ quiet. inr refl
+wanting-does none_fails at after (Some (command.Stats folder quiz workers)) old new = record { done = λ sink shelf. inr (inr refl) }
+
+pub wanting_runs : (none_fails : Type 0) (at after : Shelved) (words : List (List ℕ)) (old new : Outside) (status : ℕ) → status ≡ 8 → RunsAll none_fails at after words old new status
+wanting_runs none_fails at after words old new status is = subst (λ (s : ℕ). CommandDoesAll none_fails at after (command_of words) old new s) (sym is) (wanting-does none_fails at after (command_of words) old new)

@@ -1,0 +1,10 @@
+pub mod Lists
+pub mod Following
+pub mod MarkRoom
+pub mod Gathering
+pub mod Totals
+pub mod Ratios
+pub mod Lasts
+pub mod Tallies
+pub mod Chunks
+pub mod Rowing
