@@ -18,7 +18,7 @@ use Rattle.qz_terms_examples.specs.ExamplesLegal.{start_record}
 use Rattle.qz_terms_examples.specs.ExamplesSchool.{asked_with, first_attempt, look, school, true_false}
 use Rattle.qz_terms.specs.SchoolAnswer.{school_answer}
 use Rattle.qz_terms.specs.Serial.{Held}
-use Rattle.qz_terms_examples.specs.Worlds.{CouldPut, after, Answers, Begins, Drops, Adopts, GoesOn, Happening, KeepIsPossible, LacksMemory, LeavesInDoubt, Mending, Mends, Stays, Stops, Told, Turns, Visit, World, held_at, is_formed, loaded, world}
+use Rattle.qz_schedule.specs.Worlds.{CouldPut, after, Answers, Begins, Drops, Adopts, GoesOn, Happening, KeepIsPossible, LacksMemory, LeavesInDoubt, Mending, Mends, Stays, Stops, Told, Turns, Visit, World, held_at, is_formed, loaded, world}
 
 abbrev two_callers : World
 two_callers = loaded school.records (school.part ∷ []) 2

@@ -18,7 +18,7 @@ use Rattle.qz_terms.specs.declared.request.Request.TheVariants as request
 use Rattle.qz_terms.specs.SchoolAnswer.{asked_part}
 use Rattle.qz_terms_examples.specs.ExamplesSchool.{asked_with, first_attempt, look, one_of, true_false}
 use Rattle.qz_terms.specs.Serial.{Held, Lists, doubt_over, is_settled, lists_over, lists_read, part_list, reads_part, reply_over}
-use Rattle.qz_terms_examples.specs.Worlds.{Answers, Begins, Drops, GoesOn, Told, Turns, World, loaded, world}
+use Rattle.qz_schedule.specs.Worlds.{Answers, Begins, Drops, GoesOn, Told, Turns, World, loaded, world}
 
 abbrev founded : Lists
 founded = record { records = record { list = record { moment = 0; caller = 0; owner = 0; key = None; terms = None; event = event.Founded 2 (codes "root") } ∷ []; doubt = None }; parts = record { list = []; doubt = None } ∷ record { list = []; doubt = None } ∷ [] }

@@ -1,4 +1,3 @@
-pub mod Worlds
 pub mod ExamplesBytes
 pub mod ExamplesRows
 pub mod ExamplesAccess

@@ -8,6 +8,7 @@ use Rattle.qz_grading.specs.declared.refusal.Thing.TheVariants as thing
 use Rattle.qz_grading.specs.Behaviours.{first_some}
 use Rattle.qz_grading.specs.Grading.{at_place}
 use Rattle.qz_grading.specs.Steps.{before}
+use Rattle.qz_school.specs.Agreement.{is_start}
 use Rattle.qz_terms.specs.declared.ask.Ask.{Ask}
 use Rattle.qz_terms.specs.declared.grades.Method.TheVariants as method
 use Rattle.qz_terms.specs.declared.grades.Policy.{Policy}
@@ -30,7 +31,7 @@ use Rattle.qz_terms.specs.Cause.{forbidden, is_keyed, missing_attempt, missing_i
 use Rattle.qz_terms.specs.History as history
 use Rattle.qz_terms.specs.Lists.{first_of, in_order}
 use Rattle.qz_terms.specs.Parts.{part}
-use Rattle.qz_terms.specs.Serial.{Held}
+use Rattle.qz_terms.specs.Serial.{Held, Lists, held_in}
 
 -- ---- the turns of one ask, in order
 
@@ -120,9 +121,12 @@ pub data Happening : Type 0 where
 
 -- ---- lists
 
+abbrev pub lists_in : World → Lists
+lists_in w = record { records = w.records; parts = w.parts }
+
+-- the list of a shard, or of the catalogue
 abbrev pub held_at : World → Option ℕ → Held
-held_at w None = w.records
-held_at w (Some k) = unwrap_or (slice_get w.parts k) (record { list = []; doubt = None })
+held_at w part = held_in (lists_in w) part
 
 abbrev pub with_held : World → Option ℕ → Held → World
 with_held w None held = record w { records = held }
@@ -238,10 +242,6 @@ abbrev pub answered : List Record → ℕ → User → Visit → Ask → Request
 answered l moment user v ask (request.Work job shard) = answered_by_job l moment user v.job
 answered l moment user v ask (request.Live shard attempt) = record { reply = live_answer l attempt; list = l }
 answered l moment user v ask x = if asks_catalog x then record { reply = catalog_answer l moment user ask; list = catalog_after l moment user ask } else answered_by_plan l moment user ask v.plan
-
-abbrev pub is_start : Request → Bool
-is_start (request.Start quiz) = true
-is_start x = false
 
 -- a start whose plan is older than the floor of its quiz
 abbrev pub is_older : List Record → Visit → Request → Bool

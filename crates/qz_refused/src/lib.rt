@@ -1,0 +1,4 @@
+//! What a refused request leaves.
+#![tactic(auto)]
+
+pub mod laws;
