@@ -1,4 +1,5 @@
-pub mod Following
 pub mod Keeping
 pub mod Meeting
+pub mod Searching
 pub mod Telling
+pub mod Working

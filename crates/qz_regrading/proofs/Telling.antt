@@ -281,6 +281,21 @@ module _ (m : Lists) (now job shard : ℕ) where
       let on = parts-on m now work_ask (part_read m work_ask) in
       omega (arith, missing, counts, on.count)
 
+-- no look at a shard that is there finds it missing
+absent-by : (no_shard : Bool) (place : ℕ) (d : Done) → unwrap_or (option_map reply.Refused (first_some (first_some (None ∷ None ∷ []) ∷ when no_shard (refusal.Unknown thing.Shard) ∷ []))) (reply.Ok place d) ≡ reply.Refused (refusal.Unknown thing.Shard)
+    → no_shard ≡ true
+absent-by true place d told = refl
+absent-by false place d told = absurd cc
+
+absent-over : (m : Lists) (now shard : ℕ) (attempt : AttemptId) → reply_over m now (worker_asks (request.Live shard attempt)) ≡ reply.Refused (refusal.Unknown thing.Shard)
+    → length (lists_over m now (worker_asks (request.Live shard attempt))).parts ≤ shard
+absent-over m now shard attempt told =
+    let is = absent-by (nat_le (length (lists_of m.parts)) shard) _ _ told in
+    let missing : length (lists_of m.parts) ≤ shard = leb-true (length (lists_of m.parts)) shard is in
+    let on = parts-on m now (worker_asks (request.Live shard attempt)) (part_read m (worker_asks (request.Live shard attempt))) in
+    let counts : length (lists_of m.parts) ≡ length m.parts = length-map m.parts (λ (k : Held). k.list) in
+    omega (arith, missing, counts, on.count)
+
 list-by : (b : Bool) (l : List Record) (k : Held) → l ≡ k.list → (cond b (with_list l) k).list ≡ k.list
 list-by true l k same = same
 list-by false l k same = refl
@@ -307,6 +322,7 @@ tells-answered m now x = record {
   keeps = keeps-by m (lists_over m now (worker_asks x)) (parts-on m now (worker_asks x) (part_read m (worker_asks x)));
   worked = λ job shard p d is told tells. worked x job shard p d is told tells;
   missing = λ job shard is told. missing x job shard is told;
+  absent = λ shard attempt is told. absent x shard attempt is told;
   counted = λ p count is told. counted x p count is told;
 }
   where
@@ -316,6 +332,9 @@ tells-answered m now x = record {
     missing : (x : Request) (job shard : ℕ) → x ≡ request.Work job shard → reply_over m now (worker_asks x) ≡ reply.Refused (refusal.Unknown thing.Shard) → length (lists_over m now (worker_asks x)).parts ≤ shard
     missing x job shard is = subst (λ (y : Request). reply_over m now (worker_asks y) ≡ reply.Refused (refusal.Unknown thing.Shard) → length (lists_over m now (worker_asks y)).parts ≤ shard) (sym is) (missing-over m now job shard)
 
+    absent : (x : Request) (shard : ℕ) (attempt : AttemptId) → x ≡ request.Live shard attempt → reply_over m now (worker_asks x) ≡ reply.Refused (refusal.Unknown thing.Shard) → length (lists_over m now (worker_asks x)).parts ≤ shard
+    absent x shard attempt is = subst (λ (y : Request). reply_over m now (worker_asks y) ≡ reply.Refused (refusal.Unknown thing.Shard) → length (lists_over m now (worker_asks y)).parts ≤ shard) (sym is) (absent-over m now shard attempt)
+
     counted : (x : Request) (p count : ℕ) → x ≡ request.Jobs → reply_over m now (worker_asks x) ≡ reply.Ok p (done.Jobs count) → count ≡ length (catalog.jobs (lists_over m now (worker_asks x)).records.list)
     counted x p count is = subst (λ (y : Request). reply_over m now (worker_asks y) ≡ reply.Ok p (done.Jobs count) → count ≡ length (catalog.jobs (lists_over m now (worker_asks y)).records.list)) (sym is) (counted-over m now p count)
 
@@ -324,6 +343,7 @@ tells-outside m b x r on outside = record {
   keeps = keeps-by m b on;
   worked = λ job shard p d is told tells. absurd (false≢true (sym (ap tells_of_outside told) ∙ outside));
   missing = λ job shard is told. absurd (false≢true (sym (ap tells_of_outside told) ∙ outside));
+  absent = λ shard attempt is told. absurd (false≢true (sym (ap tells_of_outside told) ∙ outside));
   counted = λ p count is told. absurd (false≢true (sym (ap tells_of_outside told) ∙ outside));
 }
 
@@ -334,7 +354,7 @@ tells-turn m b now x r t = elim (turn-of m b now (worker_asks x) r t) [
 ]
 
 tells-mended : (a m b : Lists) (x : Request) (r : Reply) → KeepsParts a m → TellsWorker m b x r → TellsWorker a b x r
-tells-mended a m b x r keeps t = record { keeps = keeps-more a m b keeps t.keeps; worked = t.worked; missing = t.missing; counted = t.counted }
+tells-mended a m b x r keeps t = record { keeps = keeps-more a m b keeps t.keeps; worked = t.worked; missing = t.missing; absent = t.absent; counted = t.counted }
 
 pub telling_law : AsksTell
 telling_law = record {

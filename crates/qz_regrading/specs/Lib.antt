@@ -1,3 +1,5 @@
 pub mod Workers
+pub mod Working
 pub mod Passes
+pub mod Parts
 pub mod Loops

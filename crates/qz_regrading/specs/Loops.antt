@@ -1,10 +1,31 @@
 -- How the loop of a worker ended.
-use Rattle.std.specs.Prelude.{◌≡◌, ℕ, ◌+◌, ◌-◌, ◌^◌, ◌<◌, ◌≤◌, true, length}
+use Rattle.std.specs.Prelude.{◌≡◌, ℕ, ◌+◌, ◌-◌, ◌^◌, ◌<◌, ◌≤◌, true, List, length}
+use Rattle.qz_asking.specs.Asking.{Answerer}
+use Rattle.qz_terms.specs.declared.ask.Ask.{Ask}
+use Rattle.qz_terms.specs.declared.reply.Reply.{Reply}
 use Rattle.qz_terms.specs.Catalog.{jobs}
 use Rattle.qz_terms.specs.History.{is_done}
 use Rattle.qz_terms.specs.Serial.{Lists, part_list}
 use Rattle.qz_regrading.specs.declared.ends.LoopEnd.{LoopEnd}
 use Rattle.qz_regrading.specs.declared.ends.LoopEnd.TheVariants as ends
+use Rattle.qz_regrading.specs.Working.{Sweeps, Worked, Works, counts_to, keep_faults}
+
+-- what the last pass asked, by how it ended: so many of its requests were refused because a keeper failed
+abbrev pub EndsBy : LoopEnd → List Worked → Type 0
+EndsBy ends.Done ws = keep_faults ws ≡ 0
+EndsBy (ends.Left faults) ws = faults ≡ counts_to (keep_faults ws)
+EndsBy ends.Short ws = keep_faults ws ≡ 0
+
+-- A worker's passes lead from one desk and clock to another: those before the last, and the last one, which searched every shard for attempts
+-- to settle and ended so.
+pub record Regrades {D C : Type 0} (tells : C → ℕ → C → Type 0) (answers : D → D → ℕ → Ask → Reply → Type 0) (lists : D → Lists) (a b : Answerer D C) (end : LoopEnd) : Type 0 where
+  pub before : List Worked
+  pub between : Answerer D C
+  pub worked : Works tells answers a before between
+  pub last : List Worked
+  pub works : Works tells answers between last b
+  pub sweeps : Sweeps (length (lists b.desk).parts) last
+  pub ended : EndsBy end last
 
 -- each job of the catalogue, numbered from 1, is done in each shard, numbered from 0
 pub record AllDone (a : Lists) : Type 0 where

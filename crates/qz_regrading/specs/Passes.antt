@@ -25,7 +25,7 @@ met_with m why = record m { short = true }
 -- what a pass came to
 abbrev pub MetEnds : Met → LoopEnd → Type 0
 MetEnds m ends.Done = IsClean m
-MetEnds m (ends.Left faults) = (faults ≡ m.faults) × (0 < faults)
+MetEnds m (ends.Left faults) = (faults ≡ m.faults) × (0 < faults) × (faults < 2 ^ 64)
 MetEnds m ends.Short = (m.faults ≡ 0) × (m.short ≡ true)
 
 -- a part of a pass: what was met before and after it, while the desk's faults rose

@@ -1,5 +1,6 @@
 -- What a worker asks of a desk, and what the replies tell it.
 use Rattle.std.specs.Prelude.{◌≡◌, ℕ, ◌≤◌, Bool, true, false, List, ◌++◌, length, None}
+use Rattle.qz_grading.specs.declared.refusal.AttemptId.{AttemptId}
 use Rattle.qz_grading.specs.declared.refusal.Refusal.TheVariants as refusal
 use Rattle.qz_grading.specs.declared.refusal.Thing.TheVariants as thing
 use Rattle.qz_outside.specs.Causes.{HasRisen}
@@ -46,12 +47,13 @@ tells_done (done.JobDone job) = true
 tells_done (done.AlreadyDone job) = true
 tells_done d = false
 
--- What is told of the lists: a job is done in a shard where work on it is over, a shard isn't there where work finds it missing, and the
--- catalogue has as many jobs as are counted.
+-- What is told of the lists: a job is done in a shard where work on it is over, a shard isn't there where work or a look finds it missing,
+-- and the catalogue has as many jobs as are counted.
 pub record TellsWorker (a b : Lists) (x : Request) (r : Reply) : Type 0 where
   pub keeps : KeepsParts a b
   pub worked : (job shard place : ℕ) (d : Done) → x ≡ request.Work job shard → r ≡ reply.Ok place d → tells_done d ≡ true → is_done (part_list b shard) job ≡ true
   pub missing : (job shard : ℕ) → x ≡ request.Work job shard → r ≡ reply.Refused (refusal.Unknown thing.Shard) → length b.parts ≤ shard
+  pub absent : (shard : ℕ) (attempt : AttemptId) → x ≡ request.Live shard attempt → r ≡ reply.Refused (refusal.Unknown thing.Shard) → length b.parts ≤ shard
   pub counted : (place count : ℕ) → x ≡ request.Jobs → r ≡ reply.Ok place (done.Jobs count) → count ≡ length (jobs b.records.list)
 
 -- A count of faults never falls, and rises where a keeper failed.

@@ -1,9 +1,11 @@
 //! The passes of a worker.
 
-ghost use Rattle.qz_asking.specs.Following.{Follows};
-ghost use Rattle.qz_regrading.specs.Loops.{LoopEnds};
+ghost use Rattle.std.specs.Prelude.{length};
+ghost use Rattle.qz_regrading.specs.Loops.{LoopEnds, Regrades};
+ghost use Rattle.qz_regrading.specs.Parts.{IsPass};
 ghost use Rattle.qz_regrading.specs.Passes.{PassEnds};
 ghost use Rattle.qz_regrading.specs.Workers.{ServesWorkers, TakesWork};
+ghost use Rattle.qz_regrading.specs.Working.{WorksSo};
 
 use crate::met::Met;
 use crate::sweep::sweep;
@@ -16,12 +18,14 @@ use std::alloc::Global;
 use std::sync::Wait;
 
 /// One pass: works on each job in each shard, settles the attempts whose time is over, and goes on with the jobs that there are then.
-#[tactic(auto, using(crate::proofs::Following::leading))]
 fn pass<D: Desk, C: Clock>(alloc: Global, desk: &mut D, clock: &mut C) -> Met
     requires takes { TakesWork D.takes }
     requires serves { ServesWorkers D.lists D.faults D.answers }
     ensures ends { PassEnds (D.lists desk.new) (D.faults desk.old) (D.faults desk.new) result }
-    ensures follows { Follows D.answers desk.old desk.new }
+    ensures works { WorksSo C.tells D.answers
+        (IsPass (length (D.lists desk.new).parts) result)
+        (record { desk = desk.old; clock = clock.old })
+        (record { desk = desk.new; clock = clock.new }) }
 {
     let mut met = Met::nothing();
     let mut next = walk(alloc, desk, clock, &mut met, 1);
@@ -52,7 +56,6 @@ fn pass<D: Desk, C: Clock>(alloc: Global, desk: &mut D, clock: &mut C) -> Met
 /// or the desk refused a request as no school does.
 ///
 /// Nothing but requests changes the desk. The call returns no sooner than `stop` is set.
-#[tactic(auto, using(crate::proofs::Following::leading))]
 pub fn regrade_loop<W: Wait, D: Desk, C: Clock>(
     rt: &W,
     alloc: Global,
@@ -63,7 +66,9 @@ pub fn regrade_loop<W: Wait, D: Desk, C: Clock>(
     requires takes { TakesWork D.takes }
     requires serves { ServesWorkers D.lists D.faults D.answers }
     ensures ends { LoopEnds (D.lists desk.new) (D.faults desk.old) (D.faults desk.new) result }
-    ensures follows { Follows D.answers desk.old desk.new }
+    ensures regrades { Regrades C.tells D.answers D.lists
+        (record { desk = desk.old; clock = clock.old })
+        (record { desk = desk.new; clock = clock.new }) result }
 {
     for _ in 0..u64::MAX {
         if stop.is_set() {

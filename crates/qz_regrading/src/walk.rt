@@ -1,19 +1,21 @@
 //! Working on jobs in each shard.
 
-ghost use Rattle.std.specs.Prelude.{◌≡◌, ◌≤◌, length};
-ghost use Rattle.qz_asking.specs.Following.{Follows};
+ghost use Rattle.std.specs.Prelude.{◌≡◌, ◌↔◌, ◌≤◌, Some, length, IsTrue};
+ghost use Rattle.qz_grading.specs.declared.refusal.Thing.TheVariants as thing;
+ghost use Rattle.qz_regrading.specs.Parts.{IsWork, MeetsQuietly, faults_of};
 ghost use Rattle.qz_regrading.specs.Passes.{AreDone, AreDoneInAll, IsClean, IsRefused, Meets, missing_thing};
 ghost use Rattle.qz_regrading.specs.Workers.{KeepsParts, ServesWorkers, TakesWork};
+ghost use Rattle.qz_regrading.specs.Working.{WorksSo};
 
 use crate::met::Met;
 use crate::worker::work;
 use qz_grading::{Refusal, Thing};
 use qz_links::Clock;
-use qz_terms::Desk;
+use qz_terms::{Desk, MOST_SHARDS};
 use std::alloc::Global;
 
 /// So many shards are asked for at most, one more than a school has.
-pub const SHARDS: u8 = 65;
+pub const SHARDS: u8 = MOST_SHARDS + 1;
 
 /// What isn't there, where that is why a request was refused.
 fn missing_thing(why: Refusal) -> Option<Thing>
@@ -25,6 +27,13 @@ fn missing_thing(why: Refusal) -> Option<Thing>
     }
 }
 
+/// Whether a request was refused since a shard isn't there.
+pub(crate) fn is_of_shard(why: &Refusal) -> bool
+    ensures { IsTrue result ↔ (missing_thing why.now ≡ Some thing.Shard) }
+{
+    matches!(why, Refusal::Unknown { what: Thing::Shard })
+}
+
 /// How far work came in a shard: the first job that isn't done, and why work on it was refused.
 #[derive(Clone, Copy)]
 struct JobsEnd {
@@ -33,7 +42,6 @@ struct JobsEnd {
 }
 
 /// Works on the jobs of a shard in turn, from one on, until work is refused.
-#[tactic(auto, using(crate::proofs::Following::leading))]
 fn work_jobs<D: Desk, C: Clock>(
     alloc: Global,
     desk: &mut D,
@@ -48,7 +56,9 @@ fn work_jobs<D: Desk, C: Clock>(
     ensures done { AreDone (D.lists desk.new) shard from result.next }
     ensures refused { IsRefused (D.lists desk.new)
         (D.faults desk.old) (D.faults desk.new) shard result.why }
-    ensures follows { Follows D.answers desk.old desk.new }
+    ensures works { WorksSo C.tells D.answers (IsWork (faults_of result.why))
+        (record { desk = desk.old; clock = clock.old })
+        (record { desk = desk.new; clock = clock.new }) }
 {
     for job in from..u32::MAX {
         if let Err(why) = work(alloc, desk, clock, job, shard) {
@@ -64,7 +74,6 @@ fn work_jobs<D: Desk, C: Clock>(
 /// Works on the jobs of each shard, from one on, and answers the first job that isn't done in each.
 ///
 /// A refusal ends work in its shard alone. A school with more than 64 shards leaves the pass short.
-#[tactic(auto, using(crate::proofs::Following::leading))]
 pub fn walk<D: Desk, C: Clock>(
     alloc: Global,
     desk: &mut D,
@@ -77,7 +86,9 @@ pub fn walk<D: Desk, C: Clock>(
     ensures meets { Meets (D.lists desk.old) (D.lists desk.new)
         (D.faults desk.old) (D.faults desk.new) met.old met.new }
     ensures done { IsClean met.new → AreDoneInAll (D.lists desk.new) from result }
-    ensures follows { Follows D.answers desk.old desk.new }
+    ensures works { WorksSo C.tells D.answers (MeetsQuietly met.old met.new)
+        (record { desk = desk.old; clock = clock.old })
+        (record { desk = desk.new; clock = clock.new }) }
 {
     let mut next = u32::MAX;
     for shard in 0..SHARDS {

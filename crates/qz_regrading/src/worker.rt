@@ -1,14 +1,15 @@
 //! What a worker asks.
 
-ghost use Rattle.std.specs.Prelude.{◌≡◌, ◌≤◌, true, length, MatchResult, MatchOption};
-ghost use Rattle.qz_asking.specs.Following.{Follows};
+ghost use Rattle.std.specs.Prelude.{◌≡◌, ℕ, ◌≤◌, [], ◌∷◌, true, length, MatchResult, MatchOption};
 ghost use Rattle.qz_terms.specs.declared.reply.Reply.TheVariants as reply;
 ghost use Rattle.qz_terms.specs.Catalog.{jobs, worker};
 ghost use Rattle.qz_terms.specs.Cause.{may_ask};
 ghost use Rattle.qz_terms.specs.History.{is_done};
 ghost use Rattle.qz_terms.specs.Serial.{part_list};
+ghost use Rattle.qz_regrading.specs.Parts.{IsWork, LooksBehind, MeetsQuietly, MeetsSettling, faults_told};
 ghost use Rattle.qz_regrading.specs.Passes.{IsClean, IsRefused, Meets};
 ghost use Rattle.qz_regrading.specs.Workers.{CountsFault, KeepsParts, ServesWorkers, TakesWork, TellsWorker, tells_done};
+ghost use Rattle.qz_regrading.specs.Working.{Works, WorksSo, next_of, told_by};
 
 use crate::met::Met;
 use qz_grading::{AttemptId, Refusal};
@@ -23,7 +24,9 @@ fn ask<D: Desk, C: Clock>(alloc: Global, desk: &mut D, clock: &mut C, request: R
     requires may { may_ask worker request ≡ true }
     ensures tells { TellsWorker (D.lists desk.old) (D.lists desk.new) request result }
     ensures counts { CountsFault (D.faults desk.old) (D.faults desk.new) result }
-    ensures follows { Follows D.answers desk.old desk.new }
+    ensures works { Works C.tells D.answers (record { desk = desk.old; clock = clock.old })
+        ((record { request = request; reply = result }) ∷ [])
+        (record { desk = desk.new; clock = clock.new }) }
 {
     let asked = Ask {
         caller: Caller::Worker,
@@ -43,7 +46,6 @@ fn is_over(done: &Done) -> bool
 
 /// Works on a job in a shard until it is done there, or work is refused. After 2^64 - 1 steps that didn't end it, which no job has, that
 /// counts as refused.
-#[tactic(auto, using(crate::proofs::Following::leading))]
 pub fn work<D: Desk, C: Clock>(
     alloc: Global,
     desk: &mut D,
@@ -58,7 +60,9 @@ pub fn work<D: Desk, C: Clock>(
     ensures ends { MatchResult result
         (λ _. is_done (part_list (D.lists desk.new) shard) job ≡ true)
         (IsRefused (D.lists desk.new) (D.faults desk.old) (D.faults desk.new) shard) }
-    ensures follows { Follows D.answers desk.old desk.new }
+    ensures works { WorksSo C.tells D.answers (IsWork (faults_told result))
+        (record { desk = desk.old; clock = clock.old })
+        (record { desk = desk.new; clock = clock.new }) }
 {
     for _ in 0..u64::MAX {
         match ask(alloc, desk, clock, Request::Work { job, shard }) {
@@ -71,6 +75,17 @@ pub fn work<D: Desk, C: Clock>(
         }
     }
     Err(Refusal::TooMany { limit: u32::MAX })
+}
+
+/// The attempt that a look at a shard told, if any.
+fn going(done: &Done) -> Option<AttemptId>
+    ensures { (place : ℕ) → next_of (told_by (reply.Ok place done.now)) ≡ result }
+{
+    if let Done::Live { attempt } = done {
+        *attempt
+    } else {
+        None
+    }
 }
 
 /// The first attempt of a shard, after this one, that hasn't ended.
@@ -87,14 +102,12 @@ pub fn live_after<D: Desk, C: Clock>(
     ensures later { D.faults desk.old ≤ D.faults desk.new }
     ensures refused { MatchResult result (λ _. Unit {0})
         (λ why. CountsFault (D.faults desk.old) (D.faults desk.new) (reply.Refused why)) }
-    ensures follows { Follows D.answers desk.old desk.new }
+    ensures looks { LooksBehind C.tells D.answers D.lists shard attempt
+        (record { desk = desk.old; clock = clock.old })
+        (record { desk = desk.new; clock = clock.new }) result }
 {
     match ask(alloc, desk, clock, Request::Live { shard, attempt }) {
-        Reply::Ok {
-            done: Done::Live { attempt },
-            ..
-        } => Ok(attempt),
-        Reply::Ok { .. } => Ok(None),
+        Reply::Ok { done, .. } => Ok(going(&done)),
         Reply::Refused(why) => Err(why),
     }
 }
@@ -111,7 +124,9 @@ pub fn settle<D: Desk, C: Clock>(
     requires serves { ServesWorkers D.lists D.faults D.answers }
     ensures meets { Meets (D.lists desk.old) (D.lists desk.new)
         (D.faults desk.old) (D.faults desk.new) met.old met.new }
-    ensures follows { Follows D.answers desk.old desk.new }
+    ensures works { WorksSo C.tells D.answers (MeetsSettling attempt met.old met.new)
+        (record { desk = desk.old; clock = clock.old })
+        (record { desk = desk.new; clock = clock.new }) }
 {
     let reply = ask(alloc, desk, clock, Request::Settle { attempt });
     if let Reply::Refused(why) = &reply {
@@ -132,7 +147,9 @@ pub fn count_jobs<D: Desk, C: Clock>(
         (D.faults desk.old) (D.faults desk.new) met.old met.new }
     ensures counted { MatchOption result (IsClean met.new → ⊥)
         (λ count. count ≡ length (jobs (D.lists desk.new).records.list)) }
-    ensures follows { Follows D.answers desk.old desk.new }
+    ensures works { WorksSo C.tells D.answers (MeetsQuietly met.old met.new)
+        (record { desk = desk.old; clock = clock.old })
+        (record { desk = desk.new; clock = clock.new }) }
 {
     match ask(alloc, desk, clock, Request::Jobs) {
         Reply::Ok {

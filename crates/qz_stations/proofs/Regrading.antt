@@ -100,7 +100,7 @@ all-rose a b on (of_shard k f s at there rose) = second-rose a.records.faults b.
 beside-tells : (a b : Tellings) (now : ℕ) (x : Request) (r : Reply) → IsAskedBeside a b now (worker_asks x) r → TellsWorker (lists_told a) (lists_told b) x r
 beside-tells a b now x r s =
     let t = telling_law.tell (lists_told s.found) (lists_told b) now x r s.once.asks in
-    record { keeps = keeps-more (lists_told a) (lists_told s.found) (lists_told b) (keeps-told a s.found s.begins) t.keeps; worked = t.worked; missing = t.missing; counted = t.counted }
+    record { keeps = keeps-more (lists_told a) (lists_told s.found) (lists_told b) (keeps-told a s.found s.begins) t.keeps; worked = t.worked; missing = t.missing; absent = t.absent; counted = t.counted }
 
 beside-counts : (a b : Tellings) (now : ℕ) (ask : Ask) (r : Reply) → IsAskedBeside a b now ask r → CountsFault (faults_told a) (faults_told b) r
 beside-counts a b now ask r s = record {

@@ -1,6 +1,6 @@
 -- Stations that were served, and the doors that they stand at.
 use Rattle.std.proofs.Common.{◌≡◌, ⊎_elim, ℕ, suc, ◌+◌, ◌^◌, ◌<◌, ◌≤◌, List, [], ◌∷◌, ◌++◌, Some, length, length-append, map, refl, sym, ap, ◌∙◌, subst, append-nil, arith}
-use Rattle.std.specs.Prelude.{Bool, true, false, Contains, MatchResult, Result, Ok, Err, drop, filter, slice_get, take}
+use Rattle.std.specs.Prelude.{Bool, true, false, Contains, IfOk, MatchResult, Result, Ok, Err, drop, filter, slice_get, take}
 use Rattle.std.proofs.Math.Seq.{drop-append_seam, take-length}
 use Rattle.std.proofs.Math.ListN.{drop_of_length-le}
 use Rattle.std.proofs.lemmas.List.{length-map}
@@ -15,18 +15,19 @@ use Rattle.qz_serial.proofs.Seats.{within_there}
 use Rattle.qz_catalog.specs.Keeping as records
 use Rattle.qz_school.specs.Solos.{IsSolo, School, school_of}
 use Rattle.qz_shard.specs.Keeping as part
+use Rattle.qz_regrading.specs.Loops.{Regrades}
 use Rattle.qz_terms.specs.declared.ask.Ask.{Ask}
 use Rattle.qz_terms.specs.declared.reply.Reply.{Reply}
 use Rattle.qz_turn.specs.Rule.{HasEvery, below}
 use Rattle.qz_visit.specs.Closing.{Closes, HaveEvery}
 use Rattle.qz_visit.specs.Holding.{GoesOn}
 use Rattle.qz_visit.specs.Opening.{Opens, told_by}
-use Rattle.qz_visit.specs.Seeing.{FollowAll}
-use Rattle.qz_visit.specs.Visits.{Locks, Seats, Tellings, Visitor, seen_in}
+use Rattle.qz_visit.specs.Seeing.{FollowAll, IsAskedBeside}
+use Rattle.qz_visit.specs.Visits.{Locks, Seats, Tellings, Visitor, lists_told, seen_in}
 use Rattle.qz_visit.proofs.Holding.{every_held, from_map, goes_self, holds_on, holds_opened, seats_opened}
 use Rattle.qz_visit.proofs.Opened.{has_below}
-use Rattle.qz_stations.specs.Posts.{AreAmong, AreEach, AreManned, HasRegraded, HoldTheirs, HoldsEvery, IsCounted, IsHeldBy, IsServed, TakesIn, TakesUp}
-use Rattle.qz_stations.specs.Stations.{Post, Serving, ServesAt, ServesBeside, all_ends, at_place, no_end}
+use Rattle.qz_stations.specs.Posts.{AreAmong, AreEach, AreManned, HasGoneOn, HasRegraded, HoldTheirs, HoldsEvery, IsCounted, IsHeldBy, IsServed, TakesIn, TakesUp, seen_at}
+use Rattle.qz_stations.specs.Stations.{Post, RegradesBeside, RegradesOnce, Serving, ServesAt, ServesBeside, all_ends, at_place, no_end}
 use Rattle.qz_stations.proofs.Lists.{get_longer}
 use Rattle.qz_stations.proofs.TakingUp.{hold_theirs}
 
@@ -119,17 +120,45 @@ same-there : {A : Type 0} (xs : List A) (k : ℕ) (x y : A) → slice_get xs k �
 same-there xs k x y at there = cc
 
 -- where nobody was served yet
-pub none_regraded : {C : Type 0} (rs : List (Post C)) → AreEach HasRegraded rs rs
+pub none_regraded : {C : Type 0} (rs : List (Post C)) → AreEach HasGoneOn rs rs
 none_regraded rs = record {
   count = refl;
-  each = λ k p q at there. subst (HasRegraded p) (same-there rs k p q at there) (record { goes_on = goes_self p.visit; end = refl });
+  each = λ k p q at there. subst (HasGoneOn p) (same-there rs k p q at there) (record { goes_on = goes_self p.visit; end = refl });
 }
 
-pub goes_regraded : {C : Type 0} (p q : Post C) → HasRegraded p q → GoesOn p.visit q.visit
+pub gone_on_each : {C : Type 0} (tells : C → ℕ → C → Type 0) (old new : List (Post C)) → AreEach (HasRegraded tells) old new → AreEach HasGoneOn old new
+gone_on_each tells old new are = record { count = are.count; each = λ k p q at there. (are.each k p q at there).gone_on }
+
+pub goes_regraded : {C : Type 0} (p q : Post C) → HasGoneOn p q → GoesOn p.visit q.visit
 goes_regraded p q did = did.goes_on
 
-pub counted_regraded : {C : Type 0} (p q : Post C) → p.end ≡ no_end → HasRegraded p q → IsCounted q.end
+pub counted_regraded : {C : Type 0} (p q : Post C) → p.end ≡ no_end → HasGoneOn p q → IsCounted q.end
 counted_regraded p q fresh did = subst IsCounted (sym (did.end ∙ fresh)) record { taken = omega arith; short = omega arith }
+
+-- each of those that were taken up regraded, for what its passes saw
+pub regraded_beside : {C : Type 0} (tells : C → ℕ → C → Type 0) (s : Locks) (count : ℕ) (told : Tellings) (numbers : List ℕ) (old rest : List C) (passes : Seats) (taken left : List (Post C)) → TakesUp s told numbers old rest passes taken
+    → AreEach (HasRegraded tells) taken left → (first last : Seats) → length taken ≡ count → TakesIn s first last left → RegradesBeside tells told (λ seen. FollowAll seen (seen_in last)) count
+regraded_beside tells s count told numbers old rest passes taken left so did first last all takes = record { each = once }
+  where
+    once : (k : ℕ) → k < count → RegradesOnce tells told (λ seen. FollowAll seen (seen_in last))
+    once k within =
+        let long = did.count in
+        let p = within_there taken k (omega (arith, within, all)) in
+        let q = within_there left k (omega (arith, within, all, long)) in
+        let is = did.each k p.0 q.0 p.1 q.1 in
+        record {
+          clock = p.0.place;
+          ticked = q.0.place;
+          seen = seen_in q.0.visit.passes;
+          end = is.loop;
+          regrades = subst (λ (t : Tellings). Regrades tells IsAskedBeside lists_told (record { desk = t; clock = p.0.place }) (seen_at q.0) is.loop) (so.taken k p.0 p.1).seen is.regrades;
+          kept = takes.each k q.0 q.1;
+        }
+
+pub regraded_kept : {C : Type 0} (tells : C → ℕ → C → Type 0) (told : Tellings) (Kept Known : Tellings → Type 0) (count : ℕ) → ((t : Tellings) → Kept t → Known t) → RegradesBeside tells told Kept count → RegradesBeside tells told Known count
+regraded_kept tells told Kept Known count to so = record {
+  each = λ k within. let is = so.each k within in record { clock = is.clock; ticked = is.ticked; seen = is.seen; end = is.end; regrades = is.regrades; kept = to is.seen is.kept };
+}
 
 -- ---- doors
 
@@ -168,8 +197,8 @@ module _ {D C : Type 0} (s : Locks) (count : ℕ) (told : Tellings) (numbers : L
             seen = seen_in q.0.visit.passes;
             before = stands taken old k p.0 so.places p.1.0;
             after = stands left new k q.0 doors q.1.0;
-            going = subst (λ (x : DoorEnd). serves p.0.place.0 q.0.place.0 (record { desk = told; clock = p.0.place.1 }) (record { desk = seen_in q.0.visit.passes; clock = q.0.place.1 }) x) (sym q.1.1)
-                (subst (λ (t : Tellings). serves p.0.place.0 q.0.place.0 (record { desk = t; clock = p.0.place.1 }) (record { desk = seen_in q.0.visit.passes; clock = q.0.place.1 }) q.0.end) is.seen p.1.1.going);
+            going = subst (λ (x : DoorEnd). serves.serves p.0.place.0 q.0.place.0 (record { desk = told; clock = p.0.place.1 }) (record { desk = seen_in q.0.visit.passes; clock = q.0.place.1 }) x) (sym q.1.1)
+                (subst (λ (t : Tellings). serves.serves p.0.place.0 q.0.place.0 (record { desk = t; clock = p.0.place.1 }) (record { desk = seen_in q.0.visit.passes; clock = q.0.place.1 }) q.0.end) is.seen p.1.1.going);
             kept = takes.each k q.0 q.1.0;
           }
 
@@ -213,6 +242,10 @@ closes_whole faults c ss a b one other is = subst (λ (t : Tellings). Closes fau
 pub match_mean : {A E : Type 0} (P Q : A → Type 0) (R : E → Type 0) (r : Result A E) → ((a : A) → P a → Q a) → MatchResult r P R → MatchResult r Q R
 match_mean P Q R (Ok a) to is = to a is
 match_mean P Q R (Err e) to is = is
+
+pub if_ok : {A E : Type 0} (P Q : A → Type 0) (r : Result A E) → ((a : A) → P a → Q a) → IfOk r P → IfOk r Q
+if_ok P Q (Ok a) to is = to a is
+if_ok P Q (Err e) to is = is
 
 -- ---- a list that was written over
 

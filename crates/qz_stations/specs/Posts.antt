@@ -1,11 +1,14 @@
 -- Stations that are taken up, served and left.
 use Rattle.std.specs.Prelude.{◌≡◌, ◌⊎◌, ℕ, ◌+◌, ◌^◌, ◌<◌, ◌≤◌, List, ◌++◌, length, map, slice_get, Some, Contains}
+use Rattle.qz_asking.specs.Asking.{Answerer}
 use Rattle.qz_doors.specs.declared.door.DoorEnd.{DoorEnd}
+use Rattle.qz_regrading.specs.declared.ends.LoopEnd.{LoopEnd}
+use Rattle.qz_regrading.specs.Loops.{Regrades}
 use Rattle.qz_stations.specs.Stations.{Post, Serving, at_place, no_end}
 use Rattle.qz_turn.specs.Rule.{HasEvery}
 use Rattle.qz_visit.specs.Holding.{GoesOn, Holds}
-use Rattle.qz_visit.specs.Seeing.{FollowAll}
-use Rattle.qz_visit.specs.Visits.{Locks, Seats, Tellings, seen_in}
+use Rattle.qz_visit.specs.Seeing.{FollowAll, IsAskedBeside}
+use Rattle.qz_visit.specs.Visits.{Locks, Seats, Tellings, lists_told, seen_in}
 
 -- ---- numbers
 
@@ -80,13 +83,23 @@ pub record TakesIn {P : Type 0} (s : Locks) (old new : Seats) (stations : List (
 
 -- what serving a door did
 pub record IsServed {D C : Type 0} (serves : Serving D C) (old new : Post (D × C)) : Type 0 where
-  pub going : serves old.place.0 new.place.0 (record { desk = seen_in old.visit.passes; clock = old.place.1 }) (record { desk = seen_in new.visit.passes; clock = new.place.1 }) new.end
+  pub going : serves.serves old.place.0 new.place.0 (record { desk = seen_in old.visit.passes; clock = old.place.1 }) (record { desk = seen_in new.visit.passes; clock = new.place.1 }) new.end
   pub goes_on : GoesOn old.visit new.visit
 
--- what regrading did
-pub record HasRegraded {C : Type 0} (old new : Post C) : Type 0 where
+-- one who regrades stays, or asked the school
+pub record HasGoneOn {C : Type 0} (old new : Post C) : Type 0 where
   pub goes_on : GoesOn old.visit new.visit
   pub end : new.end ≡ old.end
+
+-- what one who regrades sees of the lists, and the clock
+abbrev pub seen_at : {C : Type 0} → Post C → Answerer Tellings C
+seen_at p = record { desk = seen_in p.visit.passes; clock = p.place }
+
+-- what regrading did: passes of a worker, and nothing else
+pub record HasRegraded {C : Type 0} (tells : C → ℕ → C → Type 0) (old new : Post C) : Type 0 where
+  pub gone_on : HasGoneOn old new
+  pub loop : LoopEnd
+  pub regrades : Regrades tells IsAskedBeside lists_told (seen_at old) (seen_at new) loop
 
 -- this was done at each
 pub record AreEach {P : Type 0} (Does : Post P → Post P → Type 0) (old new : List (Post P)) : Type 0 where

@@ -1,12 +1,14 @@
 -- The doors of a school, served side by side: what each who served one saw of the school, and how serving ended.
-use Rattle.std.specs.Prelude.{◌≡◌, ℕ, ◌+◌, false, ◌||◌, List, length, drop, slice_get, sum_by, Option, Some}
+use Rattle.std.specs.Prelude.{◌≡◌, ℕ, ◌+◌, ◌<◌, false, ◌||◌, List, length, drop, slice_get, sum_by, Option, Some}
 use Rattle.std.specs.List.{list_any}
 use Rattle.qz_doors.specs.declared.door.DoorEnd.{DoorEnd}
-use Rattle.qz_doors.specs.Answers.{Answerer, Asks}
+use Rattle.qz_asking.specs.Asking.{Answerer, Asks}
 use Rattle.qz_doors.specs.Doors.{Entrance, ServesDoor}
 use Rattle.qz_doors.specs.Links.{Peer}
+use Rattle.qz_regrading.specs.declared.ends.LoopEnd.{LoopEnd}
+use Rattle.qz_regrading.specs.Loops.{Regrades}
 use Rattle.qz_visit.specs.Seeing.{IsAskedBeside}
-use Rattle.qz_visit.specs.Visits.{Tellings, Visitor}
+use Rattle.qz_visit.specs.Visits.{Tellings, Visitor, lists_told}
 
 -- ---- a station
 
@@ -33,9 +35,11 @@ all_ends ends = record { taken = sum_by (λ e. e.taken) ends; fault = list_any (
 
 -- ---- doors
 
--- What serving a door means: the door, then what answers, of which the lists that it sees are told, before and after, and how it ended.
-abbrev pub Serving : Type 0 → Type 0 → Type 1
-Serving D C = D → D → Answerer Tellings C → Answerer Tellings C → DoorEnd → Type 0
+-- What serving a door means: the door, then what answers, of which the lists that it sees are told, before and after, and how it ended. What
+-- a clock tells belongs to it.
+pub record Serving (D C : Type 0) : Type 1 where
+  pub tells : C → ℕ → C → Type 0
+  pub serves : D → D → Answerer Tellings C → Answerer Tellings C → DoorEnd → Type 0
 
 -- a link, by what is told of one
 abbrev pub peer_by : {L : Type 0} → (left holds : L → Option (List ℕ)) → (faults : L → ℕ) → L → Peer
@@ -47,7 +51,7 @@ entrance_by left returned returns out faults door = record { left = left door; r
 
 -- Doors are served, and each request is answered beside others: by what a clock tells, and by what links and doors are.
 abbrev pub serving_by : {D L C : Type 0} → (C → ℕ → C → Type 0) → (L → Peer) → (D → Entrance L) → ℕ → Serving D C
-serving_by tells peer entrance links door served a b end = ServesDoor (Asks tells IsAskedBeside) peer links (entrance door) (entrance served) a b end
+serving_by tells peer entrance links = record { tells = tells; serves = λ door served a b end. ServesDoor (Asks tells IsAskedBeside) peer links (entrance door) (entrance served) a b end }
 
 -- The door at this place was served by its clock for one who saw this much of the lists before. Of what it saw afterwards this holds.
 pub record ServesAt {D C : Type 0} (serves : Serving D C) (told : Tellings) (Kept : Tellings → Type 0) (old new : List (D × C)) (k : ℕ) (end : DoorEnd) : Type 0 where
@@ -58,8 +62,25 @@ pub record ServesAt {D C : Type 0} (serves : Serving D C) (told : Tellings) (Kep
   pub seen : Tellings
   pub before : slice_get old k ≡ Some (door, clock)
   pub after : slice_get new k ≡ Some (served, ticked)
-  pub going : serves door served (record { desk = told; clock = clock }) (record { desk = seen; clock = ticked }) end
+  pub going : serves.serves door served (record { desk = told; clock = clock }) (record { desk = seen; clock = ticked }) end
   pub kept : Kept seen
+
+-- ---- those that regrade
+
+-- Somebody regraded, by a clock, for passes that saw this much of the lists before. Of what they saw afterwards this holds.
+pub record RegradesOnce {C : Type 0} (tells : C → ℕ → C → Type 0) (told : Tellings) (Kept : Tellings → Type 0) : Type 0 where
+  pub clock : C
+  pub ticked : C
+  pub seen : Tellings
+  pub end : LoopEnd
+  pub regrades : Regrades tells IsAskedBeside lists_told (record { desk = told; clock = clock }) (record { desk = seen; clock = ticked }) end
+  pub kept : Kept seen
+
+-- so many did, each for passes of their own
+pub record RegradesBeside {C : Type 0} (tells : C → ℕ → C → Type 0) (told : Tellings) (Kept : Tellings → Type 0) (count : ℕ) : Type 0 where
+  pub each : (k : ℕ) → k < count → RegradesOnce tells told Kept
+
+-- ---- doors, side by side
 
 -- The first so many doors were served side by side, and ended so in all. The others stay.
 pub record ServesBeside {D C : Type 0} (serves : Serving D C) (told : Tellings) (Kept : Tellings → Type 0) (count : ℕ) (old new : List (D × C)) (end : DoorEnd) : Type 0 where

@@ -23,7 +23,7 @@ fn regrade_last<K: Keeper, W: Wait, R: Door, C: Clock>(
     doors: &mut Vec<(R, C)>,
 ) -> LoopEnd
     requires { 0 < length doors.old.items }
-    ensures { IsPassed K.sound K.faults solo.old solo.new doors.old.items doors.new.items result }
+    ensures { IsPassed C.tells K.sound K.faults solo.old solo.new doors.old.items doors.new.items result }
 {
     let stop = Stop::new(0);
     regrade_loop(rt, alloc, solo, &mut doors[0].1, &stop)

@@ -1,12 +1,12 @@
 //! The doors of a school are served side by side, while others regrade.
 
-ghost use Rattle.std.specs.Prelude.{◌≡◌, ◌+◌, ◌^◌, ◌<◌, ◌≤◌, length, MatchResult, vec_len, vec_capacity};
+ghost use Rattle.std.specs.Prelude.{◌≡◌, ◌+◌, ◌^◌, ◌<◌, ◌≤◌, length, IfOk, MatchResult, vec_len, vec_capacity};
 ghost use Rattle.qz_visit.specs.Closing.{Closes};
 ghost use Rattle.qz_visit.specs.Opening.{told_by};
 ghost use Rattle.qz_visit.specs.Seeing.{FollowAll};
 ghost use Rattle.qz_visit.specs.Visits.{seen_in};
-ghost use Rattle.qz_stations.specs.Posts.{AreAmong, AreEach, HasRegraded, HoldTheirs, HoldsEvery, IsServed};
-ghost use Rattle.qz_stations.specs.Stations.{ServesBeside, entrance_by, peer_by, serving_by};
+ghost use Rattle.qz_stations.specs.Posts.{AreAmong, AreEach, HasGoneOn, HasRegraded, HoldTheirs, HoldsEvery, IsServed};
+ghost use Rattle.qz_stations.specs.Stations.{RegradesBeside, ServesBeside, entrance_by, peer_by, serving_by};
 
 use crate::sides::at_both;
 use crate::station::{Station, regrade, serve};
@@ -53,7 +53,7 @@ where
     ensures served { AreEach (IsServed
         (serving_by C.tells (peer_by R.Link.left R.Link.holds R.Link.faults)
         (entrance_by R.left R.returned R.returns R.out R.faults) links)) stations.old stations.new }
-    ensures regraded { AreEach HasRegraded regraders.old regraders.new }
+    ensures regraded { AreEach (HasRegraded C.tells) regraders.old regraders.new }
 {
     let stop = Stop::new(stations.len() as u32);
     at_both(
@@ -69,7 +69,7 @@ where
         },
         regraders,
         &|_: usize, station: &mut Station<K, W, C>|
-            ensures { HasRegraded station.entry.now station.exit.now }
+            ensures { HasRegraded C.tells station.entry.now station.exit.now }
         { regrade(station, alloc, &stop) },
     );
 }
@@ -104,7 +104,9 @@ where
         (seen_in passes.old.seats) (λ seen. FollowAll seen (seen_in passes.new.seats))
         crew.workers doors.old.items doors.new.items)
         (λ _. doors.new.items ≡ doors.old.items) }
-    ensures regraded { AreEach HasRegraded regraders.old regraders.new }
+    ensures gone_on { AreEach HasGoneOn regraders.old regraders.new }
+    ensures regraded { IfOk result
+        (λ _. AreEach (HasRegraded C.tells) regraders.old regraders.new) }
 {
     let count = usize::from(crew.workers);
     let Ok(mut stations) = Vec::with_capacity(alloc, count) else {
@@ -148,6 +150,8 @@ where
         (seen_in passes.seats) (λ seen. FollowAll seen (seen_in result.0.seats))
         crew.workers doors.old.items doors.new.items)
         (λ _. doors.new.items ≡ doors.old.items) }
+    ensures regraded { IfOk result.1 (λ _. RegradesBeside C.tells (seen_in passes.seats)
+        (λ seen. FollowAll seen (seen_in result.0.seats)) crew.regraders) }
 {
     let count = usize::from(crew.regraders);
     let Ok(mut stations) = Vec::with_capacity(alloc, count) else {
@@ -197,6 +201,8 @@ where
         (told_by K.faults solo) (λ seen. Closes K.faults seen result.0)
         crew.workers doors.old.items doors.new.items)
         (λ _. doors.new.items ≡ doors.old.items) }
+    ensures regraded { IfOk result.1 (λ _. RegradesBeside C.tells (told_by K.faults solo)
+        (λ seen. Closes K.faults seen result.0) crew.regraders) }
 {
     let seats = u32::from(crew.workers) + u32::from(crew.regraders);
     let (catalog, shards) = solo.into_parts();

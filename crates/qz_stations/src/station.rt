@@ -80,7 +80,7 @@ pub(crate) fn regrade<K: Keeper, W: Wait, C: Clock>(
     alloc: Global,
     stop: &Stop,
 )
-    ensures { HasRegraded station.old station.new }
+    ensures { HasRegraded C.tells station.old station.new }
 {
     regrade_loop(
         station.rt,

@@ -1,7 +1,8 @@
 use Rattle.std.proofs.Common.{◌≤◌}
-use Rattle.qz_asking.specs.Following.{Follows}
+use Rattle.qz_regrading.specs.Parts.{IsWork}
 use Rattle.qz_regrading.specs.Passes.{AreDone}
 use Rattle.qz_regrading.specs.Workers.{KeepsParts}
+use Rattle.qz_regrading.specs.Working.{WorksSo}
 use Rattle.qz_regrading.proofs.walk.work_jobs.Given as goal
 
 abbrev pub invariant-loop-job : goal.invariant-loop-job
@@ -9,5 +10,5 @@ invariant-loop-job g l = record {
   keeps : KeepsParts (g.D.Desk.lists l.fn.desk) (g.D.Desk.lists l.desk);
   later : g.D.Desk.faults l.fn.desk ≤ g.D.Desk.faults l.desk;
   done : AreDone (g.D.Desk.lists l.desk) l.shard l.from l.job;
-  follows : Follows g.D.Desk.answers l.fn.desk l.desk;
+  works : WorksSo g.C.Clock.tells g.D.Desk.answers (IsWork 0) (record { desk = l.fn.desk; clock = l.fn.clock }) (record { desk = l.desk; clock = l.clock });
 }

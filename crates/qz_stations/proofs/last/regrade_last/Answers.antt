@@ -1,4 +1,4 @@
-use Rattle.qz_stations.proofs.Passing.{set_first}
+use Rattle.qz_stations.proofs.Passing.{get_first, set_first}
 use Rattle.qz_stations.proofs.Regrading.{solo_serves}
 use Rattle.qz_stations.proofs.last.regrade_last.Goals as goal
 
@@ -7,8 +7,11 @@ regrade_loop-requires-clause-serves g c = solo_serves _ _
 
 pub returns : goal.returns
 returns g c = record {
-  follows = c.regrade_loop.ensures.follows;
-  ends = c.regrade_loop.ensures.ends;
+  door = c.index_mut.result.now.0;
+  before = c.index_mut.result.now.1;
   clock = c.regrade_loop.new.clock;
+  first = get_first _ _ c.requires c.index_mut.ensures.value;
+  regrades = c.regrade_loop.ensures.regrades;
+  ends = c.regrade_loop.ensures.ends;
   doors = set_first _ _ _ c.requires c.index_mut.ensures.value;
 }

@@ -9,6 +9,7 @@ returns-then-crew-eq0 g c =
       closes = c.serve_doors-solo.ensures.closes;
       after = c.serve_doors-solo.new.doors.items;
       beside = rw c.in-Ok.is at c.serve_doors-solo.ensures.served;
+      regraded = rw c.in-Ok.is at c.serve_doors-solo.ensures.regraded;
       last = (omega (arith, none), refl, refl);
     }
 
@@ -20,5 +21,6 @@ returns g c =
       closes = c.serve_doors-solo.ensures.closes;
       after = c.serve_doors-solo.new.doors.items;
       beside = rw c.in-Ok.is at c.serve_doors-solo.ensures.served;
+      regraded = rw c.in-Ok.is at c.serve_doors-solo.ensures.regraded;
       last = (omega (arith, some), c.regrade_last.ensures);
     }

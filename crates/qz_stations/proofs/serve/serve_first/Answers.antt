@@ -1,5 +1,5 @@
 use Rattle.std.proofs.Common.{◌∙◌, arith}
-use Rattle.qz_stations.proofs.Serving.{back_served, back_taken, beside, counted_door, manned_served, manned_taken, none_regraded, written}
+use Rattle.qz_stations.proofs.Serving.{back_served, back_taken, beside, counted_door, gone_on_each, manned_served, manned_taken, none_regraded, written}
 use Rattle.qz_visit.proofs.Seeing.{all_self}
 use Rattle.qz_stations.proofs.serve.serve_first.Goals as goal
 
@@ -9,8 +9,14 @@ returns-in_default-clause-kept g c = record { each = λ n there. there }
 pub returns-in_default-clause-follows : goal.returns-in_default-clause-follows
 returns-in_default-clause-follows g c = all_self _
 
-pub returns-in_default-clause-regraded : goal.returns-in_default-clause-regraded
-returns-in_default-clause-regraded g c = none_regraded _
+pub returns-in_default-clause-gone_on : goal.returns-in_default-clause-gone_on
+returns-in_default-clause-gone_on g c = none_regraded _
+
+pub returns-in-Err-clause-gone_on : goal.returns-in-Err-clause-gone_on
+returns-in-Err-clause-gone_on g c = none_regraded _
+
+pub returns-clause-gone_on : goal.returns-clause-gone_on
+returns-clause-gone_on g c = gone_on_each _ _ _ c.serve_all.ensures.regraded
 
 pub leave-requires-clause-manned : goal.leave-requires-clause-manned
 leave-requires-clause-manned g c = manned_taken _ _ _ _ _ _ _ c.take_up.ensures.taken (omega arith)

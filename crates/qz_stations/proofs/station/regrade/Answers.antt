@@ -1,5 +1,5 @@
 use Rattle.std.proofs.Common.{refl}
-use Rattle.qz_stations.proofs.Asking.{visit_goes}
+use Rattle.qz_stations.proofs.Asking.{regrades_beside, regrades_go}
 use Rattle.qz_stations.proofs.Regrading.{visit_serves}
 use Rattle.qz_stations.proofs.station.regrade.Goals as goal
 
@@ -7,4 +7,8 @@ pub regrade_loop-requires-clause-serves : goal.regrade_loop-requires-clause-serv
 regrade_loop-requires-clause-serves g c = visit_serves
 
 pub returns : goal.returns
-returns g c = rw (← c.station.view_is) record { goes_on = visit_goes _ _ c.regrade_loop.ensures.follows; end = refl }
+returns g c = rw (← c.station.view_is) record {
+  gone_on = record { goes_on = regrades_go _ _ _ _ c.regrade_loop.ensures.regrades; end = refl };
+  loop = c.regrade_loop.result;
+  regrades = regrades_beside _ _ _ _ c.regrade_loop.ensures.regrades;
+}
