@@ -15,7 +15,7 @@ use Rattle.qz_grading.specs.declared.question.Question.{Question}
 use Rattle.qz_grading.specs.Canonical.{canonical_question, canonical_size}
 use Rattle.gift_read.specs.declared.reading.Entry.{Entry}
 use Rattle.gift_read.specs.Places.{Marks}
-use Rattle.gift_read.specs.Faults.{most_together}
+use Rattle.qz_grading.specs.declared.limits.TheConstants.{MOST_TOGETHER}
 use Rattle.gift_read.specs.Gift.{Fault, followed, onto, items_of, in_bank, bank_of, reading_of, reading}
 use Rattle.gift_laws.specs.Written.{has_no_return}
 use Rattle.gift_laws.proofs.ReadBackLines.{IsLine, Line, AreLines, joined, joined_marks, characters_of, between_feeds-lines, gives-block, with_plain_breaks-none}
@@ -55,7 +55,7 @@ pub record IsQuestionText (q : Question) : Type 0 where
   pub lines : AreLines later
   pub text : IsPlainText (canonical_question q) (((58 ∷ first) ++ joined later) ++ 10 ∷ 10 ∷ [])
   pub read : (b : Block) → b.marks ≡ marks ++ joined_marks later → IsRead b q
-  pub small : canonical_size q ≤ most_together
+  pub small : canonical_size q ≤ MOST_TOGETHER
 
 -- the blocks of lines that count from a number
 abbrev pub blocks_from : ℕ → List (List ℕ) → List Block

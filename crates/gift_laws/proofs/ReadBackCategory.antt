@@ -25,7 +25,8 @@ use Rattle.gift_read.specs.Texts.{spelled, text_of}
 use Rattle.gift_read.specs.Values.{question}
 use Rattle.gift_read.specs.Category as category
 use Rattle.gift_read.specs.Category.{written, is_slash, names}
-use Rattle.gift_read.specs.Faults.{when, flaws_in, flaws, or_large, broken, most_together}
+use Rattle.qz_grading.specs.declared.limits.TheConstants.{MOST_TOGETHER}
+use Rattle.gift_read.specs.Faults.{when, flaws_in, flaws, or_large, broken}
 use Rattle.gift_read.specs.Gift.{Fault, told_by, told, followed, items_of}
 use Rattle.gift_laws.specs.Written as ink
 use Rattle.gift_laws.proofs.ReadBackPlaces.{trimmed-around}
@@ -260,7 +261,7 @@ category-told b name path is marks =
     let read : category.path b.marks ≡ name ∷ path = ap category.path marks ∙ path-read name path is in
     let fine : flaws b ≡ [] =
     ap (λ (c : Bool). flaws_in c b) named ∙ ap (λ (p : List (List ℕ)). when (list_any category.is_bad_name p) 3) read ∙ ap (λ (c : Bool). when c 3) (good_path (name ∷ path) is) in
-    let whole : broken b ≡ [] = ap (λ (rules : List ℕ). or_large rules b) fine ∙ ap (λ (c : Bool). when (not c && nat_lt most_together (canonical_size (question b))) 2) named in
+    let whole : broken b ≡ [] = ap (λ (rules : List ℕ). or_large rules b) fine ∙ ap (λ (c : Bool). when (not c && nat_lt MOST_TOGETHER (canonical_size (question b))) 2) named in
     ap (λ (rules : List ℕ). told_by rules (category.is_category b.marks) b) whole
     ∙ ap (λ (c : Bool). told_by [] c b) named
     ∙ ap (λ (p : List (List ℕ)). Ok (entry.Category p)) read

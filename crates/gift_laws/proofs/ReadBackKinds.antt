@@ -9,7 +9,7 @@ use Rattle.qz_grading.specs.declared.question.Kind.TheVariants as kind
 use Rattle.qz_grading.specs.declared.question.Rich.{Rich}
 use Rattle.qz_grading.specs.Canonical.{is_nothing, rich_text, canonical_size, general_line}
 use Rattle.gift_read.specs.Places.{Marks}
-use Rattle.gift_read.specs.Faults.{most_together}
+use Rattle.qz_grading.specs.declared.limits.TheConstants.{MOST_TOGETHER}
 use Rattle.gift_read.specs.Values.{question_with}
 use Rattle.gift_laws.specs.Written.{IsText, IsRich}
 use Rattle.gift_laws.proofs.ReadBackRich.{rich_characters, rich_marks}
@@ -28,7 +28,7 @@ pub record IsFramed (name : List ℕ) (r general : Rich) (k : Kind) : Type 0 whe
   pub own_text : IsText r.text
   pub own_general : IsRich r.format general
   pub short : IsShort (question_with name r general k)
-  pub small : canonical_size (question_with name r general k) ≤ most_together
+  pub small : canonical_size (question_with name r general k) ≤ MOST_TOGETHER
 
 -- ---- descriptions
 

@@ -12,7 +12,7 @@ use Rattle.qz_grading.specs.declared.question.Kind.{Kind}
 use Rattle.qz_grading.specs.declared.question.Kind.TheVariants as kind
 use Rattle.qz_grading.specs.declared.question.Question.{Question}
 use Rattle.qz_grading.specs.declared.question.Rich.{Rich}
-use Rattle.gift_read.specs.Faults.{most_together}
+use Rattle.qz_grading.specs.declared.limits.TheConstants.{MOST_TOGETHER}
 use Rattle.gift_read.specs.Values.{question_with}
 use Rattle.gift_laws.specs.Written.{IsKind, IsWritten, AreNames, AreItems, ReadsBack}
 use Rattle.gift_laws.proofs.ReadBackBank.{IsQuestionText, ReadsItems, reads-none, reads-question, reading-items}
@@ -52,7 +52,7 @@ asks-written q is =
       own_text = is.text;
       own_general = is.general;
       short = is.lengths;
-      small = subst (λ (p : Question). canonical_size p ≤ most_together) (sym whole) is.size;
+      small = subst (λ (p : Question). canonical_size p ≤ MOST_TOGETHER) (sym whole) is.size;
     } in
     subst IsQuestionText whole (asks-kind q.name q.text q.general q.kind framed is.kind is.sound is.described)
 

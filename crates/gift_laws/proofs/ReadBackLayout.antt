@@ -16,7 +16,8 @@ use Rattle.gift_read.specs.Places.{Marks, is_at, are_blank, signs_at, occurs, tr
 use Rattle.gift_read.specs.Texts.{rich_of}
 use Rattle.gift_read.specs.Parts.{Part, sort_in}
 use Rattle.gift_read.specs.Values.{question_with, kind_in}
-use Rattle.gift_read.specs.Faults.{most_parts, is_matching, has_blank_number, has_no_number, number_pieces, is_misweighed, weighed_pieces, has_stray_arrow, has_stray_feedback}
+use Rattle.qz_grading.specs.declared.limits.TheConstants.{MOST_PARTS}
+use Rattle.gift_read.specs.Faults.{is_matching, has_blank_number, has_no_number, number_pieces, is_misweighed, weighed_pieces, has_stray_arrow, has_stray_feedback}
 use Rattle.gift_laws.specs.Written.{IsRich, Each}
 use Rattle.gift_laws.proofs.ReadBackPlaces.{Passes, passes-cons, passes-append, passes-plain, passes-occurs, begins_ink, ends_ink, trimmed-around}
 use Rattle.gift_laws.proofs.ReadBackRich.{rich_marks, rich_marks-plain, rich_of-nothing, rich_of-around}
@@ -154,11 +155,11 @@ pub faultless-pieces : (name : List ℕ) (r general : Rich) (k : Kind) (s : Sort
     → list_any has_blank_number (number_pieces s a) ≡ false → list_any is_misweighed (weighed_pieces s a) ≡ false → has_stray_arrow s a ≡ false
     → list_any has_no_number (number_pieces s a) ≡ false → has_stray_feedback s a ≡ false → IsFaultless (question_with name r general k) s a
 faultless-pieces name r general k s a short whole other ink weights arrow numbers feedback =
-    let few = le-ltb most_parts (sound.parts k) whole.few in
+    let few = le-ltb MOST_PARTS (sound.parts k) whole.few in
     let enough = le-ltb (sound.parts k) (sound.least_parts k) whole.enough in
     let lacks : (nat_lt (sound.parts k) (sound.least_parts k) || not (sound.has_no_blank k)) ≡ false = ap (λ (x : Bool). x || not (sound.has_no_blank k)) enough ∙ ap not whole.no_blank in
     record {
-      short = ap (λ (x : Bool). not x || nat_lt most_parts (sound.parts k)) short ∙ few;
+      short = ap (λ (x : Bool). not x || nat_lt MOST_PARTS (sound.parts k)) short ∙ few;
       pieces = ap (λ (x : Bool). (not x && (nat_lt (sound.parts k) (sound.least_parts k) || not (sound.has_no_blank k))) || list_any has_blank_number (number_pieces s a)) other
           ∙ ap (λ (x : Bool). x || list_any has_blank_number (number_pieces s a)) lacks ∙ ink;
       weights = weights;

@@ -13,7 +13,7 @@ use Rattle.qz_grading.specs.declared.question.Rich.{Rich}
 use Rattle.qz_grading.specs.Canonical as canonical
 use Rattle.qz_grading.specs.Canonical.{is_nothing, rich_text, rich_behind, answer_part, canonical_question, canonical_size, general_line, in_lines}
 use Rattle.gift_read.specs.Places.{Marks}
-use Rattle.gift_read.specs.Faults.{most_together}
+use Rattle.qz_grading.specs.declared.limits.TheConstants.{MOST_TOGETHER}
 use Rattle.gift_laws.specs.Written.{IsText, has_no_return}
 use Rattle.gift_laws.proofs.ReadBackMarks.{Spells-single}
 use Rattle.gift_laws.proofs.ReadBackRich.{written_characters, rich_characters, rich_marks}
@@ -116,7 +116,7 @@ plain_text-same text cs ds same is = record { is = is.is ∙ ap encode_utf8_all 
 
 pub several-lines : (q : Question) (opening text : List ℕ) (extra : Marks) (ls : List Line) → IsText q.name → IsText q.text.text
     → answer_part q.kind q.text.format q.general ≡ (opening ++ 10 ∷ []) ++ text ++ 125 ∷ [] → Writes opening opening (Sign 123 ∷ extra) → AreWritten text ls
-    → canonical_size q ≤ most_together
+    → canonical_size q ≤ MOST_TOGETHER
     → ((b : Block) → b.marks ≡ named_marks q.name (braced (rich_marks format.Moodle q.text) (extra ++ (joined_marks ls ++ Plain 10 ∷ []))) → IsRead b q) → IsQuestionText q
 several-lines q opening text extra ls is_name is_text part_is opens written small read =
     let front = Writes-front q is_name is_text in

@@ -19,7 +19,8 @@ use Rattle.gift_read.specs.Places.{Marks, is_at, trimmed}
 use Rattle.gift_read.specs.Texts.{rich_of}
 use Rattle.gift_read.specs.Parts.{answers, general_marks, sort_in}
 use Rattle.gift_read.specs.Values.{question_with, question, kind_in}
-use Rattle.gift_read.specs.Faults.{broken_values, most_bytes}
+use Rattle.qz_grading.specs.declared.limits.TheConstants.{MOST_TEXT}
+use Rattle.gift_read.specs.Faults.{broken_values}
 use Rattle.gift_read.specs.Category.{is_category}
 use Rattle.gift_laws.specs.Written.{IsText, IsRich}
 use Rattle.gift_laws.proofs.ReadBackPlaces
@@ -31,7 +32,7 @@ use Rattle.gift_laws.proofs.ReadBackTold.{IsFaultless, faultless-values, IsRead}
 
 -- what every question keeps of its texts
 abbrev pub IsShort : Question → Type 0
-IsShort q = are_no_longer most_bytes (texts q) ≡ true
+IsShort q = are_no_longer MOST_TEXT (texts q) ≡ true
 
 pub no_text : (r : Rich) → is_nothing r.text ≡ true → r.text ≡ []
 no_text r none = nil_from_length r.text (eqb-true (length r.text) 0 none)

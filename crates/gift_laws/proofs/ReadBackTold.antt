@@ -11,7 +11,8 @@ use Rattle.gift_read.specs.declared.parts.Sort.{Sort}
 use Rattle.gift_read.specs.Places.{Marks}
 use Rattle.gift_read.specs.Values.{question}
 use Rattle.gift_read.specs.Category.{is_category}
-use Rattle.gift_read.specs.Faults.{when, flaws, or_large, broken, is_long, is_large, is_matching, lacks_piece, has_blank_number, number_pieces, is_misweighed, weighed_pieces, has_stray_arrow, has_no_number, has_stray_feedback, broken_values, most_together}
+use Rattle.qz_grading.specs.declared.limits.TheConstants.{MOST_TOGETHER}
+use Rattle.gift_read.specs.Faults.{when, flaws, or_large, broken, is_long, is_large, is_matching, lacks_piece, has_blank_number, number_pieces, is_misweighed, weighed_pieces, has_stray_arrow, has_no_number, has_stray_feedback, broken_values}
 use Rattle.gift_read.specs.Gift.{told_by, told}
 
 -- ---- no rule is broken
@@ -42,12 +43,12 @@ pub record IsRead (b : Block) (q : Question) : Type 0 where
 not_large : (n m : ℕ) → n ≤ m → nat_lt m n ≡ false
 not_large n m le = le-ltb m n le
 
-pub read-told : (b : Block) (q : Question) → IsRead b q → canonical_size q ≤ most_together → told b ≡ Ok (entry.Asked q)
+pub read-told : (b : Block) (q : Question) → IsRead b q → canonical_size q ≤ MOST_TOGETHER → told b ≡ Ok (entry.Asked q)
 read-told b q is small =
     let not_big : is_large b ≡ false =
-    ap (λ (c : Bool). not c && nat_lt most_together (canonical_size (question b))) is.asked
-    ∙ ap (λ (p : Question). nat_lt most_together (canonical_size p)) is.value
-    ∙ not_large (canonical_size q) most_together small in
+    ap (λ (c : Bool). not c && nat_lt MOST_TOGETHER (canonical_size (question b))) is.asked
+    ∙ ap (λ (p : Question). nat_lt MOST_TOGETHER (canonical_size p)) is.value
+    ∙ not_large (canonical_size q) MOST_TOGETHER small in
     let sound : broken b ≡ [] = ap (λ (rules : List ℕ). or_large rules b) is.flawless ∙ ap (λ (c : Bool). when c 2) not_big in
     ap (λ (rules : List ℕ). told_by rules (is_category b.marks) b) sound
     ∙ ap (λ (c : Bool). told_by [] c b) is.asked

@@ -18,7 +18,7 @@ use Rattle.qz_grading.specs.declared.question.Rich.{Rich}
 use Rattle.qz_grading.specs.Canonical as canonical
 use Rattle.qz_grading.specs.Canonical.{escaped_byte, escaped, is_nothing, rich_text, rich_behind, answer_part, canonical_question, canonical_size, general_line}
 use Rattle.gift_read.specs.Places.{Marks}
-use Rattle.gift_read.specs.Faults.{most_together}
+use Rattle.qz_grading.specs.declared.limits.TheConstants.{MOST_TOGETHER}
 use Rattle.gift_laws.specs.Written.{IsText, has_no_return}
 use Rattle.gift_laws.proofs.ReadBackMarks.{Spells, Spells-nil, Spells-append, Spells-single, Spells-text}
 use Rattle.gift_laws.proofs.ReadBackRich.{written_characters, marks_of_text, escaped-written, is_marked, rich_characters, rich_marks, rich_text-written, Spells-rich}
@@ -144,7 +144,7 @@ front_marks-named q rest =
 -- ---- a question on one line
 
 pub one-line : (q : Question) (part cs : List ℕ) (marks : Marks) → IsText q.name → IsText q.text.text → answer_part q.kind q.text.format q.general ≡ part → Writes part cs marks
-    → canonical_size q ≤ most_together
+    → canonical_size q ≤ MOST_TOGETHER
     → ((b : Block) → b.marks ≡ named_marks q.name (rich_marks format.Moodle q.text ++ marks) → IsRead b q) → IsQuestionText q
 one-line q part cs marks is_name is_text part_is writes small read =
     let whole = Writes-append (front_text q) part (front_characters q) cs (front_marks q) marks (Writes-front q is_name is_text) writes in

@@ -19,7 +19,7 @@ use Rattle.qz_grading.specs.Questions.{IsSound, are_no_longer, texts, is_weight,
 use Rattle.gift_lex.specs.Blocks.{carriage_return, line_feed}
 use Rattle.gift_read.specs.Category.{slash}
 use Rattle.gift_read.specs.Gift.{reading}
-use Rattle.gift_read.specs.Faults.{most_bytes, most_together}
+use Rattle.qz_grading.specs.declared.limits.TheConstants.{MOST_TEXT, MOST_TOGETHER}
 use Rattle.gift_read.specs.Values.{penalty_of}
 
 -- ---- texts
@@ -116,8 +116,8 @@ pub record IsWritten (q : Question) : Type 0 where
   pub sound : IsSound q.kind
   pub penalty : q.penalty ≡ penalty_of q.kind
   pub no_hints : q.hints ≡ []
-  pub lengths : IsTrue (are_no_longer most_bytes (texts q))
-  pub size : canonical_size q ≤ most_together
+  pub lengths : IsTrue (are_no_longer MOST_TEXT (texts q))
+  pub size : canonical_size q ≤ MOST_TOGETHER
 
 -- ---- categories
 

@@ -9,7 +9,8 @@ use Rattle.qz_grading.specs.Canonical.{canonical_size}
 use Rattle.qz_grading.specs.Questions.{texts, are_no_longer, parts}
 use Rattle.gift_read.specs.Category.{is_category}
 use Rattle.gift_read.specs.FirstFault.{first_of, IsWhole}
-use Rattle.gift_read.specs.Faults.{is_nameless, has_stray_brace, is_unclosed, when, most_bytes, most_parts, most_together, is_long, broken_values, is_large, or_large, broken, line_of}
+use Rattle.qz_grading.specs.declared.limits.TheConstants.{MOST_PARTS, MOST_TEXT, MOST_TOGETHER}
+use Rattle.gift_read.specs.Faults.{is_nameless, has_stray_brace, is_unclosed, when, is_long, broken_values, is_large, or_large, broken, line_of}
 use Rattle.gift_read.specs.Gift.{told, told_by}
 use Rattle.gift_read.specs.Parts.{body, question_text, answer_part, answers, sort_of}
 use Rattle.gift_read.specs.Texts.{formatted}
@@ -21,11 +22,11 @@ parts-question b count counted = counted (formatted Moodle (question_text (body 
 
 -- Too many pieces are told before anything else of a question.
 pub too_many_parts : (b : Block) (count : ℕ) → is_category b.marks ≡ false → is_nameless b.marks ≡ false → has_stray_brace (body b.marks) ≡ false → is_unclosed (body b.marks) ≡ false
-    → ((format : Format) → count ≡ parts (kind_in format (answers (answer_part (body b.marks))) (sort_of (body b.marks)))) → most_parts < count → first_of (broken b) ≡ Some 2
+    → ((format : Format) → count ≡ parts (kind_in format (answers (answer_part (body b.marks))) (sort_of (body b.marks)))) → MOST_PARTS < count → first_of (broken b) ≡ Some 2
 too_many_parts b count asked named no_stray closed counted many =
     let same = parts-question b count counted in
-    let short = are_no_longer most_bytes (texts (question b)) in
-    let long : is_long (question b) ≡ true = rw (lt-ltb most_parts (parts (question b).kind) (omega (arith, same))) (or-true (not short)) in
+    let short = are_no_longer MOST_TEXT (texts (question b)) in
+    let long : is_long (question b) ≡ true = rw (lt-ltb MOST_PARTS (parts (question b).kind) (omega (arith, same))) (or-true (not short)) in
     rw (asked, named, no_stray, closed, long) refl
 
 -- where nothing is told before, the length of the whole is
@@ -35,9 +36,9 @@ told_last b (rule ∷ rules) none = cc
 
 -- A question that is short enough and of which nothing else is told is without fault.
 pub told_nothing : (b : Block) → is_category b.marks ≡ false → IsWhole b → None ≡ first_of (broken_values (question b) (sort_of (body b.marks)) (answers (answer_part (body b.marks))))
-    → canonical_size (question b) ≤ most_together → None ≡ first_of (broken b)
+    → canonical_size (question b) ≤ MOST_TOGETHER → None ≡ first_of (broken b)
 told_nothing b asked whole none short =
-    let small : is_large b ≡ false = rw (asked, le-ltb most_together (canonical_size (question b)) short) refl in
+    let small : is_large b ≡ false = rw (asked, le-ltb MOST_TOGETHER (canonical_size (question b)) short) refl in
     let last = told_last b (broken_values (question b) (sort_of (body b.marks)) (answers (answer_part (body b.marks)))) none in
     sym (ap (λ (found : List ℕ). first_of (or_large found b)) whole.flaws ∙ last ∙ ap (λ (large : Bool). first_of (when large 2)) small)
 

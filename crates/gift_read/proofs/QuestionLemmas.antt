@@ -20,7 +20,8 @@ use Rattle.gift_read.specs.Texts.{rich_of}
 use Rattle.gift_read.specs.Parts.{body, answer_part, general_marks, answers, truth, short_unless, sort_in, sort_of}
 use Rattle.gift_read.specs.Values.{kind_in, penalty_of, question}
 use Rattle.gift_read.specs.Category.{is_category}
-use Rattle.gift_read.specs.Faults.{when, is_nameless, has_stray_brace, is_unclosed, most_bytes, most_parts, most_together, is_long, is_matching, lacks_piece, has_stray_arrow, has_stray_feedback, broken_values, broken_question, flaws, is_large, or_large, broken}
+use Rattle.qz_grading.specs.declared.limits.TheConstants.{MOST_PARTS, MOST_TEXT, MOST_TOGETHER}
+use Rattle.gift_read.specs.Faults.{when, is_nameless, has_stray_brace, is_unclosed, is_long, is_matching, lacks_piece, has_stray_arrow, has_stray_feedback, broken_values, broken_question, flaws, is_large, or_large, broken}
 use Rattle.qz_grading.specs.declared.question.Item.{Item}
 use Rattle.gift_read.specs.declared.reading.Entry.{Entry}
 use Rattle.gift_read.specs.declared.reading.Entry.TheVariants as entry
@@ -103,13 +104,13 @@ sound-kind q s answers f is e =
     let weights = none-before _ _ 7 matching.0 in
     let pieces = none-before (when (is_long q) 2) _ 6 weights.0 in
     let long = none-before [] (is_long q) 2 pieces.0 in
-    let limits = or_parts (not (are_no_longer most_bytes (texts q))) (nat_lt most_parts (parts q.kind)) long.1 in
+    let limits = or_parts (not (are_no_longer MOST_TEXT (texts q))) (nat_lt MOST_PARTS (parts q.kind)) long.1 in
     let others = or_parts (not (is_matching q.kind) && lacks_piece q.kind) _ pieces.1 in
     let matched = or_parts (is_matching q.kind && (lacks_piece q.kind || not (has_stem q.kind))) _ matching.1 in
     let whole = pieces-whole q.kind others.0 matched.0 in
     let full = or_parts (nat_lt (parts q.kind) (least_parts q.kind)) (not (has_no_blank q.kind)) whole.0 in (
       record {
-        few = ltb-false most_parts (parts q.kind) limits.1;
+        few = ltb-false MOST_PARTS (parts q.kind) limits.1;
         enough = ltb-false (parts q.kind) (least_parts q.kind) full.0;
         numbers = rw is (kind_in-numbers f answers s);
         no_blank = not-false _ full.1;
@@ -127,8 +128,8 @@ values-kept b asked e =
     let values = none-question b (is_nameless b.marks) _ refl refl (rw asked at (none-broken b e).0) in
     sound-kind (question b) (sort_of (body b.marks)) (answers (answer_part (body b.marks))) (question b).text.format refl values
 
-pub size-kept : (b : Block) → is_category b.marks ≡ false → broken b ≡ [] → canonical_size (question b) ≤ most_together
-size-kept b asked e = ltb-false most_together (canonical_size (question b)) (rw asked at (none-broken b e).1)
+pub size-kept : (b : Block) → is_category b.marks ≡ false → broken b ≡ [] → canonical_size (question b) ≤ MOST_TOGETHER
+size-kept b asked e = ltb-false MOST_TOGETHER (canonical_size (question b)) (rw asked at (none-broken b e).1)
 
 pub question-kept : (b : Block) → is_category b.marks ≡ false → broken b ≡ [] → IsQuestion (question b)
 question-kept b asked e =

@@ -2,6 +2,7 @@
 use Rattle.std.specs.Prelude.{ℕ, Bool, true, false, not, ◌&&◌, ◌||◌, ◌==◌, nat_lt, if◌then◌else◌, List, [], ◌∷◌, ◌++◌, length, drop, is_none}
 use Rattle.std.specs.List.{list_any}
 use Rattle.gift_lex.specs.declared.block.Block.{Block}
+use Rattle.qz_grading.specs.declared.limits.TheConstants.{MOST_PARTS, MOST_TEXT, MOST_TOGETHER}
 use Rattle.qz_grading.specs.declared.question.Kind.{Kind}
 use Rattle.qz_grading.specs.declared.question.Kind.TheVariants as kind
 use Rattle.qz_grading.specs.declared.question.Question.{Question}
@@ -37,21 +38,12 @@ is_unclosed body = occurs (is_at landmark.Opening) body && not (occurs (is_at la
 
 -- ---- lengths
 
-abbrev pub most_bytes : ℕ
-most_bytes = 65536
-
-abbrev pub most_parts : ℕ
-most_parts = 64
-
-abbrev pub most_together : ℕ
-most_together = 262144
-
 abbrev pub is_long_name : Marks → Bool
-is_long_name marks = nat_lt most_bytes (length (text_of (name_marks marks)))
+is_long_name marks = nat_lt MOST_TEXT (length (text_of (name_marks marks)))
 
 -- a text is too long, or there are too many pieces
 abbrev pub is_long : Question → Bool
-is_long q = not (sound.are_no_longer most_bytes (sound.texts q)) || nat_lt most_parts (sound.parts q.kind)
+is_long q = not (sound.are_no_longer MOST_TEXT (sound.texts q)) || nat_lt MOST_PARTS (sound.parts q.kind)
 
 -- ---- kinds
 
@@ -125,7 +117,7 @@ flaws b = flaws_in (is_category b.marks) b
 
 -- whether the canonical text of a question without flaws is too long
 abbrev pub is_large : Block → Bool
-is_large b = not (is_category b.marks) && nat_lt most_together (canonical_size (question b))
+is_large b = not (is_category b.marks) && nat_lt MOST_TOGETHER (canonical_size (question b))
 
 abbrev pub or_large : List ℕ → Block → List ℕ
 or_large [] b = when (is_large b) 2

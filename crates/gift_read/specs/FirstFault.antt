@@ -4,7 +4,8 @@ use Rattle.gift_lex.specs.declared.block.Block.{Block}
 use Rattle.qz_grading.specs.Questions.{parts}
 use Rattle.gift_read.specs.Parts.{body, answer_part, answers, sort_of}
 use Rattle.gift_read.specs.Values.{question}
-use Rattle.gift_read.specs.Faults.{most_parts, broken_values, flaws}
+use Rattle.qz_grading.specs.declared.limits.TheConstants.{MOST_PARTS}
+use Rattle.gift_read.specs.Faults.{broken_values, flaws}
 
 -- the first of some rules
 abbrev pub first_of : List ℕ → Option ℕ
@@ -15,4 +16,4 @@ first_of (rule ∷ rules) = Some rule
 -- pieces than it may.
 pub record IsWhole (b : Block) : Type 0 where
   pub flaws : flaws b ≡ broken_values (question b) (sort_of (body b.marks)) (answers (answer_part (body b.marks)))
-  pub few : parts (question b).kind ≤ most_parts
+  pub few : parts (question b).kind ≤ MOST_PARTS

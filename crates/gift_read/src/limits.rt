@@ -7,7 +7,8 @@ ghost use Rattle.qz_grading.specs.declared.question.Num.{Num};
 ghost use Rattle.qz_grading.specs.declared.question.Pair.{Pair};
 ghost use Rattle.qz_grading.specs.declared.question.Short.{Short};
 ghost use Rattle.qz_grading.specs.Questions.{kind_texts, are_no_longer};
-ghost use Rattle.gift_read.specs.Faults.{most_bytes, is_long};
+ghost use Rattle.qz_grading.specs.declared.limits.TheConstants.{MOST_TEXT};
+ghost use Rattle.gift_read.specs.Faults.{is_long};
 ghost use Rattle.qz_grading.specs.Room.{LeftBehind};
 ghost use Rattle.gift_read.specs.Texts.{spelled, text_of};
 
@@ -31,31 +32,31 @@ fn behind_spelled(room: usize, marks: &[Piece]) -> Option<usize>
 
 /// Whether the text of marks is longer than a text may be.
 pub(crate) fn is_long_text(marks: &[Piece]) -> bool
-    ensures { result ≡ nat_lt most_bytes (length (text_of marks.now)) }
+    ensures { result ≡ nat_lt MOST_TEXT (length (text_of marks.now)) }
 {
     behind_spelled(MOST_TEXT, trimmed(marks)).is_none()
 }
 
 fn is_short(text: &Text) -> bool
-    ensures { result ≡ nat_le (length text.now) most_bytes }
+    ensures { result ≡ nat_le (length text.now) MOST_TEXT }
 {
     text.as_bytes().len() <= MOST_TEXT
 }
 
 fn are_short(one: &Text, other: &Text) -> bool
-    ensures { result ≡ are_no_longer most_bytes (one.now ∷ other.now ∷ []) }
+    ensures { result ≡ are_no_longer MOST_TEXT (one.now ∷ other.now ∷ []) }
 {
     is_short(one) && is_short(other)
 }
 
 fn are_short_choices(choices: &[Choice]) -> bool
-    ensures { result ≡ list_all (λ (c : Choice). are_no_longer most_bytes (c.text.text ∷ c.feedback.text ∷ [])) choices.now }
+    ensures { result ≡ list_all (λ (c : Choice). are_no_longer MOST_TEXT (c.text.text ∷ c.feedback.text ∷ [])) choices.now }
 {
     choices.iter().all(|choice| are_short(&choice.text.text, &choice.feedback.text))
 }
 
 fn are_short_pairs(pairs: &[Pair]) -> bool
-    ensures { result ≡ list_all (λ (p : Pair). are_no_longer most_bytes (p.stem.text ∷ p.answer ∷ [])) pairs.now }
+    ensures { result ≡ list_all (λ (p : Pair). are_no_longer MOST_TEXT (p.stem.text ∷ p.answer ∷ [])) pairs.now }
 {
     pairs
         .iter()
@@ -63,13 +64,13 @@ fn are_short_pairs(pairs: &[Pair]) -> bool
 }
 
 fn are_short_answers(answers: &[Short]) -> bool
-    ensures { result ≡ list_all (λ (a : Short). are_no_longer most_bytes (a.pattern ∷ a.feedback.text ∷ [])) answers.now }
+    ensures { result ≡ list_all (λ (a : Short). are_no_longer MOST_TEXT (a.pattern ∷ a.feedback.text ∷ [])) answers.now }
 {
     answers.iter().all(|answer| are_short(answer.pattern.text(), &answer.feedback.text))
 }
 
 fn are_short_nums(answers: &[Num]) -> bool
-    ensures { result ≡ list_all (λ (a : Num). nat_le (length a.feedback.text) most_bytes) answers.now }
+    ensures { result ≡ list_all (λ (a : Num). nat_le (length a.feedback.text) MOST_TEXT) answers.now }
 {
     answers.iter().all(|answer| is_short(&answer.feedback.text))
 }
@@ -77,7 +78,7 @@ fn are_short_nums(answers: &[Num]) -> bool
 /// Whether none of the texts of a kind is too long.
 #[tactic(auto, using(crate::proofs::LimitLemmas::texts_of_parts))]
 fn has_short_texts(kind: &Kind) -> bool
-    ensures { result ≡ are_no_longer most_bytes (kind_texts kind.now) }
+    ensures { result ≡ are_no_longer MOST_TEXT (kind_texts kind.now) }
 {
     match kind {
         Kind::Description | Kind::Essay => true,

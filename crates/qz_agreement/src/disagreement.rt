@@ -1,6 +1,7 @@
 //! The first record that doesn't agree with the catalogue.
 
 ghost use Rattle.std.specs.Prelude.{◌≡◌, ◌+◌, ◌<◌, ◌≤◌, IfOk, List, OnOk, Some, filter, find, length, map, nat_lt, slice_get};
+ghost use Rattle.qz_terms.specs.declared.limits.TheConstants.{MOST_SHARDS};
 ghost use Rattle.qz_terms.specs.declared.plan.Bound.{Bound};
 ghost use Rattle.qz_terms.specs.declared.record.Record.{Record};
 ghost use Rattle.qz_terms.specs.Catalog.{users};
@@ -65,7 +66,7 @@ fn look_at_all(
     catalog: &CatalogCore,
     parts: &[&[Record]],
 ) -> Result<Findings, NoMemory>
-    requires few { length parts.now ≤ 64 }
+    requires few { length parts.now ≤ MOST_SHARDS }
     requires legal { AreLegal (lists parts.now) }
     ensures { IfOk result (λ f. AreLookedAt catalog.now (lists parts.now) f (length parts.now)) }
 {
@@ -83,7 +84,7 @@ fn first_bad(
     catalog: &CatalogCore,
     parts: &[&[Record]],
 ) -> Result<Option<Spot>, NoMemory>
-    requires few { length parts.now ≤ 64 }
+    requires few { length parts.now ≤ MOST_SHARDS }
     requires legal { AreLegal (lists parts.now) }
     ensures { IfOk result (AreJudged catalog.now (lists parts.now)) }
 {
@@ -149,7 +150,7 @@ pub fn first_disagreement(
     catalog: &CatalogCore,
     parts: &[&[Record]],
 ) -> Result<Option<Disagreement>, NoMemory>
-    requires few { length parts.now ≤ 64 }
+    requires few { length parts.now ≤ MOST_SHARDS }
     requires legal { AreLegal (lists parts.now) }
     ensures { IfOk result (IsAnswer catalog.now (lists parts.now)) }
 {

@@ -7,6 +7,7 @@ use Rattle.std.proofs.lemmas.Bool.{eqb-true, eqb-false, false_from_ne_true}
 use Rattle.std.proofs.lemmas.List.{length-map}
 use Rattle.std.proofs.lemmas.Option.{slice_get_within}
 use Rattle.std.proofs.lemmas.List.FromFn.{length-enumerate_from}
+use Rattle.qz_grading.specs.declared.limits.TheConstants.{MOST_TOGETHER}
 use Rattle.qz_grading.specs.declared.question.Bank.{Bank}
 use Rattle.qz_grading.specs.declared.question.Item.{Item}
 use Rattle.qz_grading.specs.declared.question.Question.{Question}
@@ -22,7 +23,7 @@ use Rattle.qz_terms.specs.declared.request.Request.TheVariants as request
 use Rattle.qz_terms.specs.Catalog.{asked, changed_by, changes, changes_by, entries, imports_by}
 use Rattle.qz_terms.specs.Catalog as catalog
 use Rattle.qz_terms.specs.Cause as cause
-use Rattle.qz_terms.specs.Cause.{most_version_bytes, too_many}
+use Rattle.qz_terms.specs.Cause.{too_many}
 use Rattle.qz_terms.proofs.Walks.{all_of-push}
 use Rattle.qz_bank.specs.declared.entry.Entry.{Entry}
 use Rattle.qz_bank.specs.Banks.{change_cause, changed, first_version, grown, imported, latest, newer_version, newest, size_cause, version, with_version}
@@ -147,7 +148,7 @@ regrouped None (Some x) r = refl
 regrouped None None (Some x) = refl
 regrouped None None None = refl
 
-size-told : (o : Option Question) → option_and_then size_cause o ≡ when (unwrap_or (option_map (λ q. nat_lt most_version_bytes (canonical_size q)) o) false) (refusal.TooMany most_version_bytes)
+size-told : (o : Option Question) → option_and_then size_cause o ≡ when (unwrap_or (option_map (λ q. nat_lt MOST_TOGETHER (canonical_size q)) o) false) (refusal.TooMany MOST_TOGETHER)
 size-told None = refl
 size-told (Some q) = refl
 
@@ -161,7 +162,7 @@ pub cause-follows : (c : List Record) (es : List Entry) (e : ℕ) (x : Request) 
 cause-follows c es e x h =
     let missing : when (is_none (at_place es e)) (refusal.Unknown thing.Entry) ≡ cause.missing_entry c e = ap (λ (b : Bool). when b (refusal.Unknown thing.Entry)) (ap is_none (at-follows c es e h) ∙ none-mapped (λ i. entry_over c (e, i)) (at_place (entries c) e)) in
     let many : too_many 1000 (unwrap_or (latest es e) 0) ≡ too_many 1000 (catalog.latest c e) = ap (too_many 1000) (latest-follows c es e h) in
-    let size : option_and_then size_cause (newer_version es e x) ≡ when (unwrap_or (option_map (λ q. nat_lt most_version_bytes (canonical_size q)) (cause.newer_version c e x)) false) (refusal.TooMany most_version_bytes) = ap (option_and_then size_cause) (newer-follows c es e x h) ∙ size-told (cause.newer_version c e x) in
+    let size : option_and_then size_cause (newer_version es e x) ≡ when (unwrap_or (option_map (λ q. nat_lt MOST_TOGETHER (canonical_size q)) (cause.newer_version c e x)) false) (refusal.TooMany MOST_TOGETHER) = ap (option_and_then size_cause) (newer-follows c es e x h) ∙ size-told (cause.newer_version c e x) in
     regrouped (when (is_none (at_place es e)) (refusal.Unknown thing.Entry)) (too_many 1000 (unwrap_or (latest es e) 0)) (option_and_then size_cause (newer_version es e x))
     ∙ ap (λ (p : Option Refusal). first_some (p ∷ first_some (too_many 1000 (unwrap_or (latest es e) 0) ∷ option_and_then size_cause (newer_version es e x) ∷ []) ∷ [])) missing
     ∙ ap (λ (q : Option Refusal). first_some (cause.missing_entry c e ∷ first_some (q ∷ option_and_then size_cause (newer_version es e x) ∷ []) ∷ [])) many

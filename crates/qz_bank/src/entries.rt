@@ -12,15 +12,10 @@ use crate::room::{make_room, take_room};
 use crate::{Entry, Prepared};
 use qz_decimal::Fraction;
 use qz_grading::{Bank, MOST_TOGETHER, Question, Refusal, Thing, canonical_size_is_at_most};
+use qz_terms::{MOST_ENTRIES, MOST_VERSIONS};
 use qz_text::{Listed, Text};
 use std::alloc::Global;
 use std::marker::Model;
-
-/// So many entries a bank has at most.
-const MOST_ENTRIES: usize = 20_000;
-
-/// So many versions an entry has at most.
-const MOST_VERSIONS: usize = 1_000;
 
 /// The entries of a bank, seen as their list. They count from 1, and none is ever taken away.
 ///
@@ -64,9 +59,9 @@ impl Entries {
     {
         let before = self.entries.len();
         let count = bank.items.as_slice().len();
-        if count > MOST_ENTRIES - before {
+        if count > MOST_ENTRIES as usize - before {
             return Err(Refusal::TooMany {
-                limit: MOST_ENTRIES as u32,
+                limit: MOST_ENTRIES,
             });
         }
         let made = first_versions(alloc, bank)?;
@@ -154,9 +149,9 @@ impl Entries {
             return Err(Refusal::Unknown { what: Thing::Entry });
         };
         let versions = entry.versions.as_slice();
-        if versions.len() >= MOST_VERSIONS {
+        if versions.len() >= MOST_VERSIONS as usize {
             return Err(Refusal::TooMany {
-                limit: MOST_VERSIONS as u32,
+                limit: MOST_VERSIONS,
             });
         }
         Ok(&versions[versions.len() - 1])

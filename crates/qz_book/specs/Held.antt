@@ -1,15 +1,16 @@
 -- What every shard keeps of its list.
 use Rattle.std.specs.Prelude.{◌≡◌, ℕ, ◌<◌, ◌-◌, ◌^◌, Bool, true, false, List, length, nat_lt, nat_le, ◌&&◌, All}
 use Rattle.std.specs.List.{list_all}
+use Rattle.qz_terms.specs.declared.limits.TheConstants.{MOST_SHARDS}
 use Rattle.qz_terms.specs.declared.record.Event.{Event}
 use Rattle.qz_terms.specs.declared.record.Event.TheVariants as event
 use Rattle.qz_terms.specs.declared.record.Record.{Record}
 use Rattle.qz_terms.specs.Kept.{IsKept}
 use Rattle.qz_terms.specs.Legal.{IsLegal}
 
--- there are from 1 to 64 shards
+-- one of so many shards as a school may have
 abbrev pub is_shard : ℕ → ℕ → Bool
-is_shard index count = nat_lt index count && nat_le count 64
+is_shard index count = nat_lt index count && nat_le count MOST_SHARDS
 
 -- what a request to a shard puts, also a worker's
 abbrev pub is_asked_event : Event → Bool

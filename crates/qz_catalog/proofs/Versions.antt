@@ -10,6 +10,7 @@ use Rattle.std.proofs.lemmas.List.Sums.{sum_by-append}
 use Rattle.std.proofs.lemmas.Option.{get_or_from_slice_get, slice_get_within}
 use Rattle.qz_decimal.specs.Numbers.{one}
 use Rattle.qz_decimal.specs.Reading.{IsWrittenFraction}
+use Rattle.qz_grading.specs.declared.limits.TheConstants.{MOST_TOGETHER}
 use Rattle.qz_grading.specs.declared.question.Item.{Item}
 use Rattle.qz_grading.specs.declared.question.Kind.{Kind}
 use Rattle.qz_grading.specs.declared.question.Kind.TheVariants as kind
@@ -26,7 +27,7 @@ use Rattle.qz_terms.specs.declared.request.Request.{Request}
 use Rattle.qz_terms.specs.declared.request.Request.TheVariants as request
 use Rattle.qz_terms.specs.Catalog.{asked, changed_by, edited, questions, tuned}
 use Rattle.qz_terms.specs.Catalog as catalog
-use Rattle.qz_terms.specs.Cause.{cause_in, missing_in, most_version_bytes}
+use Rattle.qz_terms.specs.Cause.{cause_in, missing_in}
 use Rattle.qz_terms.specs.Kept.{AreQuestions, IsKept, KeepsRequest, are_hints, asks_described, described_by, is_described, is_penalty}
 use Rattle.qz_terms.specs.Legal.{IsLegalCatalog}
 use Rattle.qz_bank.specs.declared.entry.Entry.{Entry}
@@ -50,16 +51,16 @@ pub record IsKeptVersion (q : Question) : Type 0 where
 no-general : (k : Kind) (general : List ℕ) → described_by k general ≡ true → k ≡ kind.Description → length general ≡ 0
 no-general k general is same = eqb-true (length general) 0 (subst (λ (j : Kind). described_by j general ≡ true) same is)
 
-size-by : (q : Question) (b : Bool) → nat_lt most_version_bytes (canonical_size q) ≡ b → when b (refusal.TooMany most_version_bytes) ≡ None → canonical_size q ≤ most_version_bytes
+size-by : (q : Question) (b : Bool) → nat_lt MOST_TOGETHER (canonical_size q) ≡ b → when b (refusal.TooMany MOST_TOGETHER) ≡ None → canonical_size q ≤ MOST_TOGETHER
 size-by q true is none = absurd cc
-size-by q false is none = ltb-false most_version_bytes (canonical_size q) is
+size-by q false is none = ltb-false MOST_TOGETHER (canonical_size q) is
 
 -- its texts are no longer than what is measured of it
 together-kept : (q : Question) → is_described q ≡ true → size_cause q ≡ None → sum_by length (texts q ++ q.hints) ≤ 262144
 together-kept q is none =
     let long = together-length q (no-general q.kind q.general.text is) in
     let whole : sum_by length (texts q ++ q.hints) ≡ sum_by length (texts q) + sum_by length q.hints = sum_by-append {X = List ℕ} length (texts q) q.hints in
-    let measured : length (canonical_question q) + sum_by length q.hints ≤ 262144 = size-by q (nat_lt most_version_bytes (canonical_size q)) refl none in
+    let measured : length (canonical_question q) + sum_by length q.hints ≤ 262144 = size-by q (nat_lt MOST_TOGETHER (canonical_size q)) refl none in
     omega (arith, long, whole, measured)
 
 edited-kept : (old gift : Question) → IsKeptVersion old → IsQuestion gift → is_described gift ≡ true → size_cause (edited old gift) ≡ None → IsKeptVersion (edited old gift)

@@ -9,6 +9,7 @@ use Rattle.qz_bank.specs.declared.prepared.Prepared.{Prepared}
 use Rattle.qz_bank.specs.Banks as banks
 use Rattle.qz_bank.specs.Changes as changes
 use Rattle.qz_terms.specs.declared.ask.Ask.{Ask}
+use Rattle.qz_terms.specs.declared.limits.TheConstants.{MOST_ENTRIES, MOST_SLOTS}
 use Rattle.qz_terms.specs.declared.people.User.{User}
 use Rattle.qz_terms.specs.declared.record.Event.TheVariants as event
 use Rattle.qz_terms.specs.declared.record.Record.{Record}
@@ -133,7 +134,7 @@ pub record IsReady (b : Book) (r : Record) (p : Option Prepared) : Type 0 where
   pub shown : AreShown b.records.items b.shown.items
   pub pinned : ArePinned b.records.items b.pinned.items
   pub next : IsNext b.records.items r
-  pub entries : length (catalog.entries b.records.items) ≤ 20000
+  pub entries : length (catalog.entries b.records.items) ≤ MOST_ENTRIES
   pub held : IsHeld (b.records.items ++ r ∷ []) (bank_with b.entries p)
   pub change : MayPut b.entries p
   pub room : HasRoom b.roster r
@@ -170,9 +171,9 @@ slotted_quiz x = 0
 -- a list whose last record a request made, whose numbers a reply has room for
 pub record IsShort (l : List Record) (x : Request) : Type 0 where
   pub few : length l < 2 ^ 32 - 1
-  pub entries : length (catalog.entries l) ≤ 20000
+  pub entries : length (catalog.entries l) ≤ MOST_ENTRIES
   pub made : import_size x ≤ length (catalog.entries l)
-  pub slots : length (catalog.slots l (slotted_quiz x)) ≤ 200
+  pub slots : length (catalog.slots l (slotted_quiz x)) ≤ MOST_SLOTS
 
 -- ---- what is decided of a request
 

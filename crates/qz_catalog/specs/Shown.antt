@@ -1,5 +1,6 @@
 -- The number that a reply shows of a record.
 use Rattle.std.specs.Prelude.{ℕ, Bool, true, length, nat_le}
+use Rattle.qz_terms.specs.declared.limits.TheConstants.{MOST_ENTRIES, MOST_SLOTS}
 use Rattle.qz_terms.specs.declared.reply.Done.{Done}
 use Rattle.qz_terms.specs.declared.reply.Done.TheVariants as done
 use Rattle.qz_terms.specs.declared.request.Request.{Request}
@@ -19,6 +20,6 @@ done_with x n = done.Done
 
 -- the number of a slot is at most 200, and an import makes at most 20,000 entries
 abbrev pub is_showable : Request → ℕ → Bool
-is_showable (request.Slot quiz entry max) n = nat_le n 200
-is_showable (request.Import gift) n = nat_le (length gift.items) 20000
+is_showable (request.Slot quiz entry max) n = nat_le n MOST_SLOTS
+is_showable (request.Import gift) n = nat_le (length gift.items) MOST_ENTRIES
 is_showable x n = true

@@ -1,6 +1,7 @@
 //! A catalogue whose list a keeper keeps, and what is asked of it.
 
 ghost use Rattle.std.specs.Prelude.{◌≡◌, ◌≤◌, length, [], Ok, Err, None, unwrap_or, IfOk, IfErr, IfSome, is_none, option_copied};
+ghost use Rattle.qz_terms.specs.declared.limits.TheConstants.{LONGEST_KEY};
 ghost use Rattle.qz_grading.specs.Grading.{at_place};
 ghost use Rattle.qz_keeper.specs.Lists.{CallEnds, EachMayStand, IsStored, Looks, OneCall, Settles};
 ghost use Rattle.qz_keeper.specs.Recording.{GoesOn, HasFailed};
@@ -215,7 +216,7 @@ impl<K: Keeper> Catalog<K> {
     /// the answer, or the one that was.
     pub fn apply(&mut self, alloc: Global, user: &User, ask: &Ask, moment: u64) -> Reply
         requires asked { EachMayStand (λ c. IsAsked c user.now ask.now moment) self.old.held }
-        requires brief { length (unwrap_or ask.now.key []) ≤ 64 }
+        requires brief { length (unwrap_or ask.now.key []) ≤ LONGEST_KEY }
         requires names { NamesBriefly ask.now.request }
         ensures answer { OneCall (HasFailed (K.sound self.old.keeper)
             (K.faults self.old.keeper) (K.faults self.new.keeper))
@@ -233,7 +234,7 @@ impl<K: Keeper> Catalog<K> {
     fn answer(&mut self, alloc: Global, user: &User, ask: &Ask, moment: u64) -> Reply
         requires settled { self.old.held.doubt ≡ None }
         requires asked { IsAsked self.old.held.list user.now ask.now moment }
-        requires brief { length (unwrap_or ask.now.key []) ≤ 64 }
+        requires brief { length (unwrap_or ask.now.key []) ≤ LONGEST_KEY }
         requires names { NamesBriefly ask.now.request }
         ensures ends { CallEnds (HasFailed (K.sound self.old.keeper)
             (K.faults self.old.keeper) (K.faults self.new.keeper))

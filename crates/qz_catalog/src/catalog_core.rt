@@ -2,6 +2,7 @@
 
 ghost use Rattle.std.specs.List.{list_all};
 ghost use Rattle.std.specs.Prelude.{◌≡◌, ◌⊎◌, ◌≤◌, [], ◌∷◌, ◌++◌, true, false, length, map, Some, None, option_copied, option_map, All, IfOk, IfErr, OnErr, OnOk};
+ghost use Rattle.qz_terms.specs.declared.limits.TheConstants.{MOST_SHARDS};
 ghost use Rattle.qz_decimal.specs.Numbers.{IsMaxSum, IsQuizGrade};
 ghost use Rattle.qz_grading.specs.declared.refusal.Refusal.TheVariants as refusal;
 ghost use Rattle.qz_grading.specs.Behaviours.{first_some};
@@ -81,7 +82,7 @@ impl CatalogCore {
     /// user.
     pub fn new(alloc: Global, shards: u8, token: &Text) -> Result<CatalogCore, NoMemory>
         requires some { 1 ≤ shards }
-        requires few { shards ≤ 64 }
+        requires few { shards ≤ MOST_SHARDS }
         ensures { IfOk result (λ catalog. catalog ≡ founded shards token.now) }
     {
         CatalogCore::begin(alloc, founding(alloc, shards, token)?)

@@ -3,6 +3,7 @@
 ghost use Rattle.std.specs.Prelude.{◌≡◌, ◌≤◌, [], ◌∷◌, not, length, option_map};
 ghost use Rattle.qz_grading.specs.declared.refusal.Refusal.TheVariants as refusal;
 ghost use Rattle.qz_grading.specs.Behaviours.{first_some, when};
+ghost use Rattle.qz_terms.specs.declared.limits.TheConstants.{MOST_ENTRIES, MOST_JOBS, MOST_SLOTS, MOST_USERS};
 ghost use Rattle.qz_terms.specs.declared.request.Request.TheVariants as request;
 ghost use Rattle.qz_terms.specs.Catalog.{is_ready, jobs, slots, token_place, users};
 ghost use Rattle.qz_terms.specs.Catalog as catalog;
@@ -13,27 +14,15 @@ ghost use Rattle.qz_catalog.specs.Applying.{bad_for, early_cause, greatest_of, s
 use crate::book::Book;
 use crate::people::token_place;
 use crate::quizzes::{is_ready, ready_at, slot_count, slot_entry};
-use crate::sizes::{MOST_BYTES, import_fits};
+use crate::sizes::import_fits;
 use qz_bank::Entries;
 use qz_decimal::{Mark, ONE};
 use qz_grading::{Bank, Kind, Refusal};
-use qz_terms::Request;
+use qz_terms::{
+    MOST_ENTRIES, MOST_GROUPS, MOST_JOBS, MOST_OVERRIDES, MOST_QUIZZES, MOST_RECORD, MOST_SLOTS,
+    MOST_USERS, Request,
+};
 use qz_text::Text;
-
-/// So many there are at most of each thing.
-const MOST_USERS: u32 = 65_535;
-
-const MOST_GROUPS: u32 = 1_000;
-
-const MOST_ENTRIES: u32 = 20_000;
-
-const MOST_QUIZZES: u32 = 10_000;
-
-const MOST_SLOTS: u32 = 200;
-
-const MOST_OVERRIDES: u32 = 100_000;
-
-const MOST_JOBS: u32 = 100_000;
 
 /// The greatest max mark for a question that isn't a description.
 const GREATEST_MAX: Mark = Mark(10_000 * ONE);
@@ -51,7 +40,7 @@ fn too_many(most: u32, count: usize) -> Option<Refusal>
 /// A user's token isn't another's.
 fn user_cause(book: &Book, token: &Text) -> Option<Refusal>
     requires { IsIndexed book.now }
-    ensures { result ≡ first_some (option_map refusal.KeyReused (token_place book.now.records.items token.now) ∷ too_many 65535 (length (users book.now.records.items)) ∷ []) }
+    ensures { result ≡ first_some (option_map refusal.KeyReused (token_place book.now.records.items token.now) ∷ too_many MOST_USERS (length (users book.now.records.items)) ∷ []) }
 {
     if let Some(place) = token_place(book, token) {
         return Some(Refusal::KeyReused { place });
@@ -61,7 +50,7 @@ fn user_cause(book: &Book, token: &Text) -> Option<Refusal>
 
 fn import_cause(book: &Book, key: &Option<Text>, gift: &Bank) -> Option<Refusal>
     requires indexed { IsIndexed book.now }
-    requires few { length (catalog.entries book.now.records.items) ≤ 20000 }
+    requires few { length (catalog.entries book.now.records.items) ≤ MOST_ENTRIES }
     ensures { result ≡ import_cause book.now.records.items gift.now (stand_in key.now (request.Import gift.now)) }
 {
     let room = MOST_ENTRIES as usize - book.roster.counts.entries();
@@ -72,7 +61,7 @@ fn import_cause(book: &Book, key: &Option<Text>, gift: &Bank) -> Option<Refusal>
     }
     if !import_fits(key, gift) {
         return Some(Refusal::TooMany {
-            limit: MOST_BYTES as u32,
+            limit: MOST_RECORD as u32,
         });
     }
     None
@@ -118,7 +107,7 @@ fn already_ready(book: &Book, quiz: u32) -> Option<Refusal>
 
 fn slot_cause(book: &Book, quiz: u32, entry: u32, max: Mark) -> Option<Refusal>
     requires { IsIndexed book.now }
-    ensures { result ≡ first_some (already_ready book.now.records.items quiz ∷ bad_max book.now.records.items entry max ∷ too_many 200 (length (slots book.now.records.items quiz)) ∷ []) }
+    ensures { result ≡ first_some (already_ready book.now.records.items quiz ∷ bad_max book.now.records.items entry max ∷ too_many MOST_SLOTS (length (slots book.now.records.items quiz)) ∷ []) }
 {
     already_ready(book, quiz)
         .or(bad_max(&book.entries, entry, max))
@@ -135,7 +124,7 @@ fn remax_cause(book: &Book, quiz: u32, slot: u16, max: Mark) -> Option<Refusal>
 /// A quiz that isn't ready has nothing to bind anew.
 fn regrade_cause(book: &Book, quiz: u32) -> Option<Refusal>
     requires { IsIndexed book.now }
-    ensures { result ≡ first_some (when (not (is_ready book.now.records.items quiz)) (refusal.NotOpen 0) ∷ too_many 100000 (length (jobs book.now.records.items)) ∷ []) }
+    ensures { result ≡ first_some (when (not (is_ready book.now.records.items quiz)) (refusal.NotOpen 0) ∷ too_many MOST_JOBS (length (jobs book.now.records.items)) ∷ []) }
 {
     if !is_ready(book, quiz) {
         return Some(Refusal::NotOpen { opens: 0 });
@@ -146,7 +135,7 @@ fn regrade_cause(book: &Book, quiz: u32) -> Option<Refusal>
 /// The first cause for which a request is refused under this key, but for those of an entry's new version.
 pub(crate) fn early_cause(book: &Book, key: &Option<Text>, request: &Request) -> Option<Refusal>
     requires indexed { IsIndexed book.now }
-    requires few { length (catalog.entries book.now.records.items) ≤ 20000 }
+    requires few { length (catalog.entries book.now.records.items) ≤ MOST_ENTRIES }
     ensures { result ≡ early_cause book.now.records.items key.now request.now }
 {
     match request {

@@ -4,17 +4,14 @@
 
 ghost use Rattle.std.specs.Prelude.{◌≡◌, ℕ, List, length, flat_map, nat_le};
 ghost use Rattle.qz_grading.specs.Room.{LeftBehind};
-ghost use Rattle.qz_terms.specs.Cause.{most_record_bytes};
+ghost use Rattle.qz_terms.specs.declared.limits.TheConstants.{MOST_RECORD};
 ghost use Rattle.qz_terms.specs.Spelling.{text_bytes, list_bytes, option_bytes, rich_bytes, choice_bytes, pair_bytes, short_bytes, extent_bytes, num_bytes, kind_bytes, question_bytes, item_bytes, bank_bytes, spelling};
 ghost use Rattle.qz_terms.specs.declared.request.Request.TheVariants as request;
 ghost use Rattle.qz_catalog.specs.Applying.{stand_in};
 
 use qz_grading::{Bank, Choice, Extent, Item, Kind, Num, Pair, Question, Rich, Short};
+use qz_terms::MOST_RECORD;
 use qz_text::Text;
-
-/// So many bytes a record has at most.
-pub(crate) const MOST_BYTES: usize = 67_108_864;
-
 /// So many bytes a number of 32 bits takes up, and with it the length of a text and the count of a list.
 const FOUR: usize = 4;
 
@@ -187,7 +184,7 @@ fn behind_import(room: usize, key: &Option<Text>, gift: &Bank) -> Option<usize>
 /// Whether the record of an import under this key isn't too long. It takes no memory, and reads no further than the greatest
 /// length goes.
 pub(crate) fn import_fits(key: &Option<Text>, gift: &Bank) -> bool
-    ensures { result ≡ nat_le (length (spelling (stand_in key.now (request.Import gift.now)))) most_record_bytes }
+    ensures { result ≡ nat_le (length (spelling (stand_in key.now (request.Import gift.now)))) MOST_RECORD }
 {
-    behind_import(MOST_BYTES, key, gift).is_some()
+    behind_import(MOST_RECORD, key, gift).is_some()
 }

@@ -1,6 +1,7 @@
 //! What is answered over a catalogue, in one turn.
 
 ghost use Rattle.std.specs.Prelude.{◌≡◌, ◌≢◌, ◌≤◌, [], None, length, unwrap_or, true};
+ghost use Rattle.qz_terms.specs.declared.limits.TheConstants.{LONGEST_KEY};
 ghost use Rattle.qz_catalog.specs.Applying.{IsAsked};
 ghost use Rattle.qz_catalog.specs.Keeping.{IsTold};
 ghost use Rattle.qz_keeper.specs.Lists.{EachMayStand};
@@ -34,7 +35,7 @@ fn applied<K: Keeper>(
 ) -> Replied
     requires settled { catalog.old.held.doubt ≡ None }
     requires asked { EachMayStand (λ c. IsAsked c user.now ask.now moment) catalog.old.held }
-    requires brief { length (unwrap_or ask.now.key []) ≤ 64 }
+    requires brief { length (unwrap_or ask.now.key []) ≤ LONGEST_KEY }
     requires names { NamesBriefly ask.now.request }
     ensures answer { ReplyEnds (HasFailed (K.sound catalog.old.keeper)
         (K.faults catalog.old.keeper) (K.faults catalog.new.keeper)) reply.Refused
@@ -59,7 +60,7 @@ fn answered<K: Keeper>(
     moment: u64,
 ) -> Replied
     requires asked { EachMayStand (λ c. IsAsked c user.now ask.now moment) catalog.old.held }
-    requires brief { length (unwrap_or ask.now.key []) ≤ 64 }
+    requires brief { length (unwrap_or ask.now.key []) ≤ LONGEST_KEY }
     requires names { NamesBriefly ask.now.request }
     ensures answer { OneReply (HasFailed (K.sound catalog.old.keeper)
         (K.faults catalog.old.keeper) (K.faults catalog.new.keeper)) reply.Refused

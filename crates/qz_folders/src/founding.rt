@@ -6,6 +6,7 @@ ghost use Rattle.qz_disks.specs.Shelves.{place, ChangesAt, NoneOutIn};
 ghost use Rattle.qz_disks.specs.Sound.{StaysSound};
 ghost use Rattle.qz_journal.specs.Journals.{IsSound};
 ghost use Rattle.qz_record.specs.Records.{IsRecord};
+ghost use Rattle.qz_terms.specs.declared.limits.TheConstants.{LONGEST_KEY, MOST_RECORD, MOST_SHARDS};
 ghost use Rattle.qz_terms.specs.Spelling.{spelling};
 ghost use Rattle.qz_folders.specs.declared.fault.FoundFault.TheVariants.{Fault};
 ghost use Rattle.qz_folders.specs.Founding.{EndsFounding, PutsFirst, founding};
@@ -35,9 +36,9 @@ pub fn found<F: Shelf>(
 ) -> Result<(), FoundFault>
     requires free { NoneOutIn folder.now (F.files shelf.old) }
     requires some { 1 ≤ shards }
-    requires few { shards ≤ 64 }
+    requires few { shards ≤ MOST_SHARDS }
     requires not_empty { 1 ≤ length token.now }
-    requires short { length token.now ≤ 64 }
+    requires short { length token.now ≤ LONGEST_KEY }
     ensures ends { IfSome ((F.files shelf.old).file (place folder.now catalog_name)).reads
         (λ bytes. EndsFounding (spelling (founding shards token.now)) bytes
         ((F.files shelf.old).file (place folder.now catalog_name)).left
@@ -68,7 +69,7 @@ fn put_first<D: Disk>(
     payload: &[u8],
 ) -> Result<(), FoundFault>
     requires settled { journal.old.doubt ≡ None }
-    requires size { length payload.now ≤ 67108864 }
+    requires size { length payload.now ≤ MOST_RECORD }
     requires kept { IfSome journal.old.kept (λ told. told ≡ payloads.now) }
     ensures list { IfSome journal.old.kept (λ _. PutsFirst payloads.now payload.now
         journal.new.kept journal.new.doubt result) }
@@ -104,10 +105,10 @@ fn founding(alloc: Global, shards: u8, token: &Text) -> Result<Record, NoMemory>
 /// manager's token of at most 64 bytes.
 pub fn founding_payload(alloc: Global, shards: u8, token: &Text) -> Result<Bytes, NoMemory>
     requires some { 1 ≤ shards }
-    requires few { shards ≤ 64 }
-    requires short { length token.now ≤ 64 }
+    requires few { shards ≤ MOST_SHARDS }
+    requires short { length token.now ≤ LONGEST_KEY }
     ensures spelled { IfOk result (λ payload. payload ≡ spelling (founding shards token.now)) }
-    ensures size { IfOk result (λ payload. length payload ≤ 67108864) }
+    ensures size { IfOk result (λ payload. length payload ≤ MOST_RECORD) }
     ensures kept { OnOk result (IsRecord (founding shards token.now)) }
 {
     laws::no_longer();

@@ -1,6 +1,7 @@
 //! Founding a school in a folder, as a command.
 
 ghost use Rattle.std.specs.Prelude.{◌≡◌, ◌≤◌, length, string_bytes, IfOk, MatchResult, None, Some};
+ghost use Rattle.qz_terms.specs.declared.limits.TheConstants.{LONGEST_KEY, MOST_SHARDS};
 ghost use Rattle.qz_disks.specs.Shelves.{place, ChangesAt, NoneOutIn};
 ghost use Rattle.qz_ending.specs.Endings.{Ended};
 ghost use Rattle.qz_folders.specs.Names.{catalog_name};
@@ -33,9 +34,9 @@ pub fn found_folder<O: Sink, F: Shelf>(
 ) -> u8
     requires free { NoneOutIn folder.now (F.files shelf.old) }
     requires some { 1 ≤ shards }
-    requires few { shards ≤ 64 }
+    requires few { shards ≤ MOST_SHARDS }
     requires not_empty { 1 ≤ length token.now }
-    requires short { length token.now ≤ 64 }
+    requires short { length token.now ≤ LONGEST_KEY }
     ensures ended { Ended
         (FoundEnds (record { folder = folder.now; shards = shards; token = token.now })
         (record { files = F.files shelf.old; faults = F.faults shelf.old })
@@ -68,9 +69,9 @@ fn found_or_stop<O: Sink, F: Shelf>(
 ) -> Result<(), Stop>
     requires free { NoneOutIn folder.now (F.files shelf.old) }
     requires some { 1 ≤ shards }
-    requires few { shards ≤ 64 }
+    requires few { shards ≤ MOST_SHARDS }
     requires not_empty { 1 ≤ length token.now }
-    requires short { length token.now ≤ 64 }
+    requires short { length token.now ≤ LONGEST_KEY }
     ensures ends { let ends = FoundBy
         (record { folder = folder.now; shards = shards; token = token.now })
         (record { files = F.files shelf.old; faults = F.faults shelf.old })

@@ -4,6 +4,7 @@ use Rattle.std.specs.List.{list_any, list_all, flat_map}
 use Rattle.std.specs.Ordering.{int_eq}
 use Rattle.qz_decimal.specs.Numbers.{one}
 use Rattle.qz_decimal.specs.Reading.{IsWrittenFraction}
+use Rattle.qz_grading.specs.declared.limits.TheConstants.{MOST_HINT, MOST_HINTS, MOST_PARTS, MOST_TEXT, MOST_TOGETHER}
 use Rattle.qz_grading.specs.declared.question.Choice.{Choice}
 use Rattle.qz_grading.specs.declared.question.Extent.{Extent}
 use Rattle.qz_grading.specs.declared.question.Extent.TheVariants as extent
@@ -98,7 +99,7 @@ has_stem k = true
 
 -- a kind has neither too many parts nor too few, and each is as it must be
 pub record IsSound (k : Kind) : Type 0 where
-  pub few : parts k ≤ 64
+  pub few : parts k ≤ MOST_PARTS
   pub enough : least_parts k ≤ parts k
   pub numbers : IsTrue (has_numbers_in_range k)
   pub no_blank : IsTrue (has_no_blank k)
@@ -127,7 +128,7 @@ are_no_longer most ts = list_all (λ t. nat_le (length t) most) ts
 pub record IsQuestion (q : Question) : Type 0 where
   pub kind : IsSound q.kind
   pub penalty : IsWrittenFraction q.penalty
-  pub lengths : IsTrue (are_no_longer 65536 (texts q))
-  pub few_hints : length q.hints ≤ 20
-  pub hints : IsTrue (are_no_longer 4096 q.hints)
-  pub together : sum_by length (texts q ++ q.hints) ≤ 262144
+  pub lengths : IsTrue (are_no_longer MOST_TEXT (texts q))
+  pub few_hints : length q.hints ≤ MOST_HINTS
+  pub hints : IsTrue (are_no_longer MOST_HINT q.hints)
+  pub together : sum_by length (texts q ++ q.hints) ≤ MOST_TOGETHER

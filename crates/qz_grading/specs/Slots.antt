@@ -1,6 +1,7 @@
 -- One slot: the state and the mark that it shows, and why a step on it is refused.
 use Rattle.std.specs.Prelude.{ℕ, Bool, false, not, ◌&&◌, ◌||◌, nat_le, List, [], ◌∷◌, length, filter, filter_map, Option, Some, unwrap_or, option_map, ℤ, pos, int_lt}
 use Rattle.qz_decimal.specs.Numbers.{mark_of, fraction_of, rescale}
+use Rattle.qz_grading.specs.declared.limits.TheConstants.{MOST_ANSWERING, MOST_MARKS}
 use Rattle.qz_grading.specs.declared.outcome.Behaviour.{Behaviour}
 use Rattle.qz_grading.specs.declared.outcome.State.{State}
 use Rattle.qz_grading.specs.declared.question.Question.{Question}
@@ -25,13 +26,6 @@ slot_mark b q max s = unwrap_or (option_map (λ (m : ℤ × ℤ). Some (rescale 
 
 -- ---- refusals of a step
 
--- so many Save, Submit and Again steps, and so many Mark steps, a slot takes
-abbrev pub most_answering : ℕ
-most_answering = 10000
-
-abbrev pub most_marks : ℕ
-most_marks = 1000
-
 abbrev pub is_misfit : Behaviour → Question → Step → Bool
 is_misfit b q (step.Save r) = not (fits q r b)
 is_misfit b q (step.Submit r) = not (fits q r b)
@@ -43,8 +37,8 @@ is_out_of_range max x = false
 
 abbrev pub is_full_for : List Step → Step → Option Refusal
 is_full_for s x = first_some (
-    when (is_answering x && nat_le most_answering (length (filter is_answering s))) (refusal.TooMany most_answering)
-    ∷ when (is_mark x && nat_le most_marks (length (filter is_mark s))) (refusal.TooMany most_marks)
+    when (is_answering x && nat_le MOST_ANSWERING (length (filter is_answering s))) (refusal.TooMany MOST_ANSWERING)
+    ∷ when (is_mark x && nat_le MOST_MARKS (length (filter is_mark s))) (refusal.TooMany MOST_MARKS)
     ∷ [])
 
 -- the first cause for which a slot refuses a step

@@ -1,6 +1,7 @@
 //! What a response earns, and whether two are the same.
 
 ghost use Rattle.std.specs.Prelude.{◌≡◌, ◌↔◌, ◌+◌, ◌≤◌, length, pos, neg_ℤ, IsTrue};
+ghost use Rattle.qz_grading.specs.declared.limits.TheConstants.{MOST_PARTS};
 ghost use Rattle.qz_decimal.specs.Numbers.{one, IsWithin};
 ghost use Rattle.qz_grading.specs.declared.question.Kind.TheVariants as kind;
 ghost use Rattle.qz_grading.specs.declared.response.Answer.TheVariants as answer;
@@ -30,7 +31,7 @@ pub fn grade<L: Ledger>(question: &Question, response: &Response, steps: &mut St
 }
 
 pub(crate) fn grade_answer(kind: &Kind, answer: &Answer) -> Fraction
-    requires few { parts kind.now ≤ 64 }
+    requires few { parts kind.now ≤ MOST_PARTS }
     requires numbers { IsTrue (has_numbers_in_range kind.now) }
     requires stem { IsTrue (has_stem kind.now) }
     requires fits { IsTrue (answer_fits kind.now answer.now) }
@@ -58,7 +59,7 @@ pub(crate) fn grade_answer(kind: &Kind, answer: &Answer) -> Fraction
 
 /// The share of the stems that have their own answer chosen.
 fn share_of_right(pairs: &[Pair], chosen: &[u8]) -> Fraction
-    requires few { length pairs.now ≤ 64 }
+    requires few { length pairs.now ≤ MOST_PARTS }
     requires stem { IsTrue (has_stem (kind.Matching pairs.now)) }
     requires one_each { length chosen.now ≡ length (stems pairs.now) }
     ensures value { result ≡ grade_answer (kind.Matching pairs.now) (answer.Match chosen.now) }

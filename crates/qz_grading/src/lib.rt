@@ -23,7 +23,9 @@ mod written;
 pub use counting::Steps;
 pub use fitting::{complete, fits, gradable};
 pub use grading::{grade, same, same_answer};
-pub use limits::{MOST_HINT, MOST_PARTS, MOST_TEXT, MOST_TOGETHER};
+pub use limits::{
+    MOST_ANSWERING, MOST_HINT, MOST_HINTS, MOST_MARKS, MOST_PARTS, MOST_TEXT, MOST_TOGETHER,
+};
 pub use outcome::{Behaviour, Moved, Outcome, State};
 pub use question::{
     Bank, Choice, Extent, Format, Item, Kind, Num, Pair, Question, Rich, Shape, Short,

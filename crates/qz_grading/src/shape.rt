@@ -1,6 +1,7 @@
 //! The shape of a question.
 
 ghost use Rattle.std.specs.Prelude.{◌≡◌, ◌≤◌, length};
+ghost use Rattle.qz_grading.specs.declared.limits.TheConstants.{MOST_PARTS};
 ghost use Rattle.qz_grading.specs.declared.question.Kind.TheVariants as kind;
 ghost use Rattle.qz_grading.specs.Grading.{shape, kind_number, counts};
 ghost use Rattle.qz_grading.specs.Questions.{parts};
@@ -10,7 +11,7 @@ use crate::{Kind, Pair, Question, Shape};
 
 /// The shape of a question, which has at most 64 choices or pairs. Versions of the same shape take the same answers.
 pub fn shape_of(question: &Question) -> Shape
-    requires { parts question.now.kind ≤ 64 }
+    requires { parts question.now.kind ≤ MOST_PARTS }
     ensures { result ≡ shape question.now }
 {
     let kind = kind_number(&question.kind);
@@ -38,7 +39,7 @@ fn kind_number(kind: &Kind) -> u8
 }
 
 fn counts(kind: &Kind) -> (u8, u8)
-    requires { parts kind.now ≤ 64 }
+    requires { parts kind.now ≤ MOST_PARTS }
     ensures { result ≡ counts kind.now }
 {
     match kind {
@@ -50,7 +51,7 @@ fn counts(kind: &Kind) -> (u8, u8)
 
 /// How many stems there are, and how many answers.
 fn match_counts(pairs: &[Pair]) -> (u8, u8)
-    requires { length pairs.now ≤ 64 }
+    requires { length pairs.now ≤ MOST_PARTS }
     ensures { result ≡ counts (kind.Matching pairs.now) }
 {
     (stem_count(pairs) as u8, answer_count(pairs) as u8)

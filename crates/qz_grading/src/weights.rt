@@ -2,6 +2,7 @@
 
 ghost use Rattle.std.specs.Prelude.{◌≡◌, ◌≤◌, ◌&&◌, find, length, fold, map, pos, neg_ℤ, ◌+ℤ◌, ◌-ℤ◌, int_le, IfSome, IsTrue, if◌then◌else◌};
 ghost use Rattle.std.specs.Option.{option_copied};
+ghost use Rattle.qz_grading.specs.declared.limits.TheConstants.{MOST_PARTS};
 ghost use Rattle.qz_grading.specs.declared.question.Num.{Num};
 ghost use Rattle.qz_decimal.specs.Numbers.{one, IsWithin};
 ghost use Rattle.qz_grading.specs.Grading.{weight_at, clamped, short_weight, takes_number, number_weight, numerical_weight};
@@ -36,7 +37,7 @@ pub(crate) fn weight_at(choices: &[Choice], place: u8) -> Fraction
 /// The weights of the choices at these places, added up.
 fn sum_of_weights(choices: &[Choice], places: &[u8]) -> i64
     requires weights { IsTrue (are_weighed choices.now) }
-    requires few { length places.now ≤ 64 }
+    requires few { length places.now ≤ MOST_PARTS }
     ensures { result ≡ fold ◌+ℤ◌ (pos 0) (map (weight_at choices.now) places.now) }
 {
     let mut sum = 0;
@@ -49,7 +50,7 @@ fn sum_of_weights(choices: &[Choice], places: &[u8]) -> i64
 /// The sum of the weights of the choices picked, cut to 0 and 1.
 pub(crate) fn weight_of_picked(choices: &[Choice], places: &[u8]) -> Fraction
     requires weights { IsTrue (are_weighed choices.now) }
-    requires few { length places.now ≤ 64 }
+    requires few { length places.now ≤ MOST_PARTS }
     ensures value { result ≡ clamped (fold ◌+ℤ◌ (pos 0) (map (weight_at choices.now) places.now)) }
     ensures within { IsWithin (pos 0) (pos one) result }
 {

@@ -5,7 +5,7 @@ use Rattle.qz_disks.specs.declared.keeper.KeepErr.TheVariants.{Fault, Memory}
 use Rattle.qz_keeper.specs.Custody.{Appends, Custody, IsReady}
 use Rattle.qz_outside.specs.Causes.{HasRisen}
 use Rattle.qz_terms.specs.declared.record.Record.{Record}
-use Rattle.qz_terms.specs.Cause.{most_record_bytes}
+use Rattle.qz_terms.specs.declared.limits.TheConstants.{MOST_RECORD}
 use Rattle.qz_terms.specs.Spelling.{spelling}
 
 -- How a keeper served a call: its count of faults never falls, and rose where the call failed. One that is sound fails none.
@@ -39,7 +39,7 @@ pub record IsReadyFor {R : Type 0} (ready : R → Record → Type 0) (recorder :
 -- a keeper of records is, where none is in doubt and this one isn't longer than what it takes
 pub record CanTake {K : Type 0} (c : Custody K) (r : Record) : Type 0 where
   pub ready : IsReady c
-  pub short : length (spelling r) ≤ most_record_bytes
+  pub short : length (spelling r) ≤ MOST_RECORD
 
 -- What a keeper of records does to take a record.
 pub record TakesRecord {K : Type 0} (kept : K → Option (List (List ℕ))) (sound : K → Type 0) (faults : K → ℕ) (old new : Custody K) (r : Record) (e : Option KeepErr) : Type 0 where

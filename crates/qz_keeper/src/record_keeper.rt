@@ -5,6 +5,7 @@ ghost use Rattle.std.specs.Option.{option_copied};
 ghost use Rattle.qz_disks.specs.declared.keeper.KeepErr.TheVariants.{Fault};
 ghost use Rattle.qz_disks.specs.Keepers.{EndsAppending, with_one_more};
 ghost use Rattle.qz_record.specs.Records.{is_spellable};
+ghost use Rattle.qz_terms.specs.declared.limits.TheConstants.{MOST_RECORD};
 ghost use Rattle.qz_terms.specs.Kept.{IsKept};
 ghost use Rattle.qz_terms.specs.Spelling.{spelling};
 ghost use Rattle.qz_keeper.specs.Custody.{Appends, FindsOut, IsReady, pending};
@@ -102,7 +103,7 @@ impl<K: Keeper> RecordKeeper<K> {
     pub fn append(&mut self, alloc: Global, made: Record) -> Result<Record, KeepErr>
         requires ready { IsReady self.old }
         requires kept { IsKept made }
-        requires size { length (spelling made) ≤ 67108864 }
+        requires size { length (spelling made) ≤ MOST_RECORD }
         ensures given { IfOk result (λ given. given ≡ made) }
         ensures list { Appends (K.kept self.old.keeper) (K.kept self.new.keeper)
             self.new.doubt made (failure result) }
@@ -156,7 +157,7 @@ impl<K: Keeper> RecordKeeper<K> {
 fn keep<K: Keeper>(keeper: &mut K, alloc: Global, made: &Record) -> Result<(), KeepErr>
     requires settled { K.doubt keeper.old ≡ None }
     requires kept { IsKept made.now }
-    requires size { length (spelling made.now) ≤ 67108864 }
+    requires size { length (spelling made.now) ≤ MOST_RECORD }
     ensures list { EndsAppending (K.kept keeper.old) (K.kept keeper.new) (K.doubt keeper.new)
         (spelling made.now) result }
     ensures spellable { MatchResult result (λ _. is_spellable made.now ≡ true)

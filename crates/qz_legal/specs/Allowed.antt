@@ -15,6 +15,7 @@ use Rattle.qz_grading.specs.Grading.{is_place}
 use Rattle.qz_grading.specs.Shapes.{same_shape, shape}
 use Rattle.qz_grading.specs.Slots.{step_cause}
 use Rattle.qz_terms.specs.declared.access.Settings.{Settings}
+use Rattle.qz_terms.specs.declared.limits.TheConstants.{MOST_ATTEMPTS}
 use Rattle.qz_terms.specs.declared.plan.Bound.{Bound}
 use Rattle.qz_terms.specs.declared.record.Event.{Event}
 use Rattle.qz_terms.specs.declared.record.Event.TheVariants as event
@@ -47,7 +48,7 @@ is_own r u = (r.caller == u) && has_asker r
 abbrev pub starting_cause : List Record → Settings → Bool → ℕ → ℕ → ℕ → Option Refusal
 starting_cause h s ready moment u q = first_some (
     start_cause s ready moment (length (history.attempts h q u)) (unfinished_at h s q u moment)
-    ∷ too_many 1000 (length (history.attempts h q u))
+    ∷ too_many MOST_ATTEMPTS (length (history.attempts h q u))
     ∷ [])
 
 -- the owner's next attempt

@@ -11,10 +11,7 @@ use crate::attempts::unfinished;
 use qz_access::{may_answer, may_finish, may_start};
 use qz_book::Book;
 use qz_grading::{AttemptId, Refusal};
-use qz_terms::{Handling, How, Settings};
-
-/// So many attempts a user makes at a quiz.
-const MOST_ATTEMPTS: u32 = 1_000;
+use qz_terms::{Handling, How, MOST_ATTEMPTS, Settings};
 
 /// The first cause for which a user may not start a quiz.
 pub fn start_cause(

@@ -20,13 +20,13 @@ pub struct StdClock<R> {
 
 impl<R> Model for StdClock<R> {
     ghost use Rattle.std.specs.Prelude.{ℕ, ◌≤◌};
-    ghost use Rattle.qz_links.specs.Clocks.{greatest_moment};
+    ghost use Rattle.qz_links.specs.declared.std_clock.TheConstants.{GREATEST_MOMENT};
 
     ghost Value = { ℕ };
 
     ghost view = { λ c. c.last };
 
-    ghost invariant = { λ c. c.last ≤ greatest_moment };
+    ghost invariant = { λ c. c.last ≤ GREATEST_MOMENT };
 }
 
 impl<R: time::Clock> StdClock<R> {

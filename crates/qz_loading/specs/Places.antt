@@ -1,5 +1,6 @@
 -- Where the files of a school's lists stand, which of them are out, and what becomes of the others.
 use Rattle.std.specs.Prelude.{◌≡◌, ◌≢◌, ℕ, ◌<◌, ◌≤◌, List, Bool, true, false, IfSome}
+use Rattle.qz_terms.specs.declared.limits.TheConstants.{MOST_SHARDS}
 use Rattle.qz_disks.specs.Shelves.{Place, place, File, Files, SameFile}
 use Rattle.qz_folders.specs.Names.{catalog_name, part_name}
 use Rattle.qz_folders.specs.Opening.{StandsStill}
@@ -59,6 +60,6 @@ pub record PartsStay (folder : List ℕ) (count : ℕ) (old new : Files) : Type 
 -- so do those of a school's lists, of at most 64 shards
 pub record ListsStay (folder : List ℕ) (old new : Files) : Type 0 where
   pub catalog : StaysLike (old.file (catalog_place folder)) (new.file (catalog_place folder))
-  pub parts : (k : ℕ) → k < 64 → StaysLike (old.file (part_place folder k)) (new.file (part_place folder k))
+  pub parts : (k : ℕ) → k < MOST_SHARDS → StaysLike (old.file (part_place folder k)) (new.file (part_place folder k))
   pub others : (at : Place) → IsElsewhere folder 64 at → SameFile (old.file at) (new.file at)
   pub is_out : (at : Place) → new.is_out at ≡ old.is_out at

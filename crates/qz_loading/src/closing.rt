@@ -1,6 +1,7 @@
 //! The lists of a school, given back to its folder.
 
 ghost use Rattle.std.specs.Prelude.{◌≡◌, ◌+◌, ◌<◌, ◌≤◌, true, false, length, sum_by};
+ghost use Rattle.qz_terms.specs.declared.limits.TheConstants.{MOST_SHARDS};
 ghost use Rattle.qz_disks.specs.Shelves.{ChangesAt, NoneOutIn, RisesBy};
 ghost use Rattle.qz_disks.specs.Sound.{StaysSound};
 ghost use Rattle.qz_loading.specs.Closing.{IsBack, PartsAreBack};
@@ -37,7 +38,7 @@ pub(crate) fn give_back_catalog<F: Shelf>(
 
 /// Gives the file of the shard with this index back.
 fn give_back_part<F: Shelf>(shelf: &mut F, folder: &[u8], index: u8, shard: Shard<Journal<F::Disk>>)
-    requires few { index < 64 }
+    requires few { index < MOST_SHARDS }
     requires out { (F.files shelf.old).is_out (part_place folder.now index) ≡ true }
     ensures here { (F.files shelf.new).is_out (part_place folder.now index) ≡ false }
     ensures back { IsBack shard.keeper shard.held
@@ -60,7 +61,7 @@ pub(crate) fn give_back_parts<F: Shelf>(
     folder: &[u8],
     shards: Vec<Shard<Journal<F::Disk>>>,
 )
-    requires few { length shards.items ≤ 64 }
+    requires few { length shards.items ≤ MOST_SHARDS }
     requires out { PartsAre true folder.now (length shards.items) (F.files shelf.old) }
     ensures here { PartsAre false folder.now (length shards.items) (F.files shelf.new) }
     ensures back { PartsAreBack folder.now shards.items (F.files shelf.new) }
@@ -82,7 +83,7 @@ pub(crate) fn give_back_parts<F: Shelf>(
 
 /// Gives every file of a school's lists back. It takes no memory, and writes nothing.
 pub fn close<F: Shelf>(shelf: &mut F, folder: &[u8], loaded: Loaded<F::Disk>)
-    requires few { length loaded.shards.items ≤ 64 }
+    requires few { length loaded.shards.items ≤ MOST_SHARDS }
     requires out { IsOut folder.now (length loaded.shards.items) (F.files shelf.old) }
     ensures none_out { NoneOutIn folder.now (F.files shelf.new) }
     ensures catalog { IsBack loaded.catalog.keeper loaded.catalog.held

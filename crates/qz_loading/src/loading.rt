@@ -1,6 +1,7 @@
 //! The lists of a school, loaded from its folder.
 
 ghost use Rattle.std.specs.Prelude.{◌≡◌, ◌≤◌, [], map, length, Some, None, IfOk, IfErr, OnOk, OnErr, IsErrOf};
+ghost use Rattle.qz_terms.specs.declared.limits.TheConstants.{MOST_SHARDS};
 ghost use Rattle.qz_agreement.specs.Disagreements.{AgreeAll, AreLegal};
 ghost use Rattle.qz_agreement.specs.Findings.{lists};
 ghost use Rattle.qz_disks.specs.Shelves.{NoneOutIn, SameFiles};
@@ -30,7 +31,7 @@ use std::alloc::Global;
 fn shard_count(catalog: &CatalogCore) -> u8
     ensures count { terms.shards catalog.now ≡ Some result }
     ensures some { 1 ≤ result }
-    ensures few { result ≤ 64 }
+    ensures few { result ≤ MOST_SHARDS }
 {
     let Event::Founded { shards, .. } = &catalog.records()[0].event else {
         unreachable!()
@@ -55,7 +56,7 @@ fn agree<K: Keeper>(
     catalog: &Catalog<K>,
     shards: &[Shard<K>],
 ) -> Result<(), LoadFault>
-    requires few { length shards.now ≤ 64 }
+    requires few { length shards.now ≤ MOST_SHARDS }
     requires legal { AreLegal (lists_of shards.now) }
     ensures agree { OnOk result (AgreeAll catalog.now.held.list (lists_of shards.now)) }
     ensures why { IfErr result (IsDisagreement catalog.now.held.list (lists_of shards.now)) }
@@ -79,7 +80,7 @@ fn judged<F: Shelf>(
     folder: &[u8],
     loaded: Loaded<F::Disk>,
 ) -> Result<Loaded<F::Disk>, LoadFault>
-    requires few { length loaded.shards.items ≤ 64 }
+    requires few { length loaded.shards.items ≤ MOST_SHARDS }
     requires legal { AreLegal (lists_of loaded.shards.items) }
     requires out { IsOut folder.now (length loaded.shards.items) (F.files shelf.old) }
     ensures same { IfOk result (λ made. made ≡ loaded) }
@@ -125,7 +126,7 @@ pub fn load<F: Shelf>(
     ensures loaded { IfOk result (λ made. IsLoadedFrom F.Disk.moment F.Disk.left_at folder.now
         (F.files shelf.old) made.catalog made.shards.items) }
     ensures some { IfOk result (λ made. 1 ≤ length made.shards.items) }
-    ensures few { IfOk result (λ made. length made.shards.items ≤ 64) }
+    ensures few { IfOk result (λ made. length made.shards.items ≤ MOST_SHARDS) }
     ensures out { IfOk result
         (λ made. IsOut folder.now (length made.shards.items) (F.files shelf.new)) }
     ensures others { IfOk result (λ made. KeepsElsewhere folder.now (length made.shards.items)

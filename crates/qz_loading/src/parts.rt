@@ -1,6 +1,7 @@
 //! The shards' files, opened and read in order.
 
 ghost use Rattle.std.specs.Prelude.{◌≡◌, ◌<◌, ◌≤◌, [], true, false, length, vec_capacity, IfOk, IfErr, OnOk, OnErr, IsErrOf};
+ghost use Rattle.qz_terms.specs.declared.limits.TheConstants.{MOST_SHARDS};
 ghost use Rattle.qz_folders.specs.Opening.{IsCaused};
 ghost use Rattle.qz_loading.specs.declared.fault.LoadFault.TheVariants.{Fault};
 ghost use Rattle.qz_disks.specs.Sound.{StaysSound};
@@ -25,7 +26,7 @@ fn open_into<F: Shelf>(
     count: u8,
     shards: &mut Vec<Shard<Journal<F::Disk>>>,
 ) -> Result<(), LoadFault>
-    requires few { count ≤ 64 }
+    requires few { count ≤ MOST_SHARDS }
     requires free { PartsAre false folder.now count (F.files shelf.old) }
     requires empty { shards.old.items ≡ [] }
     requires room { count ≤ vec_capacity shards.old }
@@ -61,7 +62,7 @@ pub(crate) fn open_parts<F: Shelf>(
     folder: &[u8],
     count: u8,
 ) -> Result<Vec<Shard<Journal<F::Disk>>>, LoadFault>
-    requires few { count ≤ 64 }
+    requires few { count ≤ MOST_SHARDS }
     requires free { PartsAre false folder.now count (F.files shelf.old) }
     ensures opened { IfOk result (λ shards. ArePartsOf F.Disk.moment F.Disk.left_at folder.now
         (F.files shelf.old) count shards.items) }

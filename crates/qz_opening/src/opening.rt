@@ -1,6 +1,7 @@
 //! Opening the school of a folder, as a command.
 
 ghost use Rattle.std.specs.Prelude.{◌≡◌, ◌≤◌, length, string_bytes, IfOk, IfErr};
+ghost use Rattle.qz_terms.specs.declared.limits.TheConstants.{MOST_SHARDS};
 ghost use Rattle.qz_disks.specs.Shelves.{NoneOutIn};
 ghost use Rattle.qz_folders.specs.Opening.{IsSoundOut};
 ghost use Rattle.qz_loading.specs.Opening.{AreSoundOut, IsLoadedFrom};
@@ -31,7 +32,7 @@ pub fn open_school<O: Sink, F: Shelf>(
     requires { NoneOutIn folder.now (F.files shelf.old) }
     ensures loaded { IfOk result (λ made. IsLoadedFrom F.Disk.moment F.Disk.left_at folder.now
         (F.files shelf.old) made.catalog made.parts) }
-    ensures few { IfOk result (λ made. length made.parts ≤ 64) }
+    ensures few { IfOk result (λ made. length made.parts ≤ MOST_SHARDS) }
     ensures out { IfOk result (λ made. IsOut folder.now (length made.parts) (F.files shelf.new)) }
     ensures others { IfOk result (λ made. KeepsElsewhere folder.now (length made.parts)
         (F.files shelf.old) (F.files shelf.new)) }

@@ -33,7 +33,7 @@ use Rattle.qz_terms.specs.declared.record.Record.{Record}
 use Rattle.qz_terms.specs.declared.record.Terms.{Terms}
 use Rattle.qz_terms.specs.declared.request.Request.{Request}
 use Rattle.qz_terms.specs.declared.request.Request.TheVariants as request
-use Rattle.qz_terms.specs.Cause.{most_record_bytes}
+use Rattle.qz_terms.specs.declared.limits.TheConstants.{MOST_RECORD}
 use Rattle.qz_terms.specs.Kept.{AreLearned, IsKept, KeepsEvent, KeepsRequest, are_hints, is_answer, is_bound, is_step}
 use Rattle.qz_terms.specs.History as history
 use Rattle.qz_terms.specs.Legal.{LearnsNew, same_pair, version_of_bound, version_of_learned}
@@ -274,8 +274,8 @@ terms-of : (t : Option Terms) → Within (option_bytes terms_bytes t) 39
 terms-of None = record { len = omega arith }
 terms-of (Some t) = tagged 1 (eight t.at ⊕ settings t.settings)
 
-pub record-short : (r : Record) → IsKept r → IsBrief r → is_import r.event ≡ false → length (spelling r) ≤ most_record_bytes
-record-short r kept brief other = (no-more most_record_bytes (omega arith) (eight r.moment ⊕ four r.caller ⊕ four r.owner ⊕ key-of r.key brief.key ⊕ terms-of r.terms ⊕ event-of r.event kept.event brief.event other)).len
+pub record-short : (r : Record) → IsKept r → IsBrief r → is_import r.event ≡ false → length (spelling r) ≤ MOST_RECORD
+record-short r kept brief other = (no-more MOST_RECORD (omega arith) (eight r.moment ⊕ four r.caller ⊕ four r.owner ⊕ key-of r.key brief.key ⊕ terms-of r.terms ⊕ event-of r.event kept.event brief.event other)).len
 
 pub same_length : (r s : Record) → r.key ≡ s.key → r.terms ≡ s.terms → r.event ≡ s.event → length (spelling r) ≡ length (spelling s)
 same_length r s key terms event =

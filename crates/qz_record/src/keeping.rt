@@ -3,9 +3,11 @@
 
 ghost use Rattle.std.specs.Prelude.{◌≡◌, ◌↔◌, ◌&&◌, true, map, length, nat_le, option_map, unwrap_or, IfSome, IsTrue};
 ghost use Rattle.std.specs.List.{list_all};
+ghost use Rattle.qz_grading.specs.declared.limits.TheConstants.{MOST_HINT};
 ghost use Rattle.qz_grading.specs.declared.question.Item.{Item};
 ghost use Rattle.qz_grading.specs.declared.question.Question.{Question};
 ghost use Rattle.qz_grading.specs.Questions.{IsQuestion, are_no_longer};
+ghost use Rattle.qz_terms.specs.declared.limits.TheConstants.{MOST_SLOTS};
 ghost use Rattle.qz_terms.specs.declared.record.Learned.{Learned};
 ghost use Rattle.qz_terms.specs.declared.record.Terms.{Terms};
 ghost use Rattle.qz_terms.specs.Catalog.{asked, asked_by};
@@ -15,24 +17,14 @@ ghost use Rattle.qz_record.specs.Records.{keeps_described};
 
 use crate::lengths::{has_short_texts, is_short_together};
 use qz_decimal::{Fraction, Grade, ONE};
-use qz_grading::{Answer, Item, Kind, MOST_HINT, MOST_TEXT, Question, Response, Step, is_sound};
-use qz_terms::{Bound, Event, GREATEST_MOMENT, Learned, Record, Request, Settings};
+use qz_grading::{
+    Answer, Item, Kind, MOST_HINT, MOST_HINTS, MOST_TEXT, Question, Response, Step, is_sound,
+};
+use qz_terms::{
+    Bound, Event, GREATEST_MOMENT, LONGEST_DURATION, Learned, MOST_ALLOWED, MOST_SHARDS,
+    MOST_SLOTS, Record, Request, Settings,
+};
 use qz_text::Text;
-
-/// The longest time, in seconds: a year of 365 days.
-const LONGEST: u32 = 31_536_000;
-
-/// The most attempts that a setting allows.
-const MOST_ALLOWED: u32 = 1000;
-
-/// The most hints of a question.
-const MOST_HINTS: usize = 20;
-
-/// The most slots of a quiz.
-const MOST_SLOTS: usize = 200;
-
-/// The most shards of a school.
-const MOST_SHARDS: u8 = 64;
 
 /// The greatest max mark (in 10^-7), and the greatest grade of a quiz (in 10^-5).
 const GREATEST_MAX: i64 = 10_000 * ONE;
@@ -50,7 +42,7 @@ fn is_moment(moment: u64) -> bool
 fn is_duration(seconds: u32) -> bool
     ensures { result ≡ is_duration seconds }
 {
-    seconds <= LONGEST
+    seconds <= LONGEST_DURATION
 }
 
 fn is_allowed(attempts: u32) -> bool
@@ -137,7 +129,7 @@ fn is_step(step: &Step) -> bool
 // ---- questions
 
 fn are_short_hints(hints: &[Text]) -> bool
-    ensures { result ≡ are_no_longer 4096 hints.now }
+    ensures { result ≡ are_no_longer MOST_HINT hints.now }
 {
     hints.iter().all(|hint| hint.as_bytes().len() <= MOST_HINT)
 }
@@ -277,9 +269,9 @@ fn are_maxima(bounds: &[Bound]) -> bool
 }
 
 fn are_bounds(bounds: &[Bound]) -> bool
-    ensures { result ≡ (nat_le (length bounds.now) 200 && list_all is_bound bounds.now) }
+    ensures { result ≡ (nat_le (length bounds.now) MOST_SLOTS && list_all is_bound bounds.now) }
 {
-    bounds.len() <= MOST_SLOTS && are_maxima(bounds)
+    bounds.len() <= MOST_SLOTS as usize && are_maxima(bounds)
 }
 
 fn keeps_event(event: &Event) -> bool

@@ -4,6 +4,7 @@ ghost use Rattle.std.specs.Prelude.{◌≡◌, ℕ, List, [], ◌∷◌, ◌++�
 ghost use Rattle.std.specs.List.{list_all};
 ghost use Rattle.qz_grading.specs.Questions.{are_no_longer, kind_texts, texts};
 ghost use Rattle.qz_grading.specs.Room.{LeftBehind};
+ghost use Rattle.qz_grading.specs.declared.limits.TheConstants.{MOST_TEXT, MOST_TOGETHER};
 ghost use Rattle.qz_grading.specs.declared.question.Choice.{Choice};
 ghost use Rattle.qz_grading.specs.declared.question.Num.{Num};
 ghost use Rattle.qz_grading.specs.declared.question.Pair.{Pair};
@@ -18,7 +19,7 @@ trait Worded {
 
     /// Whether none of its texts is too long.
     fn is_short(&self) -> bool
-        ensures { result ≡ are_no_longer 65536 (texts self.now) };
+        ensures { result ≡ are_no_longer MOST_TEXT (texts self.now) };
 
     /// What is left of a room behind its texts, where they fit.
     fn behind(&self, room: usize) -> Option<usize>
@@ -87,7 +88,7 @@ impl Worded for Num {
 }
 
 fn all_short<W: Worded>(parts: &[W]) -> bool
-    ensures { result ≡ list_all (λ p. are_no_longer 65536 (W.texts p)) parts.now }
+    ensures { result ≡ list_all (λ p. are_no_longer MOST_TEXT (W.texts p)) parts.now }
 {
     parts.iter().all(|part| part.is_short())
 }
@@ -107,7 +108,7 @@ fn behind_all<W: Worded>(room: usize, parts: &[W]) -> Option<usize>
 
 #[tactic(auto, using(crate::proofs::TextLengths::list_all_flat_map))]
 fn kind_is_short(kind: &Kind) -> bool
-    ensures { result ≡ are_no_longer 65536 (kind_texts kind.now) }
+    ensures { result ≡ are_no_longer MOST_TEXT (kind_texts kind.now) }
 {
     match kind {
         Kind::Description | Kind::Essay => true,
@@ -142,7 +143,7 @@ fn behind_kind(room: usize, kind: &Kind) -> Option<usize>
 
 /// Whether no text of a question is longer than 65,536 bytes.
 pub(crate) fn has_short_texts(question: &Question) -> bool
-    ensures { result ≡ are_no_longer 65536 (texts question.now) }
+    ensures { result ≡ are_no_longer MOST_TEXT (texts question.now) }
 {
     question.name.is_short()
         && question.text.text.is_short()
@@ -152,7 +153,7 @@ pub(crate) fn has_short_texts(question: &Question) -> bool
 
 /// Whether the texts and hints of a question have together at most 262,144 bytes.
 pub(crate) fn is_short_together(question: &Question) -> bool
-    ensures { IsTrue result ↔ (sum_by length (texts question.now ++ question.now.hints) ≤ 262144) }
+    ensures { IsTrue result ↔ (sum_by length (texts question.now ++ question.now.hints) ≤ MOST_TOGETHER) }
 {
     behind_question(MOST_TOGETHER, question).is_some()
 }

@@ -54,7 +54,7 @@ rows-ordered g (u ∷ us) = ap (λ (es : List (ℕ × Option ℤ)). insert_entry
 
 -- ---- the users of a shard belong to it
 
-abbrev belongs : ℕ → ℕ → ℕ → Bool
+abbrev pub belongs : ℕ → ℕ → ℕ → Bool
 belongs k n u = is_here k n u
 
 all-both : (a b : Bool) → a ≡ true → b ≡ true → a && b ≡ true
@@ -101,7 +101,7 @@ takers-from k n q h l (r ∷ rest) legal e =
     takers-step k n q r rest (history.taker_at q r) refl (λ u is. taker-owner k n q u r r.event (legal.each l r rest e).owner is)
     (takers-from k n q h (l ++ r ∷ []) rest legal (e ∙ sym (append_assoc l (r ∷ []) rest)))
 
-takers-belong : (k n q : ℕ) (h : List Record) → IsLegal k n h → list_all (belongs k n) (history.takers h q) ≡ true
+pub takers-belong : (k n q : ℕ) (h : List Record) → IsLegal k n h → list_all (belongs k n) (history.takers h q) ≡ true
 takers-belong k n q h legal = all-ordered (belongs k n) (filter_map (history.taker_at q) h) (takers-from k n q h [] h legal refl)
 
 -- ---- so each grade is that of the user's own shard
@@ -122,11 +122,11 @@ own-rows ps k q policy h (u ∷ us) there all =
     let tail = own-rows ps k q policy h us there both.1 in
     ap (λ (r : ℕ × Option ℤ). r ∷ map (graded h q policy) us) head ∙ ap (λ (l : List (ℕ × Option ℤ)). with_grade (own_grade ps q policy) u ∷ l) tail
 
-flat-same : {A B : Type 0} (f g : A → List B) (xs : List A) → ((k : ℕ) (x : A) → slice_get xs k ≡ Some x → f x ≡ g x) → flat_map f xs ≡ flat_map g xs
+pub flat-same : {A B : Type 0} (f g : A → List B) (xs : List A) → ((k : ℕ) (x : A) → slice_get xs k ≡ Some x → f x ≡ g x) → flat_map f xs ≡ flat_map g xs
 flat-same f g [] each = refl
 flat-same f g (x ∷ xs) each = ap (λ (l : List _). l ++ flat_map f xs) (each 0 x refl) ∙ ap (λ (l : List _). g x ++ l) (flat-same f g xs (λ k y is. each (suc k) y is))
 
-flat-mapped : {A B C : Type 0} (f : B → C) (g : A → List B) (xs : List A) → flat_map (λ x. map f (g x)) xs ≡ map f (flat_map g xs)
+pub flat-mapped : {A B C : Type 0} (f : B → C) (g : A → List B) (xs : List A) → flat_map (λ x. map f (g x)) xs ≡ map f (flat_map g xs)
 flat-mapped f g [] = refl
 flat-mapped f g (x ∷ xs) = ap (λ (l : List _). map f (g x) ++ l) (flat-mapped f g xs) ∙ sym (map-append f (g x) (flat_map g xs))
 
@@ -140,7 +140,7 @@ all-graded ps q policy legal =
 
 -- ---- rows with names
 
-at_place-map-by : {A B : Type 0} (f : A → B) (xs : List A) (n : ℕ) (b : Bool) → (n == 0) ≡ b → at_place (map f xs) n ≡ option_map f (at_place xs n)
+pub at_place-map-by : {A B : Type 0} (f : A → B) (xs : List A) (n : ℕ) (b : Bool) → (n == 0) ≡ b → at_place (map f xs) n ≡ option_map f (at_place xs n)
 at_place-map-by f xs n true is = rw is refl
 at_place-map-by f xs n false is = rw is (slice_get-map f xs (n - 1))
 

@@ -1,5 +1,6 @@
 -- What may be asked of a school, and what a request comes to: at one shard, and in all.
 use Rattle.std.specs.Prelude.{◌≡◌, ℕ, ◌≤◌, true, List, [], length, unwrap_or, None, Result, Err, MatchResult}
+use Rattle.qz_terms.specs.declared.limits.TheConstants.{LONGEST_KEY}
 use Rattle.qz_grading.specs.declared.refusal.Refusal.{Refusal}
 use Rattle.qz_keeper.specs.Lists.{Looks, OneCall}
 use Rattle.qz_keeper.specs.Recording.{GoesOn, HasFailed}
@@ -25,7 +26,7 @@ pub record MayBeAsked (ask : Ask) (moment : ℕ) : Type 0 where
   pub kept : KeepsAsked ask.request
   pub described : asks_described ask.request ≡ true
   pub moment_kept : is_moment moment ≡ true
-  pub brief : length (unwrap_or ask.key []) ≤ 64
+  pub brief : length (unwrap_or ask.key []) ≤ LONGEST_KEY
   pub names : NamesBriefly ask.request
 
 -- ---- at one shard

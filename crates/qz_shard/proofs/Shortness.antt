@@ -23,7 +23,7 @@ use Rattle.qz_terms.specs.declared.access.Settings.{Settings}
 use Rattle.qz_terms.specs.declared.record.Event.{Event}
 use Rattle.qz_terms.specs.declared.record.Event.TheVariants as event
 use Rattle.qz_terms.specs.declared.record.Record.{Record}
-use Rattle.qz_terms.specs.Cause.{most_record_bytes}
+use Rattle.qz_terms.specs.declared.limits.TheConstants.{MOST_RECORD}
 use Rattle.qz_terms.specs.History.{Slot, slot, slot_count, steps}
 use Rattle.qz_terms.specs.Kept.{IsKept}
 use Rattle.qz_terms.specs.Legal.{EventIsAllowed, IsPut}
@@ -129,7 +129,7 @@ no-import : (d : Event) → is_asked_event d ≡ true → is_import d ≡ false
 no-import (event.Asked x) asked = absurd cc
 no-import d asked = refl
 
-pub next-short : (index count : ℕ) (h : List Record) (r : Record) → IsHeld index count h → IsNext index count h r → length (unwrap_or r.key []) ≤ 64 → length (spelling r) ≤ most_record_bytes
+pub next-short : (index count : ℕ) (h : List Record) (r : Record) → IsHeld index count h → IsNext index count h r → length (unwrap_or r.key []) ≤ 64 → length (spelling r) ≤ MOST_RECORD
 next-short index count h r held next few =
     let sound : IsSound h = record { index = index; count = count; held = held } in
     record-short r next.kept (record { key = few; event = event-brief h r r.event refl sound next.allowed.event }) (no-import r.event next.asked)

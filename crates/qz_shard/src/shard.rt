@@ -1,6 +1,7 @@
 //! A shard whose list a keeper keeps, and what is asked of it.
 
 ghost use Rattle.std.specs.Prelude.{◌≡◌, ◌+◌, ◌≤◌, length, [], true, Ok, Err, Some, None, is_none, option_copied, option_map, unwrap_or, IfOk, IfErr, IfSome, IsErrOf};
+ghost use Rattle.qz_terms.specs.declared.limits.TheConstants.{LONGEST_KEY};
 ghost use Rattle.qz_decimal.specs.Numbers.{IsMaxSum, IsQuizGrade};
 ghost use Rattle.qz_grading.specs.Grading.{at_place};
 ghost use Rattle.qz_keeper.specs.Lists.{CallEnds, EachMayStand, IsStored, Settles};
@@ -243,7 +244,7 @@ impl<K: Keeper> Shard<K> {
         requires change { is_change ask.now.request ≡ true }
         requires asked { EachMayStand (λ h. IsAsked h plan.now ask.now moment) self.old.held }
         requires here { StartsHere (shard_over self.old []) user.now plan.now ask.now.request }
-        requires brief { length (unwrap_or ask.now.key []) ≤ 64 }
+        requires brief { length (unwrap_or ask.now.key []) ≤ LONGEST_KEY }
         ensures answer { IfOk result (Replies (HasFailed (K.sound self.old.keeper)
             (K.faults self.old.keeper) (K.faults self.new.keeper))
             (IsTold self.old.index self.old.count
@@ -278,7 +279,7 @@ impl<K: Keeper> Shard<K> {
         requires settled { self.old.held.doubt ≡ None }
         requires posed { IsPosed (shard_over self.old self.old.held.list)
             moment user.now plan.now ask.now }
-        requires brief { length (unwrap_or ask.now.key []) ≤ 64 }
+        requires brief { length (unwrap_or ask.now.key []) ≤ LONGEST_KEY }
         ensures ends { CallEnds (HasFailed (K.sound self.old.keeper)
             (K.faults self.old.keeper) (K.faults self.new.keeper))
             reply.Refused (IsTold self.old.index self.old.count

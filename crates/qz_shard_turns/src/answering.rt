@@ -1,6 +1,7 @@
 //! What is answered by a shard under a plan that was read before, in one turn.
 
 ghost use Rattle.std.specs.Prelude.{◌≡◌, ◌≢◌, ◌<◌, ◌≤◌, [], Some, None, true, length, unwrap_or, IfOk, IfErr};
+ghost use Rattle.qz_terms.specs.declared.limits.TheConstants.{LONGEST_KEY};
 ghost use Rattle.qz_keeper.specs.Lists.{EachMayStand, OneCall};
 ghost use Rattle.qz_keeper.specs.Recording.{GoesOn, HasFailed};
 ghost use Rattle.qz_serial.specs.Calls.{ShardAnswers};
@@ -52,7 +53,7 @@ fn shard_reply<K: Keeper, L: Ledger>(
     requires served { asks_shard ask.now.request ≡ true }
     requires asked { EachMayStand (λ h. IsAsked h plan.now ask.now moment) shard.old.held }
     requires here { StartsHere (shard_over shard.old []) user.now plan.now ask.now.request }
-    requires brief { length (unwrap_or ask.now.key []) ≤ 64 }
+    requires brief { length (unwrap_or ask.now.key []) ≤ LONGEST_KEY }
     ensures answer { IfOk result (λ told. OneCall (HasFailed (K.sound shard.old.keeper)
         (K.faults shard.old.keeper) (K.faults shard.new.keeper)) reply.Refused
         (IsAnsweredNow moment user.now plan.now ask.now) shard.old.held shard.new.held told) }
@@ -86,7 +87,7 @@ fn applied<K: Keeper, L: Ledger>(
     requires served { asks_shard ask.now.request ≡ true }
     requires asked { EachMayStand (λ h. IsAsked h plan.now ask.now moment) shard.old.held }
     requires here { StartsHere (shard_over shard.old []) user.now plan.now ask.now.request }
-    requires brief { length (unwrap_or ask.now.key []) ≤ 64 }
+    requires brief { length (unwrap_or ask.now.key []) ≤ LONGEST_KEY }
     ensures answer { IfOk result (λ told. ReplyEnds (HasFailed (K.sound shard.old.keeper)
         (K.faults shard.old.keeper) (K.faults shard.new.keeper)) reply.Refused
         (IsAnsweredNow moment user.now plan.now ask.now) shard.old.held shard.new.held
@@ -125,7 +126,7 @@ fn answered<K: Keeper, L: Ledger>(
     requires served { asks_shard ask.now.request ≡ true }
     requires asked { EachMayStand (λ h. IsAsked h plan.now ask.now moment) shard.old.held }
     requires here { StartsHere (shard_over shard.old []) user.now plan.now ask.now.request }
-    requires brief { length (unwrap_or ask.now.key []) ≤ 64 }
+    requires brief { length (unwrap_or ask.now.key []) ≤ LONGEST_KEY }
     ensures answer { IfOk result (λ told. OneReply (HasFailed (K.sound shard.old.keeper)
         (K.faults shard.old.keeper) (K.faults shard.new.keeper)) reply.Refused
         (IsAnsweredNow moment user.now plan.now ask.now) shard.old.held shard.new.held

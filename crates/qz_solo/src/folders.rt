@@ -1,6 +1,7 @@
 //! A school from the files of a folder, and back.
 
 ghost use Rattle.std.specs.Prelude.{◌≡◌, ◌+◌, ◌≤◌, length, sum_by, IfOk, IfErr, OnErr, IsErrOf};
+ghost use Rattle.qz_terms.specs.declared.limits.TheConstants.{MOST_SHARDS};
 ghost use Rattle.qz_disks.specs.Shelves.{NoneOutIn, RisesBy};
 ghost use Rattle.qz_disks.specs.Sound.{StaysSound};
 ghost use Rattle.qz_folders.specs.Opening.{IsCaused, IsSoundOut};
@@ -32,7 +33,7 @@ pub fn load<F: Shelf>(
     ensures loaded { IfOk result (λ made. IsLoadedFrom F.Disk.moment F.Disk.left_at folder.now
         (F.files shelf.old) made.catalog made.parts) }
     ensures restarts { Restarts folder.now (F.files shelf.old) result }
-    ensures few { IfOk result (λ made. length made.parts ≤ 64) }
+    ensures few { IfOk result (λ made. length made.parts ≤ MOST_SHARDS) }
     ensures out { IfOk result (λ made. IsOut folder.now (length made.parts) (F.files shelf.new)) }
     ensures others { IfOk result (λ made. KeepsElsewhere folder.now (length made.parts)
         (F.files shelf.old) (F.files shelf.new)) }
@@ -57,7 +58,7 @@ pub fn load<F: Shelf>(
 /// Gives every file of a school's lists back. It takes no memory, and writes nothing. Each file stands for its list then, or where a
 /// record is in doubt for the list or for it with that record.
 pub fn close<F: Shelf>(shelf: &mut F, folder: &[u8], school: Solo<Journal<F::Disk>>)
-    requires few { length school.parts ≤ 64 }
+    requires few { length school.parts ≤ MOST_SHARDS }
     requires out { IsOut folder.now (length school.parts) (F.files shelf.old) }
     ensures none_out { NoneOutIn folder.now (F.files shelf.new) }
     ensures catalog { IsBack school.catalog.keeper school.catalog.held

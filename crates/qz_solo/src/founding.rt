@@ -1,6 +1,7 @@
 //! The lists of a school in memory that is just founded.
 
 ghost use Rattle.std.specs.Prelude.{◌≡◌, ◌<◌, ◌≤◌, [], length, IfOk};
+ghost use Rattle.qz_terms.specs.declared.limits.TheConstants.{LONGEST_KEY, MOST_SHARDS};
 ghost use Rattle.qz_catalog.specs.Holdings.{founded};
 ghost use Rattle.qz_terms.specs.Serial.{with_list};
 ghost use Rattle.qz_solo.specs.Memory.{AreFresh};
@@ -16,8 +17,8 @@ use std::alloc::Global;
 /// The catalogue: its list is the record of the founding.
 pub(crate) fn founded(alloc: Global, shards: u8, token: &Text) -> Result<Catalog<Unkept>, NoMemory>
     requires some { 1 ≤ shards }
-    requires few { shards ≤ 64 }
-    requires short { length token.now ≤ 64 }
+    requires few { shards ≤ MOST_SHARDS }
+    requires short { length token.now ≤ LONGEST_KEY }
     ensures { IfOk result (λ catalog. catalog.held ≡ with_list (founded shards token.now)) }
 {
     laws::one_spelling();
@@ -33,7 +34,7 @@ pub(crate) fn founded(alloc: Global, shards: u8, token: &Text) -> Result<Catalog
 /// A shard without a record.
 fn empty(alloc: Global, index: u8, count: u8) -> Result<Shard<Unkept>, NoMemory>
     requires inside { index < count }
-    requires few { count ≤ 64 }
+    requires few { count ≤ MOST_SHARDS }
     ensures index { IfOk result (λ shard. shard.index ≡ index) }
     ensures count { IfOk result (λ shard. shard.count ≡ count) }
     ensures empty { IfOk result (λ shard. shard.held ≡ with_list []) }
@@ -47,7 +48,7 @@ fn empty(alloc: Global, index: u8, count: u8) -> Result<Shard<Unkept>, NoMemory>
 
 /// So many shards without a record, from 1 to 64.
 pub(crate) fn fresh(alloc: Global, count: u8) -> Result<Vec<Shard<Unkept>>, NoMemory>
-    requires few { count ≤ 64 }
+    requires few { count ≤ MOST_SHARDS }
     ensures { IfOk result (λ shards. AreFresh count count shards.items) }
 {
     let mut shards = Vec::new(alloc);

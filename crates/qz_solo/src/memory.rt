@@ -1,6 +1,7 @@
 //! A school in memory.
 
 ghost use Rattle.std.specs.Prelude.{◌≡◌, ◌<◌, ◌≤◌, ◌++◌, ◌∷◌, ◌%◌, [], length, IfOk, OnOk, None};
+ghost use Rattle.qz_terms.specs.declared.limits.TheConstants.{LONGEST_KEY, MOST_SHARDS};
 ghost use Rattle.qz_school.specs.Answering.{MayBeAsked};
 ghost use Rattle.qz_solo.specs.Marks.{marks_of};
 ghost use Rattle.qz_solo.specs.Memory.{AreClear, founded_lists, is_memory};
@@ -46,8 +47,8 @@ impl MemorySchool {
     /// A school that was just founded with so many shards, from 1 to 64, and this token of its manager, of at most 64 bytes.
     pub fn founded(alloc: Global, shards: u8, token: &str) -> Result<MemorySchool, NoMemory>
         requires some { 1 ≤ shards }
-        requires few { shards ≤ 64 }
-        requires short { length token.now ≤ 64 }
+        requires few { shards ≤ MOST_SHARDS }
+        requires short { length token.now ≤ LONGEST_KEY }
         ensures { IfOk result (λ school. school ≡ founded_lists shards token.now) }
     {
         let token = Text::of(alloc, token)?;

@@ -1,6 +1,7 @@
 //! How a shard answers under a catalogue.
 
 ghost use Rattle.std.specs.Prelude.{◌≡◌, ◌<◌, ◌≤◌, true, Some, None, [], length, unwrap_or};
+ghost use Rattle.qz_terms.specs.declared.limits.TheConstants.{LONGEST_KEY};
 ghost use Rattle.qz_keeper.specs.Lists.{EachMayStand};
 ghost use Rattle.qz_serial.specs.Calls.{ShardAnswers};
 ghost use Rattle.qz_shard.specs.Answering.{IsAnswered};
@@ -47,7 +48,7 @@ fn answered<K: Keeper, L: Ledger>(
     requires served { asks_shard ask.now.request ≡ true }
     requires posed { EachMayStand (IsPosed shard.old.index shard.old.count
         user.now plan.now ask.now moment) shard.old.held }
-    requires brief { length (unwrap_or ask.now.key []) ≤ 64 }
+    requires brief { length (unwrap_or ask.now.key []) ≤ LONGEST_KEY }
     ensures { PartAnswers K.sound K.faults
         (λ h told g. IsAnswered h moment user.now plan.now ask.now told g)
         shard.old shard.new result }

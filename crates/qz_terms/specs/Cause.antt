@@ -2,6 +2,7 @@
 use Rattle.std.specs.Ordering.{int_eq}
 use Rattle.std.specs.Prelude.{ℕ, ◌+◌, ◌*◌, max, Bool, true, false, not, ◌&&◌, ◌||◌, List, [], ◌∷◌, length, ℤ, pos, is_none, is_some, if◌then◌else◌, nat_lt, nat_le, ◌==◌, int_lt, Some, None, bytes_eq, filter, filter_map, Option, unwrap_or, option_map, option_and_then}
 use Rattle.qz_decimal.specs.Numbers.{one}
+use Rattle.qz_grading.specs.declared.limits.TheConstants.{MOST_TOGETHER}
 use Rattle.qz_grading.specs.declared.question.Bank.{Bank}
 use Rattle.qz_grading.specs.declared.question.Kind.{Kind}
 use Rattle.qz_grading.specs.declared.question.Kind.TheVariants as kind
@@ -18,6 +19,7 @@ use Rattle.qz_grading.specs.Grading.{at_place, is_place, same}
 use Rattle.qz_grading.specs.Slots.{step_cause}
 use Rattle.qz_terms.specs.declared.access.Settings.{Settings}
 use Rattle.qz_terms.specs.declared.ask.Ask.{Ask}
+use Rattle.qz_terms.specs.declared.limits.TheConstants.{MOST_ATTEMPTS, MOST_ENTRIES, MOST_GROUPS, MOST_JOBS, MOST_OVERRIDES, MOST_QUIZZES, MOST_RECORD, MOST_SLOTS, MOST_USERS, MOST_VERSIONS}
 use Rattle.qz_terms.specs.declared.people.Role.{Role}
 use Rattle.qz_terms.specs.declared.people.Role.TheVariants as role
 use Rattle.qz_terms.specs.declared.people.User.{User}
@@ -232,27 +234,20 @@ slot_entry c quiz k = unwrap_or (option_map (λ (s : Planned). s.entry) (at_plac
 abbrev pub already_ready : List Record → ℕ → Option Refusal
 already_ready c quiz = option_map refusal.Closed (catalog.ready_at c quiz)
 
--- so long a record is at most, and so long a version's canonical text with its hints
-abbrev pub most_record_bytes : ℕ
-most_record_bytes = 67108864
-
-abbrev pub most_version_bytes : ℕ
-most_version_bytes = 262144
-
 abbrev pub newer_version : List Record → ℕ → Request → Option Question
 newer_version c entry x = option_map (λ old. catalog.changed_by old x) (catalog.version c entry (catalog.latest c entry))
 
 -- an edit or a tuning
 abbrev pub change_cause : List Record → ℕ → Request → Option Refusal
 change_cause c entry x = first_some (
-    too_many 1000 (catalog.latest c entry)
-    ∷ when (unwrap_or (option_map (λ q. nat_lt most_version_bytes (canonical_size q)) (newer_version c entry x)) false) (refusal.TooMany most_version_bytes)
+    too_many MOST_VERSIONS (catalog.latest c entry)
+    ∷ when (unwrap_or (option_map (λ q. nat_lt MOST_TOGETHER (canonical_size q)) (newer_version c entry x)) false) (refusal.TooMany MOST_TOGETHER)
     ∷ [])
 
 abbrev pub import_cause : List Record → Bank → Record → Option Refusal
 import_cause c gift r = first_some (
-    when (nat_lt 20000 (length (catalog.entries c) + length gift.items)) (refusal.TooMany 20000)
-    ∷ when (nat_lt most_record_bytes (length (spelling r))) (refusal.TooMany most_record_bytes)
+    when (nat_lt MOST_ENTRIES (length (catalog.entries c) + length gift.items)) (refusal.TooMany MOST_ENTRIES)
+    ∷ when (nat_lt MOST_RECORD (length (spelling r))) (refusal.TooMany MOST_RECORD)
     ∷ [])
 
 abbrev pub overridden : Option Request → Option (ℕ × (ℕ × ℕ))
@@ -269,17 +264,17 @@ override_count c = length (in_order override_before (filter_map (λ r. overridde
 
 -- the causes behind the key, where the record is the one that the request would make
 abbrev pub cause_in : List Record → Record → Request → Option Refusal
-cause_in c r (request.User name role token) = first_some (option_map refusal.KeyReused (catalog.token_place c token) ∷ too_many 65535 (length (catalog.users c)) ∷ [])
-cause_in c r (request.Group name) = too_many 1000 (length (catalog.groups c))
+cause_in c r (request.User name role token) = first_some (option_map refusal.KeyReused (catalog.token_place c token) ∷ too_many MOST_USERS (length (catalog.users c)) ∷ [])
+cause_in c r (request.Group name) = too_many MOST_GROUPS (length (catalog.groups c))
 cause_in c r (request.Import gift) = import_cause c gift r
 cause_in c r (request.Edit entry gift) = change_cause c entry (request.Edit entry gift)
 cause_in c r (request.Tune entry penalty hints) = change_cause c entry (request.Tune entry penalty hints)
-cause_in c r (request.Quiz name behaviour) = too_many 10000 (length (catalog.quizzes c))
-cause_in c r (request.Slot quiz entry max) = first_some (already_ready c quiz ∷ bad_max c entry max ∷ too_many 200 (length (catalog.slots c quiz)) ∷ [])
+cause_in c r (request.Quiz name behaviour) = too_many MOST_QUIZZES (length (catalog.quizzes c))
+cause_in c r (request.Slot quiz entry max) = first_some (already_ready c quiz ∷ bad_max c entry max ∷ too_many MOST_SLOTS (length (catalog.slots c quiz)) ∷ [])
 cause_in c r (request.Ready quiz) = already_ready c quiz
 cause_in c r (request.Remax quiz slot max) = bad_max c (slot_entry c quiz slot) max
-cause_in c r (request.Override quiz whom number opens closes limit allowed) = too_many 100000 (override_count c)
-cause_in c r (request.Regrade quiz) = first_some (when (not (catalog.is_ready c quiz)) (refusal.NotOpen 0) ∷ too_many 100000 (length (catalog.jobs c)) ∷ [])
+cause_in c r (request.Override quiz whom number opens closes limit allowed) = too_many MOST_OVERRIDES (override_count c)
+cause_in c r (request.Regrade quiz) = first_some (when (not (catalog.is_ready c quiz)) (refusal.NotOpen 0) ∷ too_many MOST_JOBS (length (catalog.jobs c)) ∷ [])
 cause_in c r x = None
 
 -- ---- a shard
@@ -351,7 +346,7 @@ unfinished_at h s q u moment = first_of (filter (goes_on h s moment) (history.at
 abbrev pub cause_here : List Record → ℕ → User → Plan → Request → Option Refusal
 cause_here h moment user plan (request.Start quiz) = first_some (
     start_cause plan.settings plan.ready moment (length (history.attempts h quiz user.number)) (unfinished_at h plan.settings quiz user.number moment)
-    ∷ too_many 1000 (length (history.attempts h quiz user.number))
+    ∷ too_many MOST_ATTEMPTS (length (history.attempts h quiz user.number))
     ∷ [])
 cause_here h moment user plan (request.Save attempt slot certainty response) = answering_cause h moment user plan attempt slot (step.Save (record { answer = response; certainty = certainty }))
 cause_here h moment user plan (request.Submit attempt slot certainty response) = answering_cause h moment user plan attempt slot (step.Submit (record { answer = response; certainty = certainty }))

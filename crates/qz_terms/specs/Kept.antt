@@ -3,6 +3,7 @@
 use Rattle.std.specs.List.{list_all}
 use Rattle.std.specs.Prelude.{◌≡◌, ℕ, ◌*◌, Bool, true, false, ◌&&◌, List, map, length, ℤ, pos, nat_le, ◌==◌, int_le, is_some, Option, unwrap_or, option_map, All}
 use Rattle.qz_decimal.specs.Numbers.{grade_one, one}
+use Rattle.qz_grading.specs.declared.limits.TheConstants.{MOST_HINT, MOST_HINTS, MOST_TEXT}
 use Rattle.qz_grading.specs.declared.question.Item.{Item}
 use Rattle.qz_grading.specs.declared.question.Kind.{Kind}
 use Rattle.qz_grading.specs.declared.question.Kind.TheVariants as kind
@@ -14,6 +15,7 @@ use Rattle.qz_grading.specs.declared.response.Step.{Step}
 use Rattle.qz_grading.specs.declared.response.Step.TheVariants as step
 use Rattle.qz_grading.specs.Questions.{IsQuestion, are_no_longer}
 use Rattle.qz_terms.specs.declared.access.Settings.{Settings}
+use Rattle.qz_terms.specs.declared.limits.TheConstants.{GREATEST_MOMENT, LONGEST_DURATION, MOST_ALLOWED, MOST_SHARDS, MOST_SLOTS}
 use Rattle.qz_terms.specs.declared.plan.Bound.{Bound}
 use Rattle.qz_terms.specs.declared.plan.Plan.{Plan}
 use Rattle.qz_terms.specs.declared.plan.Planned.{Planned}
@@ -29,13 +31,13 @@ use Rattle.qz_terms.specs.CatalogAnswer.{keeps_record}
 -- ---- numbers
 
 abbrev pub is_moment : ℕ → Bool
-is_moment n = nat_le n 4102444799
+is_moment n = nat_le n GREATEST_MOMENT
 
 abbrev pub is_duration : ℕ → Bool
-is_duration n = nat_le n 31536000
+is_duration n = nat_le n LONGEST_DURATION
 
 abbrev pub is_allowed : ℕ → Bool
-is_allowed n = nat_le n 1000
+is_allowed n = nat_le n MOST_ALLOWED
 
 abbrev pub if_there : (ℕ → Bool) → Option ℕ → Bool
 if_there p o = unwrap_or (option_map p o) true
@@ -53,7 +55,7 @@ is_bound b = int_le (pos 0) b.max && int_le b.max (pos (10000 * one))
 
 -- of a response only the length of its text is kept
 abbrev pub is_answer : Answer → Bool
-is_answer (answer.Words text) = nat_le (length text) 65536
+is_answer (answer.Words text) = nat_le (length text) MOST_TEXT
 is_answer a = true
 
 abbrev pub is_response : Response → Bool
@@ -67,7 +69,7 @@ is_step x = true
 -- ---- questions
 
 abbrev pub are_hints : List (List ℕ) → Bool
-are_hints hints = nat_le (length hints) 20 && are_no_longer 4096 hints
+are_hints hints = nat_le (length hints) MOST_HINTS && are_no_longer MOST_HINT hints
 
 abbrev pub is_penalty : ℤ → Bool
 is_penalty p = int_le (pos 0) p && int_le p (pos one)
@@ -91,9 +93,9 @@ KeepsRequest (request.Override quiz whom number opens closes limit allowed) = if
 KeepsRequest x = Unit {0}
 
 abbrev pub KeepsEvent : Event → Type 0
-KeepsEvent (event.Founded shards token) = nat_le 1 shards && nat_le shards 64 ≡ true
+KeepsEvent (event.Founded shards token) = nat_le 1 shards && nat_le shards MOST_SHARDS ≡ true
 KeepsEvent (event.Asked x) = (keeps_record x ≡ true) × KeepsRequest x
-KeepsEvent (event.Started quiz nth behaviour bounds learned) = (nat_le (length bounds) 200 && list_all is_bound bounds ≡ true) × AreLearned learned
+KeepsEvent (event.Started quiz nth behaviour bounds learned) = (nat_le (length bounds) MOST_SLOTS && list_all is_bound bounds ≡ true) × AreLearned learned
 KeepsEvent (event.Acted a k x) = is_step x ≡ true
 KeepsEvent (event.Noted a k x) = is_step x ≡ true
 KeepsEvent (event.Ended a how) = Unit {0}
@@ -143,7 +145,7 @@ is_planned s = int_le (pos 0) s.max && int_le s.max (pos (10000 * one))
 -- what every plan keeps
 pub record IsKeptPlan (p : Plan) : Type 0 where
   pub settings : are_settings p.settings ≡ true
-  pub few : nat_le (length p.slots) 200 ≡ true
+  pub few : nat_le (length p.slots) MOST_SLOTS ≡ true
   pub slots : list_all is_planned p.slots ≡ true
   pub grade : is_quiz_grade p.policy.grade ≡ true
   pub sum : int_le (pos 0) p.policy.sum && int_le p.policy.sum (pos (2000000 * one)) ≡ true

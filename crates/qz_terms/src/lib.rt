@@ -8,7 +8,7 @@ mod desk;
 mod grades;
 mod keys;
 pub mod laws;
-mod moment;
+mod limits;
 mod people;
 mod plan;
 mod record;
@@ -24,7 +24,11 @@ pub use callers::{forbidden, is_anothers, is_student};
 pub use desk::Desk;
 pub use grades::{Method, Policy};
 pub use keys::place_of;
-pub use moment::GREATEST_MOMENT;
+pub use limits::{
+    GREATEST_MOMENT, LONGEST_DURATION, LONGEST_KEY, MOST_ALLOWED, MOST_ATTEMPTS, MOST_ENTRIES,
+    MOST_GROUPS, MOST_JOBS, MOST_OVERRIDES, MOST_QUIZZES, MOST_RECORD, MOST_SHARDS, MOST_SLOTS,
+    MOST_USERS, MOST_VERSIONS,
+};
 pub use people::{Caller, Role, User};
 pub use plan::{Bound, Job, Plan, Planned};
 pub use record::{Event, How, Learned, Record, Terms};

@@ -5,13 +5,14 @@ use Rattle.std.proofs.lemmas.Bool.Decides.{nat_tests}
 use Rattle.std.specs.Int.{from_bool}
 use Rattle.std.specs.Option.{option_or}
 use Rattle.std.proofs.lemmas.List.Elements.{filter-append, filter_map-append}
+use Rattle.qz_grading.specs.declared.limits.TheConstants.{MOST_ANSWERING, MOST_MARKS}
 use Rattle.qz_grading.specs.declared.refusal.Refusal.{Refusal}
 use Rattle.qz_grading.specs.declared.refusal.Refusal.TheVariants as refusal
 use Rattle.qz_grading.specs.declared.response.Step.{Step}
 use Rattle.qz_grading.specs.declared.response.Step.TheVariants as step
 use Rattle.qz_grading.specs.Steps.{is_answering, is_finish, is_mark, has_finish, given, last_of}
 use Rattle.qz_grading.specs.Behaviours.{first_some, when}
-use Rattle.qz_grading.specs.Slots.{last_given, is_full_for, most_answering, most_marks}
+use Rattle.qz_grading.specs.Slots.{last_given, is_full_for}
 use Rattle.qz_grading.proofs.StepLemmas.{last_of-push, has_finish-more}
 use Rattle.qz_usage.specs.Runs.{IsGiven, IsWithinLimits}
 
@@ -87,21 +88,21 @@ below most n h = grind (arith, nat_tests)
 -- a list with one more step that is neither over a limit nor a second finish
 pub limits_more : (s : List Step) (x : Step) → IsWithinLimits s → is_full_for s x ≡ None → (is_finish x ≡ true → has_finish s ≡ false) → IsWithinLimits (s ++ x ∷ [])
 limits_more s (step.Save r) h room once =
-    let little = below most_answering (length (filter is_answering s)) (when_none (nat_le most_answering (length (filter is_answering s))) (refusal.TooMany most_answering) (first_none (when (nat_le most_answering (length (filter is_answering s))) (refusal.TooMany most_answering)) (None ∷ []) room).0) in
+    let little = below MOST_ANSWERING (length (filter is_answering s)) (when_none (nat_le MOST_ANSWERING (length (filter is_answering s))) (refusal.TooMany MOST_ANSWERING) (first_none (when (nat_le MOST_ANSWERING (length (filter is_answering s))) (refusal.TooMany MOST_ANSWERING)) (None ∷ []) room).0) in
     record {
       answering = rw (count-push is_answering s (step.Save r)) (omega arith);
       marks = rw (count-push is_mark s (step.Save r)) (omega (arith, h.marks));
       finishes = rw (count-push is_finish s (step.Save r)) (omega (arith, h.finishes));
     }
 limits_more s (step.Submit r) h room once =
-    let little = below most_answering (length (filter is_answering s)) (when_none (nat_le most_answering (length (filter is_answering s))) (refusal.TooMany most_answering) (first_none (when (nat_le most_answering (length (filter is_answering s))) (refusal.TooMany most_answering)) (None ∷ []) room).0) in
+    let little = below MOST_ANSWERING (length (filter is_answering s)) (when_none (nat_le MOST_ANSWERING (length (filter is_answering s))) (refusal.TooMany MOST_ANSWERING) (first_none (when (nat_le MOST_ANSWERING (length (filter is_answering s))) (refusal.TooMany MOST_ANSWERING)) (None ∷ []) room).0) in
     record {
       answering = rw (count-push is_answering s (step.Submit r)) (omega arith);
       marks = rw (count-push is_mark s (step.Submit r)) (omega (arith, h.marks));
       finishes = rw (count-push is_finish s (step.Submit r)) (omega (arith, h.finishes));
     }
 limits_more s step.Again h room once =
-    let little = below most_answering (length (filter is_answering s)) (when_none (nat_le most_answering (length (filter is_answering s))) (refusal.TooMany most_answering) (first_none (when (nat_le most_answering (length (filter is_answering s))) (refusal.TooMany most_answering)) (None ∷ []) room).0) in
+    let little = below MOST_ANSWERING (length (filter is_answering s)) (when_none (nat_le MOST_ANSWERING (length (filter is_answering s))) (refusal.TooMany MOST_ANSWERING) (first_none (when (nat_le MOST_ANSWERING (length (filter is_answering s))) (refusal.TooMany MOST_ANSWERING)) (None ∷ []) room).0) in
     record {
       answering = rw (count-push is_answering s step.Again) (omega arith);
       marks = rw (count-push is_mark s step.Again) (omega (arith, h.marks));
@@ -115,7 +116,7 @@ limits_more s step.Finish h room once =
       finishes = rw (count-push is_finish s step.Finish) (omega arith);
     }
 limits_more s (step.Mark m max) h room once =
-    let little = below most_marks (length (filter is_mark s)) (when_none (nat_le most_marks (length (filter is_mark s))) (refusal.TooMany most_marks) (first_none (when (nat_le most_marks (length (filter is_mark s))) (refusal.TooMany most_marks)) [] room).0) in
+    let little = below MOST_MARKS (length (filter is_mark s)) (when_none (nat_le MOST_MARKS (length (filter is_mark s))) (refusal.TooMany MOST_MARKS) (first_none (when (nat_le MOST_MARKS (length (filter is_mark s))) (refusal.TooMany MOST_MARKS)) [] room).0) in
     record {
       answering = rw (count-push is_answering s (step.Mark m max)) (omega (arith, h.answering));
       marks = rw (count-push is_mark s (step.Mark m max)) (omega arith);

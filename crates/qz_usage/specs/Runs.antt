@@ -2,12 +2,13 @@
 use Rattle.std.specs.Prelude.{◌≡◌, ℕ, ◌+◌, ◌≤◌, Bool, false, List, [], ◌∷◌, ◌++◌, length, filter, ℤ, pos}
 use Rattle.std.specs.List.{list_any}
 use Rattle.qz_decimal.specs.Numbers.{IsMaxMark, IsWithin}
+use Rattle.qz_grading.specs.declared.limits.TheConstants.{MOST_ANSWERING, MOST_MARKS}
 use Rattle.qz_grading.specs.declared.outcome.Behaviour.{Behaviour}
 use Rattle.qz_grading.specs.declared.outcome.Outcome.{Outcome}
 use Rattle.qz_grading.specs.declared.question.Question.{Question}
 use Rattle.qz_grading.specs.declared.response.Step.{Step}
 use Rattle.qz_grading.specs.Questions.{IsQuestion}
-use Rattle.qz_grading.specs.Slots.{is_misfit, most_answering, most_marks}
+use Rattle.qz_grading.specs.Slots.{is_misfit}
 use Rattle.qz_grading.specs.Steps.{is_answering, is_finish, is_mark}
 use Rattle.qz_terms.specs.declared.plan.Bound.{Bound}
 use Rattle.qz_usage.specs.declared.player.Player.{Player}
@@ -48,8 +49,8 @@ IsGiven m = IsWithin (pos 0) m.1 m.0 × IsMaxMark m.1
 
 -- as many steps as a slot takes; a finish is taken once
 pub record IsWithinLimits (s : List Step) : Type 0 where
-  pub answering : length (filter is_answering s) ≤ most_answering
-  pub marks : length (filter is_mark s) ≤ most_marks
+  pub answering : length (filter is_answering s) ≤ MOST_ANSWERING
+  pub marks : length (filter is_mark s) ≤ MOST_MARKS
   pub finishes : length (filter is_finish s) ≤ 1
 
 -- one more step at the end, and nothing else is bound

@@ -19,7 +19,3 @@ scored s = record { state = slot_state (behaviour_of s.0) s.1 s.0.steps; max = s
 -- with another slot at a place, from 1, if there is one
 abbrev pub with_slot : List Run → ℕ → Run → List Run
 with_slot slots k r = if k == 0 then slots else slice_set slots (k - 1) r
-
--- so many slots a quiz has
-abbrev pub most_slots : ℕ
-most_slots = 200

@@ -14,19 +14,14 @@ ghost use Rattle.qz_usage.specs.Runs.{behaviour_of, outcome_of, IsBound, IsGiven
 use crate::player::Player;
 use qz_decimal::{Fraction, Mark, Tone, fraction_of, mark_of, rescale, tone_of};
 use qz_grading::{
-    Behaviour, Kind, Moved, Outcome, Question, Refusal, Shape, State, Step, Steps, fits, shape_of,
+    Behaviour, Kind, MOST_ANSWERING, MOST_MARKS, Moved, Outcome, Question, Refusal, Shape, State,
+    Step, Steps, fits, shape_of,
 };
 use qz_terms::Bound;
 use qz_text::NoMemory;
 use std::alloc::Global;
 use std::marker::Model;
 use std::sync::ledger::Ledger;
-
-/// So many Save, Submit and Again steps a slot takes.
-const MOST_ANSWERING: u32 = 10_000;
-
-/// So many Mark steps a slot takes.
-const MOST_MARKS: u32 = 1_000;
 
 /// A slot of an attempt: how it behaves, what is bound to it, the steps taken, and what came of them.
 ///

@@ -10,7 +10,8 @@ ghost use Rattle.qz_grading.specs.declared.question.Question.{Question};
 ghost use Rattle.qz_grading.specs.Grading.{at_place};
 ghost use Rattle.qz_terms.specs.Rows.{IsTotal, awaits_mark, total_of};
 ghost use Rattle.qz_usage.specs.Runs.{IsBound};
-ghost use Rattle.qz_usage.specs.Usages.{AreBound, scored, with_slot, most_slots};
+ghost use Rattle.qz_usage.specs.Usages.{AreBound, scored, with_slot};
+ghost use Rattle.qz_terms.specs.declared.limits.TheConstants.{MOST_SLOTS};
 
 use crate::SlotRun;
 use qz_decimal::Mark;
@@ -26,13 +27,13 @@ pub struct Usage {
 impl Model for Usage {
     ghost use Rattle.std.specs.Prelude.{◌≤◌, List, length};
     ghost use Rattle.qz_usage.specs.Runs.{Run};
-    ghost use Rattle.qz_usage.specs.Usages.{most_slots};
+    ghost use Rattle.qz_terms.specs.declared.limits.TheConstants.{MOST_SLOTS};
 
     ghost Value = { List Run };
 
     ghost view = { λ u. u.slots.items };
 
-    ghost invariant = { λ u. length u.slots.items ≤ most_slots };
+    ghost invariant = { λ u. length u.slots.items ≤ MOST_SLOTS };
 }
 
 /// Whether a teacher's mark is missing that would count.
@@ -53,7 +54,7 @@ fn counted(slot: &SlotRun) -> i64
 impl Usage {
     /// The slots that are given, at most 200.
     pub fn of(slots: Vec<SlotRun>) -> Usage
-        requires { length slots.items ≤ most_slots }
+        requires { length slots.items ≤ MOST_SLOTS }
         ensures { result ≡ slots.items }
     {
         Usage { slots }

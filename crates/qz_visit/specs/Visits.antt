@@ -1,5 +1,6 @@
 -- A school behind locks as one who asks it sees it: a pass of each lock, what a request found of each list, and what it came to.
 use Rattle.std.specs.Prelude.{◌≡◌, ◌≢◌, ◌⊎◌, ℕ, ◌+◌, ◌-◌, ◌<◌, ◌≤◌, Bool, true, false, List, [], ◌∷◌, length, map, slice_get, sum_by, Option, None, Some, Result, MatchResult}
+use Rattle.qz_terms.specs.declared.limits.TheConstants.{MOST_SHARDS}
 use Rattle.qz_catalog_turns.specs.declared.replied.OwnRecord.{OwnRecord}
 use Rattle.qz_catalog_turns.specs.declared.replied.OwnRecord.TheVariants as own
 use Rattle.qz_catalog_turns.specs.declared.replied.Replied.{Replied}
@@ -39,7 +40,7 @@ pub record IsPlaced (records : Lock (Unit {0})) (count k : ℕ) (parts : Lock Pl
 -- there is a shard, there are 64 at most, and each shard's lock is that of its place
 pub record IsSchool (records : Locked (Unit {0})) (parts : List (Locked Placed)) : Type 0 where
   pub some : 0 < length parts
-  pub few : length parts ≤ 64
+  pub few : length parts ≤ MOST_SHARDS
   pub placed : (k : ℕ) (l : Locked Placed) → slice_get parts k ≡ Some l → IsPlaced records.lock (length parts) k l.lock
 
 -- ---- its passes

@@ -1,6 +1,7 @@
 //! What is kept of a request.
 
 ghost use Rattle.std.specs.Prelude.{◌≡◌, ◌<◌, None};
+ghost use Rattle.qz_terms.specs.declared.limits.TheConstants.{MOST_SHARDS};
 ghost use Rattle.qz_catalog_turns.specs.declared.replied.OwnRecord.TheVariants as own;
 ghost use Rattle.qz_visit.specs.Visits.{at_part};
 ghost use Rattle.qz_visit.specs.Ways.{replied_of};
@@ -38,7 +39,7 @@ pub(crate) struct Said {
 impl Said {
     /// What the shard at this index said.
     pub(crate) fn by_shard(index: usize, told: Result<Replied, Refusal>) -> Said
-        requires { index < 64 }
+        requires { index < MOST_SHARDS }
         ensures { result ≡ at_part index (replied_of told) }
     {
         let list = Some(index as u8);

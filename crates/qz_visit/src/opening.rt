@@ -1,6 +1,7 @@
 //! A school is put behind locks.
 
 ghost use Rattle.std.specs.Prelude.{◌≡◌, ◌+◌, ◌≤◌, [], length, reverse, IfOk, IfErr, vec_len, vec_capacity};
+ghost use Rattle.qz_terms.specs.declared.limits.TheConstants.{MOST_SHARDS};
 ghost use Rattle.qz_keeper.specs.Lists.{EachMayStand};
 ghost use Rattle.qz_school.specs.Solos.{AgreeAll, ArePlaced, IsSolo, school_of};
 ghost use Rattle.qz_terms.specs.Legal.{AllAgree, IsLegalCatalog};
@@ -99,7 +100,7 @@ fn open_all<K: Keeper>(
     seats: u32,
 ) -> Result<(School<K>, Seats<K>), (Catalog<K>, Vec<Shard<K>>)>
     requires solo { IsSolo catalog shards.items }
-    requires few { length shards.items ≤ 64 }
+    requires few { length shards.items ≤ MOST_SHARDS }
     requires legal { EachMayStand IsLegalCatalog catalog.held }
     requires none { (locks.items ≡ []) × (passes.items ≡ []) }
     requires room { (vec_len shards ≤ vec_capacity locks) × (vec_len shards ≤ vec_capacity passes) }

@@ -1,20 +1,21 @@
 -- What the word of a response answers.
 use Rattle.std.specs.Prelude.{ℕ, Bool, ◌&&◌, nat_le, if◌then◌else◌, List, [], ◌∷◌, length, Option, Some, None, option_map, option_and_then, bytes_eq, codes}
 use Rattle.std.specs.Str.{is_utf8}
+use Rattle.qz_grading.specs.declared.limits.TheConstants.{MOST_PARTS, MOST_TEXT}
 use Rattle.qz_grading.specs.declared.response.Answer.{Answer}
 use Rattle.qz_grading.specs.declared.response.Answer.TheVariants as answer
 use Rattle.qz_wire.specs.Lines.{after, number_within}
 use Rattle.qz_wire.specs.Words.{onto, parts_at, unescaped}
 
 abbrev pub pick_of : List ℕ → Option Answer
-pick_of word = option_map answer.Pick (number_within 1 64 word)
+pick_of word = option_map answer.Pick (number_within 1 MOST_PARTS word)
 
 -- ---- lists of numbers
 
--- what each part spells, from this number to 64
+-- what each part spells, from this number to the greatest
 abbrev pub each_number : ℕ → List (List ℕ) → Option (List ℕ)
 each_number low [] = Some []
-each_number low (part ∷ parts) = onto (number_within low 64 part) (each_number low parts)
+each_number low (part ∷ parts) = onto (number_within low MOST_PARTS part) (each_number low parts)
 
 -- one number or more, with a comma between them
 abbrev pub numbers_of : ℕ → List ℕ → Option (List ℕ)
@@ -30,7 +31,7 @@ match_of word = option_map answer.Match (numbers_of 0 word)
 -- ---- typed texts
 
 abbrev pub is_typed : List ℕ → Bool
-is_typed text = is_utf8 text && nat_le (length text) 65536
+is_typed text = is_utf8 text && nat_le (length text) MOST_TEXT
 
 -- a text may be empty here
 abbrev pub typed_of : List ℕ → Option Answer

@@ -2,6 +2,7 @@
 use Rattle.std.specs.List.{list_all, list_any}
 use Rattle.std.specs.Prelude.{ℕ, Bool, not, ◌&&◌, ◌||◌, ◌==◌, nat_lt, nat_le, if◌then◌else◌, List, [], ◌∷◌, length, Option, Some, None, is_some, option_and_then, Result, Ok, Err, ℤ, bytes_eq, codes}
 use Rattle.std.specs.Result.{result_ok}
+use Rattle.qz_grading.specs.declared.limits.TheConstants.{MOST_HINT, MOST_HINTS}
 use Rattle.qz_decimal.specs.Reading.{mark_in, fraction_in, grade_in}
 use Rattle.qz_grading.specs.declared.outcome.Behaviour.{Behaviour}
 use Rattle.qz_grading.specs.declared.outcome.Behaviour.TheVariants as behaviour
@@ -92,14 +93,14 @@ quiz_grade_of word = result_ok (grade_in word)
 
 -- 1 to 4,096 bytes
 abbrev pub hint_of : List ℕ → Option (List ℕ)
-hint_of line = if (length line == 0) || nat_lt 4096 (length line) then None else utf8_of line
+hint_of line = if (length line == 0) || nat_lt MOST_HINT (length line) then None else utf8_of line
 
 abbrev pub is_hint : List ℕ → Bool
 is_hint line = is_some (hint_of line)
 
 -- at most 20 lines, each of which is a hint
 abbrev pub hints_on : List (List ℕ) → Option (List (List ℕ))
-hints_on lines = if nat_le (length lines) 20 && list_all is_hint lines then Some lines else None
+hints_on lines = if nat_le (length lines) MOST_HINTS && list_all is_hint lines then Some lines else None
 
 -- one a line; the empty text has none
 abbrev pub hints_in : List ℕ → Option (List (List ℕ))

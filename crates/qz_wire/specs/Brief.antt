@@ -1,5 +1,6 @@
 -- What is asked is brief. The records of such a request, but for an import, have a length that a list always takes.
 use Rattle.std.specs.Prelude.{ℕ, ◌≤◌, List, length, IfSome}
+use Rattle.qz_terms.specs.declared.limits.TheConstants.{LONGEST_KEY}
 use Rattle.qz_record.specs.Lengths.{NamesBriefly}
 use Rattle.qz_terms.specs.declared.ask.Ask.{Ask}
 use Rattle.qz_terms.specs.declared.people.Caller.{Caller}
@@ -7,7 +8,7 @@ use Rattle.qz_terms.specs.declared.people.Caller.TheVariants as caller
 
 -- a token or a key has 1 to 64 bytes
 abbrev pub IsBriefToken : List ℕ → Type 0
-IsBriefToken token = (1 ≤ length token) × (length token ≤ 64)
+IsBriefToken token = (1 ≤ length token) × (length token ≤ LONGEST_KEY)
 
 -- a worker has no token
 abbrev pub IsBriefCaller : Caller → Type 0

@@ -3,6 +3,7 @@ use Rattle.std.specs.Char.{is_ascii_alphanumeric}
 use Rattle.std.specs.List.{list_all, slice_split}
 use Rattle.std.specs.Prelude.{◌≡◌, ℕ, Bool, not, ◌&&◌, ◌||◌, ◌==◌, nat_le, if◌then◌else◌, List, [], ◌∷◌, ◌++◌, length, Option, Some, None, option_map, option_and_then, Result, Ok, Err, bytes_eq, codes}
 use Rattle.std.specs.Str.{is_utf8}
+use Rattle.qz_terms.specs.declared.limits.TheConstants.{GREATEST_MOMENT, LONGEST_DURATION, LONGEST_KEY, MOST_ALLOWED}
 use Rattle.qz_grading.specs.declared.refusal.AttemptId.{AttemptId}
 use Rattle.qz_wire.specs.declared.words.WordFault.{WordFault}
 use Rattle.qz_wire.specs.declared.words.WordFault.TheVariants as fault
@@ -71,11 +72,8 @@ only_word words = None
 -- ---- numbers
 
 -- seconds since 1970, up to the year 2099
-abbrev pub last_moment : ℕ
-last_moment = 4102444799
-
 abbrev pub moment_of : List ℕ → Option ℕ
-moment_of word = number_within 0 last_moment word
+moment_of word = number_within 0 GREATEST_MOMENT word
 
 -- the number of a thing
 abbrev pub number_of : List ℕ → Option ℕ
@@ -92,11 +90,11 @@ certainty_of word = number_within 0 3 word
 
 -- seconds, up to 365 days
 abbrev pub duration_of : List ℕ → Option ℕ
-duration_of word = number_within 0 31536000 word
+duration_of word = number_within 0 LONGEST_DURATION word
 
 -- how many attempts there may be
 abbrev pub allowed_of : List ℕ → Option ℕ
-allowed_of word = number_within 0 1000 word
+allowed_of word = number_within 0 MOST_ALLOWED word
 
 -- `USER.NTH`
 abbrev pub attempt_by : List (List ℕ) → Option AttemptId
@@ -117,7 +115,7 @@ is_dash word = bytes_eq word (codes "-")
 
 -- 1 to 64 of them, but not a dash alone
 abbrev pub is_token : List ℕ → Bool
-is_token word = nat_le 1 (length word) && (nat_le (length word) 64 && (list_all is_token_byte word && not (is_dash word)))
+is_token word = nat_le 1 (length word) && (nat_le (length word) LONGEST_KEY && (list_all is_token_byte word && not (is_dash word)))
 
 abbrev pub token_of : List ℕ → Option (List ℕ)
 token_of word = if is_token word then Some word else None

@@ -7,17 +7,14 @@ ghost use Rattle.qz_wire.specs.Answers.{pick_of, numbers_of, picks_of, match_of,
 use crate::escapes::unescaped;
 use crate::lines::{after, number};
 use crate::words::cut;
-use qz_grading::{Answer, MOST_TEXT};
+use qz_grading::{Answer, MOST_PARTS, MOST_TEXT};
 use qz_text::{Listed, NoMemory, Typed};
 use std::alloc::Global;
-
-/// No choice or answer has a greater number.
-const GREATEST: u32 = 64;
 
 fn pick_in(word: &[u8]) -> Option<Answer>
     ensures { result ≡ pick_of word.now }
 {
-    let choice = number(word, 1, GREATEST)?;
+    let choice = number(word, 1, MOST_PARTS as u32)?;
     Some(Answer::Pick(choice as u8))
 }
 
@@ -28,13 +25,13 @@ fn numbers_in(alloc: Global, word: &[u8], low: u32) -> Result<Option<Listed<u8>>
     let mut items = Vec::new(alloc);
     let mut rest = word;
     while let Some((part, behind)) = cut(rest, b',') {
-        let Some(value) = number(part, low, GREATEST) else {
+        let Some(value) = number(part, low, MOST_PARTS as u32) else {
             return Ok(None);
         };
         items.push(value as u8)?;
         rest = behind;
     }
-    let Some(value) = number(rest, low, GREATEST) else {
+    let Some(value) = number(rest, low, MOST_PARTS as u32) else {
         return Ok(None);
     };
     items.push(value as u8)?;

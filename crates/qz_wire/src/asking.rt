@@ -1,12 +1,13 @@
 //! What a line of a script asks.
 
 ghost use Rattle.std.specs.Prelude.{◌≤◌, IfOk, IfSome};
+ghost use Rattle.qz_terms.specs.declared.limits.TheConstants.{GREATEST_MOMENT};
 ghost use Rattle.qz_wire.specs.Asking.{verb_of, ask_of, CanBeAsked, IsOfVerb};
 ghost use Rattle.qz_wire.specs.Brief.{IsBriefToken};
 ghost use Rattle.qz_wire.specs.Faults.{ReadsOr};
 ghost use Rattle.qz_wire.specs.Numbered.{line_at as word_at};
 ghost use Rattle.qz_wire.specs.Requests.{request_of};
-ghost use Rattle.qz_wire.specs.Words.{words_of, words_after, moment_of, last_moment, key_of, Reads};
+ghost use Rattle.qz_wire.specs.Words.{words_of, words_after, moment_of, key_of, Reads};
 
 use crate::arguments::{malformed, token_at};
 use crate::attempt_requests::{
@@ -66,7 +67,7 @@ pub fn request(alloc: Global, verb: Verb, rest: &[u8]) -> Result<Request, Refusa
 
 fn first_moment<'a>(line: &'a [u8]) -> Result<(u64, &'a [u8]), WordFault>
     ensures value { Reads (λ r. (r.0, words_after r.1.now)) result (word_at moment_of 1 (words_of line.now)) }
-    ensures range { IfOk result (λ r. r.0 ≤ last_moment) }
+    ensures range { IfOk result (λ r. r.0 ≤ GREATEST_MOMENT) }
 {
     let (word, rest) = first_word(line);
     match moment_in(word) {

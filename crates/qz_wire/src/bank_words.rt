@@ -14,16 +14,13 @@ use crate::escapes::{text_in, utf8_in};
 use crate::words::cut;
 use gift_read::{GiftFault, read};
 use qz_decimal::{Fraction, Grade, Mark};
-use qz_grading::{Bank, Behaviour, Item, MOST_HINT, Question, Refusal};
+use qz_grading::{Bank, Behaviour, Item, MOST_HINT, MOST_HINTS, Question, Refusal};
 use qz_terms::{Handling, Method, Review, Role, Whom};
 use qz_text::{Listed, NoMemory, Text};
 use std::alloc::Global;
 
 /// A name has at most so many bytes.
 const LONGEST_NAME: usize = 255;
-
-/// There are at most so many hints.
-const MOST_HINTS: usize = 20;
 
 /// A GIFT text has at most so many bytes.
 const LONGEST_GIFT: usize = 8_388_608;

@@ -2,6 +2,7 @@
 
 ghost use Rattle.std.specs.List.{list_all};
 ghost use Rattle.std.specs.Prelude.{◌≡◌, ◌≤◌, ◌∷◌, [], Some, true, MatchOption, IfSome, option_copied, option_map};
+ghost use Rattle.qz_terms.specs.declared.limits.TheConstants.{GREATEST_MOMENT};
 ghost use Rattle.qz_wire.specs.Brief.{IsBriefToken};
 ghost use Rattle.qz_wire.specs.Numbered.{line_at as word_at};
 ghost use Rattle.qz_terms.specs.Kept.{is_moment, is_duration, is_allowed, if_there};
@@ -9,6 +10,7 @@ ghost use Rattle.qz_wire.specs.Words.{parts_at, words_of, words_after, moment_of
 
 use crate::lines::{number, place_of};
 use qz_grading::{AttemptId, Refusal};
+use qz_terms::{GREATEST_MOMENT, LONGEST_DURATION, LONGEST_KEY, MOST_ALLOWED};
 use qz_text::NoMemory;
 
 /// Why words couldn't be read.
@@ -43,18 +45,6 @@ impl From<WordFault> for Refusal {
     }
 }
 
-/// The greatest moment, at the end of 2099.
-const LAST_MOMENT: u32 = 4_102_444_799;
-
-/// The longest time in seconds, 365 days.
-const LONGEST_DURATION: u32 = 31_536_000;
-
-/// The most attempts that a quiz may allow.
-const MOST_ALLOWED: u32 = 1_000;
-
-/// A token or a key has at most so many bytes.
-const TOKEN: usize = 64;
-
 /// What stands before and behind the first of these bytes.
 pub fn cut(text: &[u8], byte: u8) -> Option<(&[u8], &[u8])>
     ensures { MatchOption result (parts_at byte text.now ≡ text.now ∷ []) (λ r. IsCutAt byte text.now r.0.now r.1.now) }
@@ -88,9 +78,9 @@ pub fn next_word<'a>(rest: &mut &'a [u8], place: u32) -> Result<&'a [u8], WordFa
 /// The moment that a word spells, in seconds since 1970.
 pub fn moment_in(word: &[u8]) -> Option<u64>
     ensures value { result ≡ moment_of word.now }
-    ensures range { IfSome result (λ moment. moment ≤ 4102444799) }
+    ensures range { IfSome result (λ moment. moment ≤ GREATEST_MOMENT) }
 {
-    Some(u64::from(number(word, 0, LAST_MOMENT)?))
+    Some(u64::from(number(word, 0, GREATEST_MOMENT as u32)?))
 }
 
 /// The number of a thing.
@@ -173,7 +163,7 @@ fn is_dash(word: &[u8]) -> bool
 fn is_token(word: &[u8]) -> bool
     ensures { result ≡ is_token word.now }
 {
-    1 <= word.len() && word.len() <= TOKEN && has_token_bytes(word) && !is_dash(word)
+    1 <= word.len() && word.len() <= LONGEST_KEY && has_token_bytes(word) && !is_dash(word)
 }
 
 /// The token or key that a word is.

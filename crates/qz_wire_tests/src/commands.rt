@@ -34,6 +34,13 @@ fn told(alloc: Global, words: &[Text]) -> Result<String, NoMemory> {
             format!(in alloc; "{folder} at {port} by {workers} and {regraders} until {links}")?
         }
         Ok(Command::Bulk { count }) => format!(in alloc; "bulk of {count}")?,
+        Ok(
+            Command::Stats {
+                folder,
+                quiz,
+                workers,
+            },
+        ) => format!(in alloc; "quiz {quiz} in {} by {workers}", folder.as_str())?,
         Err(WordsFault::BadWords) => String::from_str(alloc, "none")?,
         Err(WordsFault::Memory) => return Err(NoMemory),
     })
@@ -66,6 +73,8 @@ fn each_command_is_told(rt: HostRuntime) -> Result<(), Fail> {
         ),
         ("bulk 1", "bulk of 1"),
         ("bulk 2000", "bulk of 2000"),
+        ("stats s 0 1", "quiz 0 in s by 1"),
+        ("stats s 4294967295 16", "quiz 4294967295 in s by 16"),
     ] {
         let said = told_of_line(alloc, line)?;
         assert!(rt; said.as_str() == want, "{line}");
@@ -90,6 +99,10 @@ fn other_words_are_no_command(rt: HostRuntime) -> Result<(), Fail> {
         "serve a 1 1 9 1",
         "serve a 1 1 0 1000000001",
         "bulk 2001",
+        "stats a 1",
+        "stats a 1 0",
+        "stats a 1 17",
+        "stats a 4294967296 1",
     ] {
         let said = told_of_line(alloc, line)?;
         assert!(rt; said.as_str() == "none", "{line}");
