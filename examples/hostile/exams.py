@@ -10,6 +10,7 @@ import shutil
 import subprocess
 import sys
 import tempfile
+import time
 from concurrent.futures import ProcessPoolExecutor
 from contextlib import contextmanager
 from pathlib import Path
@@ -94,7 +95,7 @@ def images(folder):
 
 
 def lists(folder):
-    """The files of a folder, of which nothing stands behind the last gate. That is shut by any byte but 1; and a file that isn't
+    """The files of a folder, where nothing stands behind the last gate. That is shut by any byte but 1; and a file that isn't
     longer than a header and a gate stands for no record, whatever it holds."""
     return {name: normal(image) for name, image in images(folder).items()}
 
@@ -249,6 +250,20 @@ class Exam:
         # Without a key the line would act twice.
         keyless = told < len(self.lines) and " - " in self.lines[told]
         self.same_afterwards(tally, what, folder, told + (one_more and keyless))
+
+
+def listens(port, server):
+    """Waits until a port is open, which is told by the system: a connection would be one of those that are served. Whether it
+    was, before the program ended."""
+    wanted = f":{port:04X} "
+    for _ in range(50 * PATIENCE):
+        with open("/proc/net/tcp") as ports:
+            if any(" 0A " in line and wanted in line.split(" 0A ")[0] for line in ports):
+                return True
+        if server.poll() is not None:
+            return False
+        time.sleep(0.02)
+    sys.exit("nothing listens")
 
 
 # ---- strace
