@@ -1,7 +1,7 @@
 mod Sameness
 mod Tested
 mod Mapped
-mod Verdicts
+pub mod Verdicts
 mod Walking
 mod Sweeping
 mod Final

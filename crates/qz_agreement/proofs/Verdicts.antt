@@ -229,7 +229,7 @@ within-by c n j (Some x) is told =
     (let low = there.0 in omega (arith, low, place), let high = there.1 in omega (arith, high, place))
 
 -- a job's position is that of a record
-job-within : (c : List Record) (n : ℕ) (j : Job) → catalog.job c n ≡ Some j → (1 ≤ j.position) × (j.position ≤ length c)
+pub job-within : (c : List Record) (n : ℕ) (j : Job) → catalog.job c n ≡ Some j → (1 ≤ j.position) × (j.position ≤ length c)
 job-within c n j told = within-by c n j (at_place (catalog.jobs c) n) refl told
 
 pub rebound-pending : (c l : List Record) (job : ℕ) (a : AttemptId) (k q : ℕ) (b : Bound) (learned : List Learned) → history.quiz l a ≡ Some q → BindsByJob c job q k b

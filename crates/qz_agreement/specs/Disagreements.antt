@@ -1,46 +1,27 @@
--- The first record of a school's shards that doesn't agree with the catalogue.
-use Rattle.std.specs.Prelude.{◌≡◌, ℕ, ◌+◌, ◌<◌, List, length, Option, None, Some, slice_get}
+-- The first record of a shard that doesn't agree with a catalogue.
+use Rattle.std.specs.Prelude.{◌≡◌, ℕ, ◌+◌, List, Option, None, Some}
 use Rattle.qz_terms.specs.declared.record.Record.{Record}
 use Rattle.qz_terms.specs.Legal.{AllAgree, IsAltered, IsBehind, IsLegal}
 use Rattle.qz_agreement.specs.declared.disagreement.Disagreement.{Disagreement}
 use Rattle.qz_agreement.specs.declared.disagreement.Disagreement.TheVariants as disagreement
 use Rattle.qz_agreement.specs.Tests.{first_past}
 
--- each list is legal for its shard
-pub record AreLegal (parts : List (List Record)) : Type 0 where
-  pub each : (k : ℕ) (h : List Record) → slice_get parts k ≡ Some h → IsLegal k (length parts) h
+-- the records of a shard, whichever it is and of however many
+pub record AreOfShard (h : List Record) : Type 0 where
+  pub index : ℕ
+  pub count : ℕ
+  pub legal : IsLegal index count h
 
--- the records of every shard agree
-pub record AgreeAll (c : List Record) (parts : List (List Record)) : Type 0 where
-  pub each : (k : ℕ) (h : List Record) → slice_get parts k ≡ Some h → AllAgree c h
+-- the first that doesn't agree
+abbrev pub IsFirst : List Record → List Record → Disagreement → Type 0
+IsFirst c h (disagreement.Behind position) = IsBehind c h position
+IsFirst c h (disagreement.Altered place) = IsAltered c h place
 
--- those of the shards before this one do
-pub record AgreeBefore (c : List Record) (parts : List (List Record)) (shard : ℕ) : Type 0 where
-  pub each : (k : ℕ) (h : List Record) → k < shard → slice_get parts k ≡ Some h → AllAgree c h
+abbrev pub IsAnswer : List Record → List Record → Option Disagreement → Type 0
+IsAnswer c h None = AllAgree c h
+IsAnswer c h (Some d) = IsFirst c h d
 
--- The first that doesn't is in this shard, and the catalogue is behind it.
-pub record IsBehindIn (c : List Record) (parts : List (List Record)) (shard position : ℕ) : Type 0 where
-  pub before : AgreeBefore c parts shard
-  pub own : List Record
-  pub own_is : slice_get parts shard ≡ Some own
-  pub behind : IsBehind c own position
-
--- The first that doesn't is in this shard, at this place, and it or the catalogue was altered.
-pub record IsAlteredIn (c : List Record) (parts : List (List Record)) (shard place : ℕ) : Type 0 where
-  pub before : AgreeBefore c parts shard
-  pub own : List Record
-  pub own_is : slice_get parts shard ≡ Some own
-  pub altered : IsAltered c own place
-
-abbrev pub IsFirst : List Record → List (List Record) → Disagreement → Type 0
-IsFirst c parts (disagreement.Behind shard position) = IsBehindIn c parts shard position
-IsFirst c parts (disagreement.Altered shard place) = IsAlteredIn c parts shard place
-
-abbrev pub IsAnswer : List Record → List (List Record) → Option Disagreement → Type 0
-IsAnswer c parts None = AgreeAll c parts
-IsAnswer c parts (Some d) = IsFirst c parts d
-
--- what is told of a record that disagrees, at this index of a shard, over a catalogue of so many records
-abbrev pub IsTold : ℕ → ℕ → ℕ → Record → Disagreement → Type 0
-IsTold count shard index r (disagreement.Behind k position) = (k ≡ shard) × (first_past count r ≡ Some position)
-IsTold count shard index r (disagreement.Altered k place) = (k ≡ shard) × (place ≡ index + 1) × (first_past count r ≡ None)
+-- what is told of a record that disagrees, at this index, over a catalogue of so many records
+abbrev pub IsTold : ℕ → ℕ → Record → Disagreement → Type 0
+IsTold count index r (disagreement.Behind position) = first_past count r ≡ Some position
+IsTold count index r (disagreement.Altered place) = (place ≡ index + 1) × (first_past count r ≡ None)

@@ -1,17 +1,16 @@
-//! The first record that doesn't agree with the catalogue.
+//! The first record of a shard that doesn't agree with the catalogue.
 
-ghost use Rattle.std.specs.Prelude.{◌≡◌, ◌+◌, ◌<◌, ◌≤◌, IfOk, List, OnOk, Some, filter, find, length, map, nat_lt, slice_get};
-ghost use Rattle.qz_terms.specs.declared.limits.TheConstants.{MOST_SHARDS};
+ghost use Rattle.std.specs.Prelude.{◌≡◌, ◌<◌, IfOk, Some, filter, find, length, map, nat_lt, slice_get};
 ghost use Rattle.qz_terms.specs.declared.plan.Bound.{Bound};
 ghost use Rattle.qz_terms.specs.declared.record.Record.{Record};
 ghost use Rattle.qz_terms.specs.Catalog.{users};
-ghost use Rattle.qz_agreement.specs.Disagreements.{AreLegal, IsAnswer, IsTold};
-ghost use Rattle.qz_agreement.specs.Findings.{AreJudged, AreLookedAt, IsNext, lists};
+ghost use Rattle.qz_agreement.specs.Disagreements.{AreOfShard, IsAnswer, IsTold};
+ghost use Rattle.qz_agreement.specs.Findings.{AreJudged, AreLookedAt};
 ghost use Rattle.qz_terms.specs.Legal.{positions_by};
 ghost use Rattle.qz_terms.specs.Lists.{first_of};
 ghost use Rattle.qz_agreement.specs.Tests.{first_past};
 
-use crate::findings::{Findings, Spot};
+use crate::findings::Findings;
 use crate::look::look;
 use crate::quizzes::Quizzes;
 use crate::sweep::sweep;
@@ -24,9 +23,9 @@ use std::alloc::Global;
 #[derive(Clone, Copy, Debug, PartialEq, Eq)]
 pub enum Disagreement {
     /// The record names this position, which is past the catalogue's end: the catalogue is behind.
-    Behind { shard: u8, position: u64 },
-    /// The record at this place of its shard, from 1, was altered, or the catalogue was.
-    Altered { shard: u8, place: u64 },
+    Behind { position: u64 },
+    /// The record at this place, from 1, was altered, or the catalogue was.
+    Altered { place: u64 },
 }
 
 /// How many users the catalogue has.
@@ -43,54 +42,34 @@ fn user_count(alloc: Global, catalog: &CatalogCore) -> Result<usize, NoMemory>
 fn look_at(
     alloc: Global,
     catalog: &CatalogCore,
-    count: usize,
-    shard: u8,
-    part: &[Record],
-    findings: &mut Findings,
-) -> Result<(), NoMemory>
-    requires users { count ≡ length (users catalog.now) }
-    ensures { OnOk result ((parts : List (List Record)) → IsNext catalog.now parts findings.old shard part.now → AreLookedAt catalog.now parts findings.new (shard + 1)) }
-{
-    let mut quizzes = Quizzes::new(alloc);
-    for (index, record) in part.iter().enumerate() {
-        let verdict = look(alloc, catalog, count, &quizzes, record)?;
-        findings.note(Spot { shard, index }, verdict)?;
-        quizzes.follow(record)?;
-    }
-    Ok(())
-}
-
-/// Looks at the records of every shard, in order.
-fn look_at_all(
-    alloc: Global,
-    catalog: &CatalogCore,
-    parts: &[&[Record]],
+    records: &[Record],
 ) -> Result<Findings, NoMemory>
-    requires few { length parts.now ≤ MOST_SHARDS }
-    requires legal { AreLegal (lists parts.now) }
-    ensures { IfOk result (λ f. AreLookedAt catalog.now (lists parts.now) f (length parts.now)) }
+    requires legal { AreOfShard records.now }
+    ensures { IfOk result (λ f. AreLookedAt catalog.now records.now f (length records.now)) }
 {
     let count = user_count(alloc, catalog)?;
+    let mut quizzes = Quizzes::new(alloc);
     let mut findings = Findings::new(alloc);
-    for (shard, part) in parts.iter().enumerate() {
-        look_at(alloc, catalog, count, shard as u8, part, &mut findings)?;
+    for (index, record) in records.iter().enumerate() {
+        let verdict = look(alloc, catalog, count, &quizzes, record)?;
+        findings.note(index, verdict)?;
+        quizzes.follow(record)?;
     }
     Ok(findings)
 }
 
-/// The first record that is known to disagree, once all is asked.
+/// The index of the first record that is known to disagree, once all is asked.
 fn first_bad(
     alloc: Global,
     catalog: &CatalogCore,
-    parts: &[&[Record]],
-) -> Result<Option<Spot>, NoMemory>
-    requires few { length parts.now ≤ MOST_SHARDS }
-    requires legal { AreLegal (lists parts.now) }
-    ensures { IfOk result (AreJudged catalog.now (lists parts.now)) }
+    records: &[Record],
+) -> Result<Option<usize>, NoMemory>
+    requires legal { AreOfShard records.now }
+    ensures { IfOk result (AreJudged catalog.now records.now) }
 {
-    let mut findings = look_at_all(alloc, catalog, parts)?;
+    let mut findings = look_at(alloc, catalog, records)?;
     findings.claims.sort_by_key(|claim| claim.at)?;
-    sweep(alloc, catalog, parts, &findings.claims, findings.first)
+    sweep(alloc, catalog, records, &findings.claims, findings.first)
 }
 
 /// The first position that a record names past the end of a catalogue of so many.
@@ -127,40 +106,33 @@ fn bound_past(count: u64, event: &Event) -> Option<u64>
     }
 }
 
-/// What is told of the record at this index of a shard, which disagrees, over a catalogue of so many records.
-fn told(count: u64, shard: u8, part: &[Record], index: usize) -> Disagreement
-    requires { index < length part.now }
-    ensures { (r : Record) → slice_get part.now index ≡ Some r → IsTold count shard index r result }
+/// What is told of the record at this index, which disagrees, over a catalogue of so many records.
+fn told(count: u64, records: &[Record], index: usize) -> Disagreement
+    requires { index < length records.now }
+    ensures { (r : Record) → slice_get records.now index ≡ Some r → IsTold count index r result }
 {
-    match first_past(count, &part[index]) {
-        Some(position) => Disagreement::Behind { shard, position },
+    match first_past(count, &records[index]) {
+        Some(position) => Disagreement::Behind { position },
         None => Disagreement::Altered {
-            shard,
             place: index as u64 + 1,
         },
     }
 }
 
-/// The first record of the shards' lists that doesn't agree with the catalogue, in order of shard and place, if there is one.
+/// The first of a shard's records that doesn't agree with the catalogue, in order, if there is one.
 ///
-/// Each list has to be legal for its shard, numbered from 0, of as many as there are lists: at most 64. The time grows with the
-/// records of the shards and of the catalogue, which is gone through once.
+/// They have to be a list that is legal for its shard. The time grows with these records and with those of the catalogue, which is gone
+/// through up to the greatest position that a record names within it.
 pub fn first_disagreement(
     alloc: Global,
     catalog: &CatalogCore,
-    parts: &[&[Record]],
+    records: &[Record],
 ) -> Result<Option<Disagreement>, NoMemory>
-    requires few { length parts.now ≤ MOST_SHARDS }
-    requires legal { AreLegal (lists parts.now) }
-    ensures { IfOk result (IsAnswer catalog.now (lists parts.now)) }
+    requires legal { AreOfShard records.now }
+    ensures { IfOk result (IsAnswer catalog.now records.now) }
 {
-    match first_bad(alloc, catalog, parts)? {
-        Some(spot) => Ok(Some(told(
-            catalog.len(),
-            spot.shard,
-            parts[usize::from(spot.shard)],
-            spot.index,
-        ))),
+    match first_bad(alloc, catalog, records)? {
+        Some(index) => Ok(Some(told(catalog.len(), records, index))),
         None => Ok(None),
     }
 }

@@ -1,48 +1,35 @@
-//! What is found while the records of the shards are looked at.
+//! What is found while the records of a shard are looked at.
 
 ghost use Rattle.std.specs.Prelude.{◌≡◌, None, OnOk, []};
-ghost use Rattle.qz_agreement.specs.Findings.{asked_after, earlier, first_after, is_no_later};
+ghost use Rattle.qz_agreement.specs.Findings.{asked_after, earlier, first_after};
 
 use crate::look::Verdict;
 use qz_text::NoMemory;
 use std::alloc::Global;
 
-/// A record: its shard, and its index in the shard's list, from 0.
-#[derive(Clone, Copy)]
-pub(crate) struct Spot {
-    pub(crate) shard: u8,
-    pub(crate) index: usize,
-}
-
-/// What is asked of the catalogue's first records, as many as `at`, about a record of an attempt of this quiz: whether it fits them.
+/// What is asked of the catalogue's first records, as many as `at`, about the record at this index of its list, which is of an attempt
+/// of this quiz: whether it fits them.
 #[derive(Clone, Copy)]
 pub(crate) struct Claim {
     pub(crate) at: u64,
     pub(crate) quiz: u32,
-    pub(crate) spot: Spot,
+    pub(crate) index: usize,
 }
 
-/// The first record that is known to disagree, and what is still to be asked.
+/// The index of the first record that is known to disagree, and what is still to be asked.
 #[derive(Drop)]
 pub(crate) struct Findings {
-    pub(crate) first: Option<Spot>,
+    pub(crate) first: Option<usize>,
     pub(crate) claims: Vec<Claim>,
 }
 
-/// Whether one stands no later than another, in order of shard and index.
-fn is_no_later(one: Spot, other: Spot) -> bool
-    ensures { result ≡ is_no_later one other }
-{
-    one.shard < other.shard || (one.shard == other.shard && one.index <= other.index)
-}
-
 /// The earlier of what was found first and one more.
-pub(crate) fn earlier(first: Option<Spot>, spot: Spot) -> Spot
-    ensures { result ≡ earlier first spot }
+pub(crate) fn earlier(first: Option<usize>, index: usize) -> usize
+    ensures { result ≡ earlier first index }
 {
     match first {
-        Some(first) if is_no_later(first, spot) => first,
-        _ => spot,
+        Some(first) if first <= index => first,
+        _ => index,
     }
 }
 
@@ -58,14 +45,15 @@ impl Findings {
     }
 
     /// Notes what is known of a record.
-    pub(crate) fn note(&mut self, spot: Spot, verdict: Verdict) -> Result<(), NoMemory>
-        ensures first { OnOk result (self.new.first ≡ first_after self.old.first spot verdict) }
-        ensures claims { OnOk result (self.new.claims.items ≡ asked_after self.old.claims.items spot verdict) }
+    pub(crate) fn note(&mut self, index: usize, verdict: Verdict) -> Result<(), NoMemory>
+        ensures first { OnOk result (self.new.first ≡ first_after self.old.first index verdict) }
+        ensures claims { OnOk result
+            (self.new.claims.items ≡ asked_after self.old.claims.items index verdict) }
     {
         match verdict {
             Verdict::Agreed => {}
-            Verdict::Denied => self.first = Some(earlier(self.first, spot)),
-            Verdict::Pending { at, quiz } => self.claims.push(Claim { at, quiz, spot })?,
+            Verdict::Denied => self.first = Some(earlier(self.first, index)),
+            Verdict::Pending { at, quiz } => self.claims.push(Claim { at, quiz, index })?,
         }
         Ok(())
     }

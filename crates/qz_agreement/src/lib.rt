@@ -1,4 +1,4 @@
-//! Which record of a school's shards is the first that doesn't agree with the catalogue.
+//! Which record of a shard is the first that doesn't agree with the catalogue.
 #![tactic(auto)]
 
 mod disagreement;

@@ -1,14 +1,14 @@
-//! The catalogue is gone through once, record by record, and its first records are asked what is left to ask of them.
+//! The catalogue is gone through once for a shard, record by record, and its first records are asked what is left to ask of them.
 
 ghost use Rattle.std.specs.Bool.{Decides};
 ghost use Rattle.std.specs.List.Sorted.{IsNonDecreasingBy};
 ghost use Rattle.std.specs.Prelude.{◌≡◌, ◌<◌, ◌≤◌, All, IfOk, OnOk, Some, length, slice_get, take};
 ghost use Rattle.qz_terms.specs.declared.record.Record.{Record};
 ghost use Rattle.qz_agreement.specs.declared.findings.Claim.{Claim};
-ghost use Rattle.qz_agreement.specs.Findings.{AreSwept, IsClaim, lists};
+ghost use Rattle.qz_agreement.specs.Findings.{AreSwept, IsClaim};
 ghost use Rattle.qz_agreement.specs.Fitting.{Fits};
 
-use crate::findings::{Claim, Spot, earlier};
+use crate::findings::{Claim, earlier};
 use crate::fitting::fits;
 use qz_catalog::CatalogCore;
 use qz_terms::Record;
@@ -46,13 +46,39 @@ fn begun(alloc: Global, whole: &CatalogCore) -> Result<CatalogCore, NoMemory>
 fn is_fit(
     alloc: Global,
     first: &CatalogCore,
-    part: &[Record],
+    records: &[Record],
     claim: &Claim,
 ) -> Result<bool, NoMemory>
-    requires { claim.now.spot.index < length part.now }
-    ensures { IfOk result (λ b. (r : Record) → slice_get part.now claim.now.spot.index ≡ Some r → Decides b (Fits first.now claim.now.quiz r r.event)) }
+    requires { claim.now.index < length records.now }
+    ensures { IfOk result (λ b. (r : Record) → slice_get records.now claim.now.index ≡ Some r
+        → Decides b (Fits first.now claim.now.quiz r r.event)) }
 {
-    fits(alloc, first, claim.quiz, &part[claim.spot.index])
+    fits(alloc, first, claim.quiz, &records[claim.index])
+}
+
+/// Whether the record that is asked about fits the first records that it names. Those are all that there are, or what was grown of them
+/// before is grown to them.
+fn fits_then(
+    alloc: Global,
+    whole: &CatalogCore,
+    first: &mut CatalogCore,
+    records: &[Record],
+    claim: &Claim,
+) -> Result<bool, NoMemory>
+    requires front { first.old ≡ take (length first.old) whole.now }
+    requires below { length first.old ≤ claim.now.at }
+    requires within { claim.now.at ≤ length whole.now }
+    requires index { claim.now.index < length records.now }
+    ensures fits { IfOk result (λ b. (r : Record) → slice_get records.now claim.now.index ≡ Some r
+        → Decides b (Fits (take claim.now.at whole.now) claim.now.quiz r r.event)) }
+    ensures front { OnOk result (first.new ≡ take (length first.new) whole.now) }
+    ensures below { OnOk result (length first.new ≤ claim.now.at) }
+{
+    if claim.at == whole.len() {
+        return is_fit(alloc, whole, records, claim);
+    }
+    grow(alloc, whole, first, claim.at)?;
+    is_fit(alloc, first, records, claim)
 }
 
 /// Asks all that is left to ask, which is in order of the positions. The first record that disagrees is told, of those asked about and
@@ -60,20 +86,19 @@ fn is_fit(
 pub(crate) fn sweep(
     alloc: Global,
     whole: &CatalogCore,
-    parts: &[&[Record]],
+    records: &[Record],
     claims: &[Claim],
-    found: Option<Spot>,
-) -> Result<Option<Spot>, NoMemory>
-    requires claims { All (IsClaim whole.now (lists parts.now)) claims.now }
+    found: Option<usize>,
+) -> Result<Option<usize>, NoMemory>
+    requires claims { All (IsClaim whole.now records.now) claims.now }
     requires sorted { IsNonDecreasingBy (λ (a : Claim). a.at) claims.now }
-    ensures { IfOk result (λ last. AreSwept whole.now (lists parts.now) claims.now found last (length claims.now)) }
+    ensures { IfOk result (λ last. AreSwept whole.now records.now claims.now found last (length claims.now)) }
 {
     let mut last = found;
     let mut first = begun(alloc, whole)?;
     for claim in claims {
-        grow(alloc, whole, &mut first, claim.at)?;
-        if !is_fit(alloc, &first, parts[usize::from(claim.spot.shard)], claim)? {
-            last = Some(earlier(last, claim.spot));
+        if !fits_then(alloc, whole, &mut first, records, claim)? {
+            last = Some(earlier(last, claim.index));
         }
     }
     Ok(last)

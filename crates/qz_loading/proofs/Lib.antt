@@ -8,3 +8,8 @@ pub mod GivingBack
 pub mod OpeningParts
 pub mod Listing
 pub mod Returning
+pub mod Spelled
+pub mod Within
+pub mod OneReading
+pub mod FirstBad
+pub mod Once

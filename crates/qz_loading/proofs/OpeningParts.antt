@@ -1,14 +1,16 @@
 -- Shards that are opened one behind another.
-use Rattle.std.proofs.Common.{◌≡◌, ℕ, ◌+◌, ◌<◌, ◌≤◌, ⊎_elim, List, [], ◌∷◌, ◌++◌, length, true, false, ap, sym, subst, ◌∙◌, arith, length-append}
+use Rattle.std.proofs.Common.{◌≡◌, ℕ, ◌+◌, ◌<◌, ◌≤◌, ⊎_elim, List, [], ◌∷◌, ◌++◌, length, None, Some, true, false, ap, sym, subst, ◌∙◌, arith, length-append}
 use Rattle.std.proofs.lemmas.Bool.{cases_lt}
 use Rattle.qz_disks.specs.Shelves.{ChangesAt, File, Files, Place, SameFile}
 use Rattle.qz_journal.specs.Journals.{Ledger}
 use Rattle.qz_loading.proofs.Finding.{is_place, later_no_part, parts_apart}
 use Rattle.qz_loading.proofs.Sounding.{pushed}
-use Rattle.qz_loading.proofs.Standing.{opened_like, same_then_stays, same_twice, stays_same}
-use Rattle.qz_loading.specs.Opening.{ArePartsOf, IsPartOf}
+use Rattle.qz_loading.proofs.Standing.{opened_like, same_then_stays, same_twice}
+use Rattle.qz_loading.specs.Opening.{ArePartsOf, IsPartOf, ShardsAgree}
 use Rattle.qz_loading.specs.Places.{IsNoPart, KeepsOthers, LeavesRest, PartsAre, StaysLike, part_place}
 use Rattle.qz_shard.specs.Keeping as part
+use Rattle.qz_terms.specs.declared.record.Record.{Record}
+use Rattle.qz_terms.specs.Legal.{AllAgree}
 
 -- the first shards are open, so many
 pub record IsOpening {D : Type 0} (moment : D → ℕ) (left_at : D → ℕ → List ℕ → Type 0) (folder : List ℕ) (old now : Files) (count index : ℕ) (parts : List (part.Keeping (Ledger D))) : Type 0 where
@@ -59,19 +61,20 @@ one_more_open moment left_at folder old now new count index parts s few o is out
 -- the next one isn't opened
 pub rest_left : (folder : List ℕ) (old now new : Files) (count index : ℕ) → count ≤ 64 → index < count → PartsAre false folder count old → KeepsOthers folder index old now → StaysLike (now.file (part_place folder index)) (new.file (part_place folder index))
     → new.is_out (part_place folder index) ≡ false → ChangesAt (part_place folder index) now new → LeavesRest folder index count old new
-rest_left folder old now new count index few below free others stays back changes = record { parts = parts_stay; others = others_same; is_out = is_out_same }
+rest_left folder old now new count index few below free others stays back changes = record {
+  next = same_then_stays (old.file (part_place folder index)) (now.file (part_place folder index)) (new.file (part_place folder index)) here_same stays;
+  behind = behind_same;
+  others = others_same;
+  is_out = is_out_same;
+}
   where
     here_same : SameFile (old.file (part_place folder index)) (now.file (part_place folder index))
     here_same = next_same folder old now index (omega arith) others
 
-    parts_stay : (k : ℕ) → index ≤ k → k < count → StaysLike (old.file (part_place folder k)) (new.file (part_place folder k))
-    parts_stay k from inside =
-        ⊎_elim
-        (λ more. stays_same (old.file (part_place folder k)) (new.file (part_place folder k)) (same_twice (old.file (part_place folder k)) (now.file (part_place folder k)) (new.file (part_place folder k))
-        (others.file (part_place folder k) (later_no_part folder index k (omega arith) (omega arith)))
-        (changes.file (part_place folder k) (λ same. (let x : k ≡ index = parts_apart folder k index (omega arith) (omega arith) same in omega (arith, x, more))))))
-        (λ least. (let e : index ≡ k = omega arith in subst (λ n. StaysLike (old.file (part_place folder n)) (new.file (part_place folder n))) e (same_then_stays (old.file (part_place folder index)) (now.file (part_place folder index)) (new.file (part_place folder index)) here_same stays)))
-        (cases_lt index k)
+    behind_same : (k : ℕ) → index < k → k < count → SameFile (old.file (part_place folder k)) (new.file (part_place folder k))
+    behind_same k more inside =
+        same_twice (old.file (part_place folder k)) (now.file (part_place folder k)) (new.file (part_place folder k)) (others.file (part_place folder k) (later_no_part folder index k (omega arith) (omega arith)))
+        (changes.file (part_place folder k) (λ same. (let x : k ≡ index = parts_apart folder k index (omega arith) (omega arith) same in omega (arith, x, more))))
 
     others_same : (at : Place) → IsNoPart folder count at → SameFile (old.file at) (new.file at)
     others_same at none = same_twice (old.file at) (now.file at) (new.file at) (others.file at (record { each = λ k less. none.each k (omega arith) })) (changes.file at (none.each index below))
@@ -87,3 +90,16 @@ pub out_stays : (folder : List ℕ) (index : ℕ) (now new : Files) → index < 
 out_stays folder index now new few out changes = record {
   each = λ k below. changes.is_out (part_place folder k) (λ same. (let x : k ≡ index = parts_apart folder k index (omega arith) (omega arith) same in omega (arith, x))) ∙ out.each k below;
 }
+
+-- a file was opened, and given back
+pub changes_twice : (at : Place) (old mid new : Files) → ChangesAt at old mid → ChangesAt at mid new → ChangesAt at old new
+changes_twice at old mid new one two = record {
+  is_out = λ other far. two.is_out other far ∙ one.is_out other far;
+  file = λ other far. same_twice (old.file other) (mid.file other) (new.file other) (one.file other far) (two.file other far);
+}
+
+pub none_agree : {K : Type 0} (c : List Record) (parts : List (part.Keeping K)) → parts ≡ [] → ShardsAgree c parts
+none_agree c parts is = record { each = λ k s got. (let none : None ≡ Some s = (rw is at got) in absurd cc) }
+
+pub one_more_agrees : {K : Type 0} (c : List Record) (parts : List (part.Keeping K)) (s : part.Keeping K) → ShardsAgree c parts → AllAgree c s.held.list → ShardsAgree c (parts ++ s ∷ [])
+one_more_agrees c parts s agree is = record { each = pushed (λ k t. AllAgree c t.held.list) parts s agree.each is }

@@ -1,5 +1,5 @@
 -- Why lists aren't read of payloads, and files not opened.
-use Rattle.std.proofs.Common.{◌≡◌, ℕ, ◌+◌, ◌<◌, List, [], ◌∷◌, ◌++◌, length, take, get_or, min, Option, None, Some, IfSome, Ok, ap, sym, ◌∙◌, arith}
+use Rattle.std.proofs.Common.{◌≡◌, ℕ, ◌+◌, ◌<◌, List, [], ◌∷◌, ◌++◌, length, take, get_or, min, Option, None, Some, IfSome, Ok, Err, IsErrOf, ap, sym, subst, ◌∙◌, arith}
 use Rattle.std.proofs.lemmas.List.{take_more}
 use Rattle.qz_catalog.specs.Loads as catalog
 use Rattle.qz_disks.specs.Shelves.{File, SameFile}
@@ -8,8 +8,9 @@ use Rattle.qz_journal.specs.Frames.{stands_for}
 use Rattle.qz_journal.specs.Journals.{gate_behind}
 use Rattle.qz_loading.specs.declared.fault.LoadFault.{LoadFault}
 use Rattle.qz_loading.specs.declared.fault.LoadFault.TheVariants.{Damaged, Behind, Altered, NotFounded, Fault, Memory}
-use Rattle.qz_loading.specs.Reading.{IsCatalogFault, IsCatalogRefused, IsDamagedAt, IsIllegalAt, IsPartFault, IsPartRefused, by_record}
+use Rattle.qz_loading.specs.Reading.{IsAgreedIn, IsCatalogFault, IsCatalogRefused, IsDamagedAt, IsDisagreement, IsIllegalAt, IsPartAltered, IsPartBehind, IsPartFault, IsPartIn, IsPartRefused, IsShardFault, by_record}
 use Rattle.qz_shard.specs.Loads as part
+use Rattle.qz_terms.specs.declared.record.Record.{Record}
 
 -- ---- the place of a gate
 
@@ -53,11 +54,48 @@ part_unread file index count payloads NotFounded stands is = is
 part_unread file index count payloads Fault stands is = tt
 part_unread file index count payloads Memory stands is = tt
 
--- the same of a file that reads the same
-pub part_fault_like : (a b : File) (index count : ℕ) (told : LoadFault) → SameFile a b → IsPartFault b index count told → IsPartFault a index count told
-part_fault_like a b index count (Damaged name here) same is = (is.0, carried a.reads b.reads same.reads is.1 (λ _ h. h))
-part_fault_like a b index count (Behind shard position end) same is = is
-part_fault_like a b index count (Altered shard n) same is = is
-part_fault_like a b index count NotFounded same is = is
-part_fault_like a b index count Fault same is = tt
-part_fault_like a b index count Memory same is = tt
+-- ---- of a shard that isn't gone past
+
+-- its file isn't opened
+pub shard_unopened : (file : File) (index count : ℕ) (c : List Record) (told : LoadFault) → IsPartFault file index count told → IsShardFault file index count c told
+shard_unopened file index count c (Damaged name here) is = is
+shard_unopened file index count c (Behind shard position end) is = absurd is
+shard_unopened file index count c (Altered shard n) is = absurd is
+shard_unopened file index count c NotFounded is = is
+shard_unopened file index count c Fault is = tt
+shard_unopened file index count c Memory is = tt
+
+-- its list disagrees
+pub shard_disagrees : (file : File) (index count : ℕ) (c own : List Record) (told : LoadFault) → IsPartIn file index count own → IsDisagreement c index own told → IsShardFault file index count c told
+shard_disagrees file index count c own (Damaged name here) read is = absurd is
+shard_disagrees file index count c own (Behind shard position end) read is = (is.0, is.1, record { own = own; is_read = read; behind = is.2 })
+shard_disagrees file index count c own (Altered shard n) read is = (is.0, record { own = own; is_read = read; altered = is.1 })
+shard_disagrees file index count c own NotFounded read is = is
+shard_disagrees file index count c own Fault read is = tt
+shard_disagrees file index count c own Memory read is = tt
+
+-- a disagreement is no fault
+pub no_fault_told : {T : Type 0} (c : List Record) (index : ℕ) (own : List Record) (fault : LoadFault) → IsDisagreement c index own fault → IsErrOf {T = T} (Err fault) Fault → ⊥
+no_fault_told c index own fault is same = let e : fault ≡ Fault = cc in subst (IsDisagreement c index own) e is
+
+-- ---- the same of a file that reads the same
+
+pub part_in_like : (a b : File) (index count : ℕ) (own : List Record) → SameFile a b → IsPartIn b index count own → IsPartIn a index count own
+part_in_like a b index count own same is = record { payloads = is.payloads; stands = carried a.reads b.reads same.reads is.stands (λ _ x. x); loaded = is.loaded }
+
+pub agreed_like : (a b : File) (index count : ℕ) (c : List Record) → SameFile a b → IsAgreedIn b index count c → IsAgreedIn a index count c
+agreed_like a b index count c same is = record { own = is.own; is_read = part_in_like a b index count is.own same is.is_read; agree = is.agree }
+
+behind_like : (a b : File) (index count : ℕ) (c : List Record) (position : ℕ) → SameFile a b → IsPartBehind b index count c position → IsPartBehind a index count c position
+behind_like a b index count c position same is = record { own = is.own; is_read = part_in_like a b index count is.own same is.is_read; behind = is.behind }
+
+altered_like : (a b : File) (index count : ℕ) (c : List Record) (nth : ℕ) → SameFile a b → IsPartAltered b index count c nth → IsPartAltered a index count c nth
+altered_like a b index count c nth same is = record { own = is.own; is_read = part_in_like a b index count is.own same is.is_read; altered = is.altered }
+
+pub shard_fault_like : (a b : File) (index count : ℕ) (c : List Record) (told : LoadFault) → SameFile a b → IsShardFault b index count c told → IsShardFault a index count c told
+shard_fault_like a b index count c (Damaged name here) same is = (is.0, carried a.reads b.reads same.reads is.1 (λ _ h. h))
+shard_fault_like a b index count c (Behind shard position end) same is = (is.0, is.1, behind_like a b index count c position same is.2)
+shard_fault_like a b index count c (Altered shard n) same is = (is.0, altered_like a b index count c n same is.1)
+shard_fault_like a b index count c NotFounded same is = is
+shard_fault_like a b index count c Fault same is = tt
+shard_fault_like a b index count c Memory same is = tt

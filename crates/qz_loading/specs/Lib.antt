@@ -3,3 +3,4 @@ pub mod Reading
 pub mod Telling
 pub mod Opening
 pub mod Closing
+pub mod Once

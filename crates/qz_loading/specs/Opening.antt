@@ -7,7 +7,7 @@ use Rattle.qz_journal.specs.Journals.{Ledger}
 use Rattle.qz_loading.specs.Places.{catalog_place, part_place}
 use Rattle.qz_shard.specs.Keeping as part
 use Rattle.qz_terms.specs.declared.record.Record.{Record}
-use Rattle.qz_terms.specs.Legal.{IsSchool}
+use Rattle.qz_terms.specs.Legal.{AllAgree, IsSchool}
 
 -- a catalogue whose journal keeps exactly the payloads that a file stood for, which spell its records
 pub record IsCatalogOf {D : Type 0} (moment : D → ℕ) (left_at : D → ℕ → List ℕ → Type 0) (file : File) (s : catalog.Keeping (Ledger D)) : Type 0 where
@@ -24,6 +24,10 @@ pub record IsPartOf {D : Type 0} (moment : D → ℕ) (left_at : D → ℕ → L
 -- these are the first of so many shards, in order, each of its file
 pub record ArePartsOf {D : Type 0} (moment : D → ℕ) (left_at : D → ℕ → List ℕ → Type 0) (folder : List ℕ) (files : Files) (count : ℕ) (parts : List (part.Keeping (Ledger D))) : Type 0 where
   pub each : (k : ℕ) (s : part.Keeping (Ledger D)) → slice_get parts k ≡ Some s → IsPartOf moment left_at (files.file (part_place folder k)) k count s
+
+-- each of their records agrees with a catalogue
+pub record ShardsAgree {K : Type 0} (c : List Record) (parts : List (part.Keeping K)) : Type 0 where
+  pub each : (k : ℕ) (s : part.Keeping K) → slice_get parts k ≡ Some s → AllAgree c s.held.list
 
 -- the shards' lists, without records in doubt
 abbrev pub lists_of : {K : Type 0} → List (part.Keeping K) → List (List Record)

@@ -1,6 +1,5 @@
 -- What the files of a school's folder are read as: its lists, or why they aren't.
-use Rattle.std.specs.Prelude.{◌≡◌, ◌⊎◌, ℕ, ◌-◌, ◌^◌, ◌<◌, List, [], length, take, min, Some, Ok, Err, IfSome, slice_get}
-use Rattle.qz_agreement.specs.Disagreements.{IsAlteredIn, IsBehindIn}
+use Rattle.std.specs.Prelude.{◌≡◌, ◌⊎◌, ℕ, ◌-◌, ◌^◌, ◌<◌, List, [], length, take, min, Some, Ok, Err, IfSome}
 use Rattle.qz_catalog.specs.Loads as catalog
 use Rattle.qz_disks.specs.Shelves.{File, Files}
 use Rattle.qz_folders.specs.Names.{catalog_name, part_name}
@@ -12,6 +11,7 @@ use Rattle.qz_loading.specs.Places.{catalog_place, part_place}
 use Rattle.qz_shard.specs.Loads as part
 use Rattle.qz_terms.specs.declared.record.Record.{Record}
 use Rattle.qz_terms.specs.Catalog.{shards}
+use Rattle.qz_terms.specs.Legal.{AllAgree, IsAltered, IsBehind}
 
 -- ---- one file
 
@@ -88,71 +88,77 @@ IsPartFault file index count NotFounded = ⊥
 IsPartFault file index count Fault = Unit {0}
 IsPartFault file index count Memory = Unit {0}
 
--- ---- the files of a folder
+-- ---- the lists of the shards, judged in order
 
--- they are read as these lists of the first shards of so many, in order
-pub record ArePartsIn (folder : List ℕ) (files : Files) (count : ℕ) (parts : List (List Record)) : Type 0 where
-  pub each : (k : ℕ) (h : List Record) → slice_get parts k ≡ Some h → IsPartIn (files.file (part_place folder k)) k count h
+-- a shard's file is read as a list of which each record agrees with a catalogue
+pub record IsAgreedIn (file : File) (index count : ℕ) (c : List Record) : Type 0 where
+  pub own : List Record
+  pub is_read : IsPartIn file index count own
+  pub agree : AllAgree c own
 
--- the first shard whose list isn't read: its file has this name, and is damaged here
-pub record IsFirstDamaged (folder : List ℕ) (files : Files) (count : ℕ) (name : List ℕ) (here : ℕ) : Type 0 where
-  pub before : List (List Record)
-  pub within : length before < count
-  pub are_read : ArePartsIn folder files count before
-  pub name_is : name ≡ part_name (length before)
-  pub damaged : PartIsDamaged (files.file (part_place folder (length before))) (length before) count here
+-- the first record of its list that disagrees names this position, past the end of the catalogue
+pub record IsPartBehind (file : File) (index count : ℕ) (c : List Record) (position : ℕ) : Type 0 where
+  pub own : List Record
+  pub is_read : IsPartIn file index count own
+  pub behind : IsBehind c own position
 
--- why not all of so many shards' files are opened
-abbrev pub IsPartsFault : List ℕ → Files → ℕ → LoadFault → Type 0
-IsPartsFault folder files count (Damaged name here) = IsFirstDamaged folder files count name here
-IsPartsFault folder files count (Behind shard position end) = ⊥
-IsPartsFault folder files count (Altered shard nth) = ⊥
-IsPartsFault folder files count NotFounded = ⊥
-IsPartsFault folder files count Fault = Unit {0}
-IsPartsFault folder files count Memory = Unit {0}
+-- it names none, and stands at this place, from 1
+pub record IsPartAltered (file : File) (index count : ℕ) (c : List Record) (nth : ℕ) : Type 0 where
+  pub own : List Record
+  pub is_read : IsPartIn file index count own
+  pub altered : IsAltered c own nth
+
+-- why it isn't gone on behind this list of the shard with this index, of so many
+abbrev pub IsDisagreement : List Record → ℕ → List Record → LoadFault → Type 0
+IsDisagreement c index own (Damaged name here) = ⊥
+IsDisagreement c index own (Behind shard position end) = (shard ≡ index) × (end ≡ length c) × IsBehind c own position
+IsDisagreement c index own (Altered shard nth) = (shard ≡ index) × IsAltered c own nth
+IsDisagreement c index own NotFounded = ⊥
+IsDisagreement c index own Fault = ⊥
+IsDisagreement c index own Memory = Unit {0}
+
+-- why it isn't gone on behind its file: what is damaged there comes first
+abbrev pub IsShardFault : File → ℕ → ℕ → List Record → LoadFault → Type 0
+IsShardFault file index count c (Damaged name here) = (name ≡ part_name index) × PartIsDamaged file index count here
+IsShardFault file index count c (Behind shard position end) = (shard ≡ index) × (end ≡ length c) × IsPartBehind file index count c position
+IsShardFault file index count c (Altered shard nth) = (shard ≡ index) × IsPartAltered file index count c nth
+IsShardFault file index count c NotFounded = ⊥
+IsShardFault file index count c Fault = Unit {0}
+IsShardFault file index count c Memory = Unit {0}
+
+-- Of the files of so many shards, in order, this is told: those in front of one are read, and each of their records agrees with the
+-- catalogue, and it isn't gone on behind that one.
+pub record IsPartsFault (folder : List ℕ) (files : Files) (c : List Record) (count : ℕ) (fault : LoadFault) : Type 0 where
+  pub index : ℕ
+  pub within : index < count
+  pub in_front : (k : ℕ) → k < index → IsAgreedIn (files.file (part_place folder k)) k count c
+  pub why : IsShardFault (files.file (part_place folder index)) index count c fault
+
+-- ---- why a school isn't loaded
 
 -- the catalogue is read, and it was founded with so many shards
 pub record IsFounded (folder : List ℕ) (files : Files) (c : List Record) (count : ℕ) : Type 0 where
   pub catalog_is : IsCatalogIn (files.file (catalog_place folder)) c
   pub founded : shards c ≡ Some count
 
--- all lists are read, and each is legal
-pub record AreListsIn (folder : List ℕ) (files : Files) (c : List Record) (parts : List (List Record)) : Type 0 where
-  pub founded : IsFounded folder files c (length parts)
-  pub are_read : ArePartsIn folder files (length parts) parts
-
--- why these lists aren't those of a school
-abbrev pub IsDisagreement : List Record → List (List Record) → LoadFault → Type 0
-IsDisagreement c parts (Damaged name here) = ⊥
-IsDisagreement c parts (Behind shard position end) = IsBehindIn c parts shard position × (end ≡ length c)
-IsDisagreement c parts (Altered shard nth) = IsAlteredIn c parts shard nth
-IsDisagreement c parts NotFounded = ⊥
-IsDisagreement c parts Fault = ⊥
-IsDisagreement c parts Memory = Unit {0}
-
--- ---- why a school isn't loaded
-
--- the catalogue is read, and a shard's file is damaged
-pub record IsPartUnread (folder : List ℕ) (files : Files) (name : List ℕ) (here : ℕ) : Type 0 where
+-- the catalogue is read, and this is told of its shards
+pub record IsToldOfShards (folder : List ℕ) (files : Files) (fault : LoadFault) : Type 0 where
   pub c : List Record
   pub count : ℕ
   pub founded : IsFounded folder files c count
-  pub first : IsFirstDamaged folder files count name here
+  pub parts : IsPartsFault folder files c count fault
 
--- the first record that disagrees names this position, past the end of the catalogue, which has so many records
-pub record IsBehindOf (folder : List ℕ) (files : Files) (shard position end : ℕ) : Type 0 where
-  pub c : List Record
-  pub parts : List (List Record)
-  pub are_read : AreListsIn folder files c parts
-  pub behind : IsBehindIn c parts shard position
-  pub end_is : end ≡ length c
+-- a shard's file is damaged
+abbrev pub IsPartUnread : List ℕ → Files → List ℕ → ℕ → Type 0
+IsPartUnread folder files name here = IsToldOfShards folder files (Damaged name here)
+
+-- a shard's record names this position, past the end of the catalogue, which has so many records
+abbrev pub IsBehindOf : List ℕ → Files → ℕ → ℕ → ℕ → Type 0
+IsBehindOf folder files shard position end = IsToldOfShards folder files (Behind shard position end)
 
 -- it names none, and stands at this place of its shard, from 1
-pub record IsAlteredOf (folder : List ℕ) (files : Files) (shard nth : ℕ) : Type 0 where
-  pub c : List Record
-  pub parts : List (List Record)
-  pub are_read : AreListsIn folder files c parts
-  pub altered : IsAlteredIn c parts shard nth
+abbrev pub IsAlteredOf : List ℕ → Files → ℕ → ℕ → Type 0
+IsAlteredOf folder files shard nth = IsToldOfShards folder files (Altered shard nth)
 
 abbrev pub IsLoadFault : List ℕ → Files → LoadFault → Type 0
 IsLoadFault folder files (Damaged name here) = IsCatalogFault (files.file (catalog_place folder)) (Damaged name here) ⊎ IsPartUnread folder files name here

@@ -37,7 +37,12 @@ pub(crate) fn give_back_catalog<F: Shelf>(
 }
 
 /// Gives the file of the shard with this index back.
-fn give_back_part<F: Shelf>(shelf: &mut F, folder: &[u8], index: u8, shard: Shard<Journal<F::Disk>>)
+pub(crate) fn give_back_part<F: Shelf>(
+    shelf: &mut F,
+    folder: &[u8],
+    index: u8,
+    shard: Shard<Journal<F::Disk>>,
+)
     requires few { index < MOST_SHARDS }
     requires out { (F.files shelf.old).is_out (part_place folder.now index) ≡ true }
     ensures here { (F.files shelf.new).is_out (part_place folder.now index) ≡ false }

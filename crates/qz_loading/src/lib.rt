@@ -3,6 +3,7 @@
 
 mod closing;
 mod fault;
+pub mod laws;
 mod loading;
 mod names;
 mod opening;

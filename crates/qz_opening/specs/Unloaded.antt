@@ -7,7 +7,7 @@ use Rattle.qz_ending.specs.declared.stop.Stop.TheVariants as stop
 use Rattle.qz_found.specs.FoundEndings.{Shelved, Sunk}
 use Rattle.qz_loading.specs.declared.fault.LoadFault.{LoadFault}
 use Rattle.qz_loading.specs.declared.fault.LoadFault.TheVariants as fault
-use Rattle.qz_loading.specs.Places.{ListsStay}
+use Rattle.qz_loading.specs.Places.{LeavesUnreached, ListsStay}
 use Rattle.qz_loading.specs.Reading.{IsLoadFault}
 use Rattle.qz_outside.specs.Causes.{HasRisen}
 use Rattle.qz_outside.specs.Sources.{AppendsFront}
@@ -37,11 +37,13 @@ refusal_of fault.Memory = None
 
 -- ---- how it ends
 
--- The files don't give the school, for this cause: each is back, and stands for what it stood for.
+-- The files don't give the school, for this cause: each is back, and stands for what it stood for, and those of the shards that weren't
+-- reached are as they were.
 pub record IsUnloaded (folder : List ℕ) (old new : Shelved) (cause : LoadFault) : Type 0 where
   pub why : IsLoadFault folder old.files cause
   pub none_out : NoneOutIn folder new.files
   pub stay : ListsStay folder old.files new.files
+  pub unreached : LeavesUnreached folder old.files new.files cause
 
 -- the files say why, and that was written
 pub record LoadRefused (folder : List ℕ) (old new : Shelved) (before now : Sunk) : Type 0 where

@@ -22,7 +22,7 @@ use std::alloc::Global;
 /// Where the files don't give a school, one line says why and the stop is `Refused`: `damaged NAME PLACE`, `not founded`, `behind SHARD
 /// POSITION LENGTH` or `altered SHARD PLACE`. With `SinkFault` the sink failed under that line, behind a front of it. With `ShelfFault`
 /// the shelf failed or the disk of a file, and with `Memory` memory was wanting; nothing was written. After each of these all files
-/// are back, and stand for what they stood for.
+/// are back, and stand for what they stood for; those of the shards behind the one that a line tells of weren't touched.
 pub fn open_school<O: Sink, F: Shelf>(
     alloc: Global,
     folder: &[u8],

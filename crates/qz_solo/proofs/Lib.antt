@@ -8,6 +8,4 @@ pub mod Seeing
 pub mod Beginning
 pub mod Clear
 pub mod MarkLemmas
-pub mod Within
-pub mod Spelled
 pub mod Restarting

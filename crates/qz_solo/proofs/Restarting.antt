@@ -2,17 +2,19 @@
 use Rattle.std.proofs.Common.{◌≡◌, ℕ, zero, suc, ◌+◌, ◌<◌, ◌⊎◌, inl, inr, List, [], ◌∷◌, ◌++◌, Option, Some, None, Ok, Err, IfSome, length, map, get_or, refl, sym, ap, subst, ◌∙◌, arith}
 use Rattle.std.specs.Prelude.{All, slice_get}
 use Rattle.std.proofs.lemmas.Option.{slice_get-get_or}
-use Rattle.qz_agreement.specs.Disagreements.{IsAlteredIn, IsBehindIn}
 use Rattle.qz_catalog.specs.Keeping as catalog
 use Rattle.qz_catalog.specs.Loads as catalog_load
 use Rattle.qz_disks.specs.Shelves.{File, Files}
 use Rattle.qz_journal.specs.Frames.{stands_for}
 use Rattle.qz_journal.specs.Journals.{Ledger}
+use Rattle.qz_loading.proofs.OneReading.{catalog-none-illegal, part-none-illegal, payloads-same, told, undamaged-at}
+use Rattle.qz_loading.proofs.Spelled.{all-same}
+use Rattle.qz_loading.proofs.Within.{names-none-past}
 use Rattle.qz_loading.specs.declared.fault.LoadFault.{LoadFault}
 use Rattle.qz_loading.specs.declared.fault.LoadFault.TheVariants.{Damaged, Behind, Altered, NotFounded, Fault, Memory}
 use Rattle.qz_loading.specs.Opening.{IsLoadedFrom, lists_of}
 use Rattle.qz_loading.specs.Places.{catalog_place, part_place}
-use Rattle.qz_loading.specs.Reading.{AreListsIn, ArePartsIn, CatalogIsDamaged, IsAlteredOf, IsBehindOf, IsCatalogIn, IsDamagedAt, IsFirstDamaged, IsFounded, IsIllegalAt, IsLoadFault, IsPartIn, IsPartUnread, PartIsDamaged, by_bytes, by_record}
+use Rattle.qz_loading.specs.Reading.{CatalogIsDamaged, IsAlteredOf, IsBehindOf, IsCatalogIn, IsFounded, IsLoadFault, IsPartUnread, PartIsDamaged}
 use Rattle.qz_record.specs.Records.{IsRecord}
 use Rattle.qz_shard.specs.Keeping as part
 use Rattle.qz_shard.specs.Loads as part_load
@@ -21,41 +23,14 @@ use Rattle.qz_terms.specs.Catalog.{shards}
 use Rattle.qz_terms.specs.Legal.{AllAgree, IsAltered, IsBehind, IsLegal, IsLegalCatalog, IsSchool}
 use Rattle.qz_terms.specs.Spelling.{spelling}
 use Rattle.qz_solo.specs.Restarting.{IsKeptIn, StandsFor}
-use Rattle.qz_solo.proofs.Spelled.{SplitsAt, all-same, splits}
-use Rattle.qz_solo.proofs.Within.{names-none-past}
 
 -- ---- one file
-
-told : (P : List ℕ → Type 0) (o : Option (List ℕ)) (bytes : List ℕ) → o ≡ Some bytes → IfSome o P → P bytes
-told P None bytes is p = absurd cc
-told P (Some x) bytes is p = let same : x ≡ bytes = cc in subst P same p
-
-payloads-same : (a b : List (List ℕ)) (bytes : List ℕ) → stands_for bytes ≡ Ok a → stands_for bytes ≡ Ok b → a ≡ b
-payloads-same a b bytes one other = cc
-
-whole : (bytes : List ℕ) (payloads : List (List ℕ)) (here : ℕ) → stands_for bytes ≡ Ok payloads → stands_for bytes ≡ Err here → ⊥
-whole bytes payloads here one other = cc
 
 -- what a file stands for are these records and no others
 pub one-list : (file : File) (l m : List Record) (payloads : List (List ℕ)) → StandsFor file l → IfSome file.reads (λ bytes. stands_for bytes ≡ Ok payloads) → map spelling m ≡ payloads → All IsRecord m → m ≡ l
 one-list file l m payloads stands read spelled records =
     let is = told _ file.reads stands.bytes stands.told read in
     all-same m l records stands.records (spelled ∙ payloads-same payloads (map spelling l) stands.bytes is stands.stands)
-
-catalog-none-illegal : (c : List Record) (payloads : List (List ℕ)) (nth : ℕ) → IsLegalCatalog c → All IsRecord c → map spelling c ≡ payloads → catalog_load.IsFirstIllegal payloads nth → ⊥
-catalog-none-illegal c payloads nth legal records spelled first =
-    let s = splits c first.before first.bad first.rest records first.records (spelled ∙ first.stands) in
-    first.illegal.none s.own s.record_is s.spelled (legal.each first.before s.own s.rest s.list)
-
-part-none-illegal : (index count : ℕ) (h : List Record) (payloads : List (List ℕ)) (nth : ℕ) → IsLegal index count h → All IsRecord h → map spelling h ≡ payloads → part_load.IsFirstIllegal index count payloads nth → ⊥
-part-none-illegal index count h payloads nth legal records spelled first =
-    let s = splits h first.before first.bad first.rest records first.records (spelled ∙ first.stands) in
-    first.illegal.none s.own s.record_is s.spelled (legal.each first.before s.own s.rest s.list)
-
-undamaged-at : (IsFirstIllegal : List (List ℕ) → ℕ → Type 0) (bytes : List ℕ) (l : List Record) (here : ℕ) → stands_for bytes ≡ Ok (map spelling l)
-    → ((payloads : List (List ℕ)) (nth : ℕ) → map spelling l ≡ payloads → IsFirstIllegal payloads nth → ⊥) → IsDamagedAt IsFirstIllegal bytes here → ⊥
-undamaged-at IsFirstIllegal bytes l here stands none (by_bytes is) = whole bytes (map spelling l) here stands is
-undamaged-at IsFirstIllegal bytes l here stands none (by_record payloads is illegal) = none payloads illegal.nth (payloads-same (map spelling l) payloads bytes stands is) illegal.first
 
 undamaged-catalog : (file : File) (c : List Record) (here : ℕ) → StandsFor file c → IsLegalCatalog c → CatalogIsDamaged file here → ⊥
 undamaged-catalog file c here stands legal damaged =
@@ -86,10 +61,6 @@ lists-same (x ∷ a) (y ∷ b) n e =
     let tail : a ≡ b = lists-same a b (omega (arith, n)) (λ k u v. e (suc k) u v) in
     cc
 
-parts-same : (folder : List ℕ) (files : Files) (c : List Record) (parts : List (List Record)) (d : List Record) (ms : List (List Record)) → IsKeptIn folder files c parts → AreListsIn folder files d ms → ms ≡ parts
-parts-same folder files c parts d ms kept are = lists-same ms parts (count-same folder files c parts d (length ms) kept are.founded)
-    (λ k x y one other. let p = are.are_read.each k x one in one-list (files.file (part_place folder k)) y x p.payloads (kept.part_files k y other) p.stands p.loaded.spelled p.loaded.records)
-
 -- ---- why a school isn't loaded
 
 not-behind : (c h : List Record) (index count position : ℕ) → AllAgree c h → IsLegal index count h → IsBehind c h position → ⊥
@@ -105,29 +76,50 @@ not-empty : (c : List Record) (n : ℕ) → shards c ≡ Some n → map spelling
 not-empty [] n founded none = absurd cc
 not-empty (r ∷ c) n founded none = absurd cc
 
-not-unread : (folder : List ℕ) (files : Files) (c : List Record) (parts : List (List Record)) (name : List ℕ) (here : ℕ) → IsKeptIn folder files c parts → IsPartUnread folder files name here → ⊥
-not-unread folder files c parts name here kept p =
-    let k = length p.first.before in
-    let same = count-same folder files c parts p.c p.count kept p.founded in
-    let within = p.first.within in
+-- the list of a shard that is told of, and its file
+record IsOwn (folder : List ℕ) (files : Files) (c : List Record) (parts : List (List Record)) (k : ℕ) : Type 0 where
+  own : List Record
+  is : slice_get parts k ≡ Some own
+  stands : StandsFor (files.file (part_place folder k)) own
+  agree : AllAgree c own
+  legal : IsLegal k (length parts) own
+
+own-at : (folder : List ℕ) (files : Files) (c : List Record) (parts : List (List Record)) (k count : ℕ) → IsKeptIn folder files c parts → count ≡ length parts → k < count → IsOwn folder files c parts k
+own-at folder files c parts k count kept same within =
     let is = slice_get-get_or parts k [] (omega arith) in
     let h = get_or parts k [] in
-    undamaged-part (files.file (part_place folder k)) k (length parts) h here (kept.part_files k h is) (kept.school.legal k h is)
-    (subst (λ n. PartIsDamaged (files.file (part_place folder k)) k n here) same p.first.damaged)
+    record { own = h; is = is; stands = kept.part_files k h is; agree = kept.school.agree k h is; legal = kept.school.legal k h is }
+
+not-unread : (folder : List ℕ) (files : Files) (c : List Record) (parts : List (List Record)) (name : List ℕ) (here : ℕ) → IsKeptIn folder files c parts → IsPartUnread folder files name here → ⊥
+not-unread folder files c parts name here kept p =
+    let k = p.parts.index in
+    let same = count-same folder files c parts p.c p.count kept p.founded in
+    let o = own-at folder files c parts k p.count kept same p.parts.within in
+    undamaged-part (files.file (part_place folder k)) k (length parts) o.own here o.stands o.legal (subst (λ n. PartIsDamaged (files.file (part_place folder k)) k n here) same p.parts.why.1)
+
+not-behind-of : (folder : List ℕ) (files : Files) (c : List Record) (parts : List (List Record)) (shard position end : ℕ) → IsKeptIn folder files c parts → IsBehindOf folder files shard position end → ⊥
+not-behind-of folder files c parts shard position end kept p =
+    let k = p.parts.index in
+    let o = own-at folder files c parts k p.count kept (count-same folder files c parts p.c p.count kept p.founded) p.parts.within in
+    let b = p.parts.why.2 in
+    let same = one-list (files.file (part_place folder k)) o.own b.own b.is_read.payloads o.stands b.is_read.stands b.is_read.loaded.spelled b.is_read.loaded.records in
+    not-behind c o.own k (length parts) position o.agree o.legal
+    (subst (λ l. IsBehind c l position) same (subst (λ l. IsBehind l b.own position) (catalog-same folder files c parts p.c kept p.founded.catalog_is) b.behind))
+
+not-altered-of : (folder : List ℕ) (files : Files) (c : List Record) (parts : List (List Record)) (shard nth : ℕ) → IsKeptIn folder files c parts → IsAlteredOf folder files shard nth → ⊥
+not-altered-of folder files c parts shard nth kept p =
+    let k = p.parts.index in
+    let o = own-at folder files c parts k p.count kept (count-same folder files c parts p.c p.count kept p.founded) p.parts.within in
+    let a = p.parts.why.1 in
+    let same = one-list (files.file (part_place folder k)) o.own a.own a.is_read.payloads o.stands a.is_read.stands a.is_read.loaded.spelled a.is_read.loaded.records in
+    not-altered c o.own nth o.agree
+    (subst (λ l. IsAltered c l nth) same (subst (λ l. IsAltered l a.own nth) (catalog-same folder files c parts p.c kept p.founded.catalog_is) a.altered))
 
 pub refused-by : (folder : List ℕ) (files : Files) (c : List Record) (parts : List (List Record)) (cause : LoadFault) → IsKeptIn folder files c parts → IsLoadFault folder files cause → (cause ≡ Fault) ⊎ (cause ≡ Memory)
 refused-by folder files c parts (Damaged name here) kept (inl bad) = absurd (undamaged-catalog (files.file (catalog_place folder)) c here kept.catalog_file kept.school.records bad.1)
 refused-by folder files c parts (Damaged name here) kept (inr p) = absurd (not-unread folder files c parts name here kept p)
-refused-by folder files c parts (Behind shard position end) kept f =
-    let b = f.behind in
-    let is = subst (λ x. slice_get x shard ≡ Some b.own) (parts-same folder files c parts f.c f.parts kept f.are_read) b.own_is in
-    absurd (not-behind c b.own shard (length parts) position (kept.school.agree shard b.own is) (kept.school.legal shard b.own is)
-    (subst (λ x. IsBehind x b.own position) (catalog-same folder files c parts f.c kept f.are_read.founded.catalog_is) b.behind))
-refused-by folder files c parts (Altered shard nth) kept f =
-    let a = f.altered in
-    let is = subst (λ x. slice_get x shard ≡ Some a.own) (parts-same folder files c parts f.c f.parts kept f.are_read) a.own_is in
-    absurd (not-altered c a.own nth (kept.school.agree shard a.own is)
-    (subst (λ x. IsAltered x a.own nth) (catalog-same folder files c parts f.c kept f.are_read.founded.catalog_is) a.altered))
+refused-by folder files c parts (Behind shard position end) kept f = absurd (not-behind-of folder files c parts shard position end kept f)
+refused-by folder files c parts (Altered shard nth) kept f = absurd (not-altered-of folder files c parts shard nth kept f)
 refused-by folder files c parts NotFounded kept f =
     let none = told _ (files.file (catalog_place folder)).reads kept.catalog_file.bytes kept.catalog_file.told f in
     absurd (not-empty c (length parts) kept.school.founded (payloads-same (map spelling c) [] kept.catalog_file.bytes kept.catalog_file.stands none))

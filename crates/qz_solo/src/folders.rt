@@ -8,7 +8,7 @@ ghost use Rattle.qz_folders.specs.Opening.{IsCaused, IsSoundOut};
 ghost use Rattle.qz_loading.specs.declared.fault.LoadFault.TheVariants.{Fault};
 ghost use Rattle.qz_loading.specs.Closing.{IsBack, PartsAreBack};
 ghost use Rattle.qz_loading.specs.Opening.{AreSound, AreSoundOut, IsLoadedFrom};
-ghost use Rattle.qz_loading.specs.Places.{IsOut, KeepsElsewhere, ListsStay, catalog_place};
+ghost use Rattle.qz_loading.specs.Places.{IsOut, KeepsElsewhere, LeavesUnreached, ListsStay, catalog_place};
 ghost use Rattle.qz_loading.specs.Reading.{IsLoadFault};
 ghost use Rattle.qz_solo.specs.Restarting.{Restarts};
 
@@ -21,9 +21,9 @@ use std::alloc::Global;
 /// Loads the school of a folder, of which no file is out. Its lists are those that the folder's files stand for: where these stand for the
 /// lists of a school, what is loaded has these very lists, and nothing but a fault or want of memory keeps it from being loaded.
 ///
-/// After an error every file is back. The causes are told in this order: what is wrong with the catalogue's file, with each shard's
-/// file, in order, and with the first record that disagrees, over all shards. `Damaged`, `NotFounded`, `Behind` and `Altered` are of
-/// the files; `Fault`: the shelf failed, or the disk of a file; `Memory`: memory was wanting.
+/// After an error every file is back. The catalogue's file comes first, and then each shard's, in order: what is damaged there, and then
+/// its first record that disagrees. `Damaged`, `NotFounded`, `Behind` and `Altered` tell the first that is found so, and the files of
+/// the shards behind it are as they were; `Fault`: the shelf failed, or the disk of a file; `Memory`: memory was wanting.
 pub fn load<F: Shelf>(
     alloc: Global,
     shelf: &mut F,
@@ -39,6 +39,8 @@ pub fn load<F: Shelf>(
         (F.files shelf.old) (F.files shelf.new)) }
     ensures none_out { OnErr result (NoneOutIn folder.now (F.files shelf.new)) }
     ensures stay { OnErr result (ListsStay folder.now (F.files shelf.old) (F.files shelf.new)) }
+    ensures unreached { IfErr result (LeavesUnreached folder.now
+        (F.files shelf.old) (F.files shelf.new)) }
     ensures why { IfErr result (IsLoadFault folder.now (F.files shelf.old)) }
     ensures cause { IsCaused Fault (F.faults shelf.old) (F.faults shelf.new) result }
     ensures stays_sound { StaysSound (F.sound shelf.old) (F.sound shelf.new)

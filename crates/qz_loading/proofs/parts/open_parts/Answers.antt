@@ -1,6 +1,6 @@
-use Rattle.qz_loading.proofs.Returning.{all_stay}
+use Rattle.qz_loading.proofs.Returning.{all_stay, unreached_left}
 use Rattle.qz_loading.proofs.Listing.{first_fault}
-use Rattle.std.proofs.Common.{arith}
+use Rattle.std.proofs.Common.{length, arith}
 use Rattle.qz_loading.specs.declared.fault.LoadFault.TheVariants.{Fault}
 use Rattle.qz_loading.proofs.Results.{risen_within, told_as}
 use Rattle.qz_loading.proofs.Sounding.{sound_out, stays_after}
@@ -13,7 +13,12 @@ returns-in-Err-clause-stay g c =
 
 pub returns-in-Err-clause-why : goal.returns-in-Err-clause-why
 returns-in-Err-clause-why g c =
-    first_fault g.F.Disk.Disk.moment g.F.Disk.Disk.left_at c.args.folder.now (g.F.Shelf.files c.args.shelf.now) c.args.count c.open_into.new.shards.items c.in-Err.fault c.open_into.ensures.opened c.in-Err.ensures.fewer c.in-Err.ensures.why
+    first_fault g.F.Disk.Disk.moment g.F.Disk.Disk.left_at c.args.folder.now (g.F.Shelf.files c.args.shelf.now) c.args.count c.args.catalog.now c.open_into.new.shards.items c.in-Err.fault c.open_into.ensures.opened c.open_into.ensures.agree c.in-Err.ensures.fewer c.in-Err.ensures.why
+
+pub returns-in-Err-clause-unreached : goal.returns-in-Err-clause-unreached
+returns-in-Err-clause-unreached g c =
+    unreached_left c.args.folder.now (g.F.Shelf.files c.args.shelf.now) (g.F.Shelf.files c.open_into.new.shelf) (g.F.Shelf.files c.give_back_parts.new.shelf) _ (length c.open_into.new.shards.items) c.args.count c.args.catalog.now c.in-Err.fault
+    c.requires.few c.in-Err.ensures.fewer c.in-Err.ensures.rest c.give_back_parts.ensures.others c.in-Err.ensures.why
 
 pub returns-in-Err-clause-stays_sound : goal.returns-in-Err-clause-stays_sound
 returns-in-Err-clause-stays_sound g c =

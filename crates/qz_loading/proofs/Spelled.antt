@@ -1,5 +1,5 @@
 -- Records that are told by their spellings.
-use Rattle.std.proofs.Common.{◌≡◌, ℕ, List, [], ◌∷◌, ◌++◌, map, refl, sym, ap}
+use Rattle.std.proofs.Common.{◌≡◌, ℕ, ◌<◌, List, [], ◌∷◌, ◌++◌, map, length, refl, sym, ap, arith}
 use Rattle.std.specs.Prelude.{All}
 use Rattle.std.proofs.lemmas.List.Elements.{All-head, All-tail}
 use Rattle.qz_record.specs.Records.{IsRecord}
@@ -43,3 +43,13 @@ splits (x ∷ xs) (y ∷ ys) bad rest p q e =
     let same = first-same x y (map spelling xs) (map spelling ys ++ bad ∷ rest) (All-head IsRecord x xs p) (All-head IsRecord y ys q) e in
     let s = splits xs ys bad rest (All-tail IsRecord x xs p) (All-tail IsRecord y ys q) (rest-same x y (map spelling xs) (map spelling ys ++ bad ∷ rest) e) in
     record { own = s.own; rest = s.rest; list = cell x y xs (ys ++ s.own ∷ s.rest) same s.list; spelled = s.spelled; record_is = s.record_is }
+
+-- the same of a payload that stands in front of the end of more of them
+pub shorter-splits : (before c : List Record) (bad : List ℕ) (rest behind : List (List ℕ)) → All IsRecord before → All IsRecord c → length before < length c → map spelling before ++ bad ∷ rest ≡ map spelling c ++ behind → SplitsAt c before bad
+shorter-splits [] [] bad rest behind p q less e = absurd (omega arith)
+shorter-splits [] (y ∷ ys) bad rest behind p q less e = record { own = y; rest = ys; list = refl; spelled = cc; record_is = All-head IsRecord y ys q }
+shorter-splits (x ∷ xs) [] bad rest behind p q less e = absurd (omega arith)
+shorter-splits (x ∷ xs) (y ∷ ys) bad rest behind p q less e =
+    let same = first-same x y (map spelling xs ++ bad ∷ rest) (map spelling ys ++ behind) (All-head IsRecord x xs p) (All-head IsRecord y ys q) e in
+    let s = shorter-splits xs ys bad rest behind (All-tail IsRecord x xs p) (All-tail IsRecord y ys q) (omega (arith, less)) (rest-same x y (map spelling xs ++ bad ∷ rest) (map spelling ys ++ behind) e) in
+    record { own = s.own; rest = s.rest; list = cell y x ys (xs ++ s.own ∷ s.rest) (sym same) s.list; spelled = s.spelled; record_is = s.record_is }

@@ -14,7 +14,7 @@ use Rattle.qz_terms.specs.declared.record.Terms.{Terms}
 use Rattle.qz_terms.specs.Answer.{bind}
 use Rattle.qz_terms.specs.Legal.{Agrees, EventAgrees, EventIsAllowed, IsAllowed, JobAgrees, StepAgrees, TermsAgree, is_bare, past_end, positions, positions_by}
 use Rattle.qz_terms.specs.Lists.{first_of}
-use Rattle.qz_school.proofs.Agreeing.{job-within}
+use Rattle.qz_agreement.proofs.Verdicts.{job-within}
 
 abbrev Within : ℕ → List ℕ → Type 0
 Within n = All (λ (x : ℕ). x ≤ n)
@@ -59,7 +59,7 @@ by-bare n r xs bare all = rw (no-terms-by (is_none r.key) r.terms bare) all
 
 by-job : (c : List Record) (number q position : ℕ) → JobAgrees c number q position → position ≤ length c
 by-job c number q position j =
-    let there = job-within c number j.job j.job_is in
+    let there = (job-within c number j.job j.job_is).1 in
     let same = j.position_is in
     omega arith
 

@@ -1,7 +1,0 @@
-use Rattle.std.proofs.Common.{◌≡◌, take}
-use Rattle.qz_agreement.specs.Findings.{lists}
-use Rattle.qz_loading.specs.Opening.{lists_of}
-use Rattle.qz_loading.proofs.loading.lists_of.Given as goal
-
-abbrev pub invariant-loop-shard : goal.invariant-loop-shard
-invariant-loop-shard g l = lists l.lists.items ≡ lists_of (take l.shard-index l.shards)
