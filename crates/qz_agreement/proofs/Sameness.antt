@@ -1,5 +1,5 @@
 -- Questions that are the same as values are equal, and each is the same as itself.
-use Rattle.std.proofs.Common.{◌≡◌, ℕ, zero, suc, Bool, true, false, ◌&&◌, List, [], ◌∷◌, length, ℤ, refl, ap, subst, ◌∙◌, arith, eq-eqb}
+use Rattle.std.proofs.Common.{◌≡◌, ℕ, Bool, true, false, ◌&&◌, List, [], ◌∷◌, length, ℤ, refl, ap, subst, ◌∙◌, arith, eq-eqb}
 use Rattle.std.specs.Bool.{Decides}
 use Rattle.std.specs.List.{list_all}
 use Rattle.std.specs.Ordering.{int_eq}
@@ -19,7 +19,7 @@ use Rattle.qz_grading.specs.declared.question.Pair.{Pair}
 use Rattle.qz_grading.specs.declared.question.Question.{Question}
 use Rattle.qz_grading.specs.declared.question.Rich.{Rich}
 use Rattle.qz_grading.specs.declared.question.Short.{Short}
-use Rattle.qz_grading.specs.Canonical.{format_mark, same_format, same_texts}
+use Rattle.qz_grading.specs.Canonical.{same_format, same_texts}
 use Rattle.qz_grading.specs.Sameness.{all_same, same_bool, same_choice, same_extent, same_kind, same_num, same_pair, same_question, same_rich, same_short}
 
 -- two tests in one

@@ -15,7 +15,7 @@ use Rattle.qz_agreement.specs.declared.look.Verdict.{Verdict}
 use Rattle.qz_agreement.specs.declared.look.Verdict.TheVariants as verdict
 use Rattle.qz_agreement.specs.declared.quizzes.Quizzes.{Quizzes}
 use Rattle.qz_agreement.specs.Disagreements.{AreOfShard}
-use Rattle.qz_agreement.specs.Findings.{AreFindings, AreLookedAt, IsAsked, IsBad, IsClaim, IsJudged, IsPassed, IsSettled, asked_after, earlier, first_after}
+use Rattle.qz_agreement.specs.Findings.{AreLookedAt, IsAsked, IsBad, IsClaim, IsJudged, IsPassed, IsSettled, asked_after, earlier, first_after}
 use Rattle.qz_agreement.specs.Fitting.{IsVerdictOf}
 use Rattle.qz_agreement.specs.Quizzes.{AreQuizzes}
 

@@ -1,5 +1,5 @@
 -- What a record of a shard needs of the catalogue's first records, those up to the position that it names.
-use Rattle.std.specs.Prelude.{◌≡◌, ℕ, ◌≤◌, Bool, true, false, List, length, map, take, is_some, option_map, Option, None, Some, IsSomeAnd}
+use Rattle.std.specs.Prelude.{◌≡◌, ℕ, ◌≤◌, Bool, true, false, List, length, map, take, is_some, option_map, Option, Some, IsSomeAnd}
 use Rattle.qz_grading.specs.declared.outcome.Behaviour.{Behaviour}
 use Rattle.qz_grading.specs.declared.question.Shape.{Shape}
 use Rattle.qz_grading.specs.Grading.{at_place, shape}

@@ -1,7 +1,6 @@
 -- What is tested of a record's bounds and versions, and of the positions that it names.
 use Rattle.std.specs.Ordering.{int_eq}
 use Rattle.std.specs.Prelude.{ℕ, Bool, false, ◌&&◌, ◌==◌, List, nat_lt, Option, filter, option_map, unwrap_or}
-use Rattle.qz_grading.specs.declared.question.Question.{Question}
 use Rattle.qz_grading.specs.Sameness.{same_question}
 use Rattle.qz_terms.specs.declared.plan.Bound.{Bound}
 use Rattle.qz_terms.specs.declared.plan.Planned.{Planned}

@@ -39,11 +39,7 @@ fn user_count(alloc: Global, catalog: &CatalogCore) -> Result<usize, NoMemory>
 }
 
 /// Looks at the records of a shard, in order.
-fn look_at(
-    alloc: Global,
-    catalog: &CatalogCore,
-    records: &[Record],
-) -> Result<Findings, NoMemory>
+fn look_at(alloc: Global, catalog: &CatalogCore, records: &[Record]) -> Result<Findings, NoMemory>
     requires legal { AreOfShard records.now }
     ensures { IfOk result (λ f. AreLookedAt catalog.now records.now f (length records.now)) }
 {

@@ -1,9 +1,9 @@
 -- Of files just one cause is told why a school isn't loaded.
-use Rattle.std.proofs.Common.{◌≡◌, ℕ, ◌<◌, ◌≤◌, ◌⊎◌, inl, inr, ⊎_elim, List, [], ◌∷◌, ◌++◌, map, length, Option, None, Some, Ok, IfSome, Bool, true, false, refl, ap, sym, subst, ◌∙◌, arith}
+use Rattle.std.proofs.Common.{◌≡◌, ℕ, ◌<◌, ◌≤◌, ◌⊎◌, inl, inr, ⊎_elim, List, [], ◌∷◌, ◌++◌, map, length, Option, None, Some, Ok, true, refl, sym, subst, ◌∙◌, arith}
 use Rattle.std.proofs.lemmas.Bool.{cases_lt}
 use Rattle.std.specs.Prelude.{is_some}
 use Rattle.qz_catalog.specs.Loads as catalog_load
-use Rattle.qz_disks.specs.Shelves.{File, Files, place}
+use Rattle.qz_disks.specs.Shelves.{File, Files}
 use Rattle.qz_folders.specs.Names.{catalog_name, part_name}
 use Rattle.qz_journal.specs.Frames.{stands_for}
 use Rattle.qz_loading.proofs.FirstBad.{altered-bad, behind-bad, behind-or-altered, none-bad, one-nth, one-position}
@@ -12,7 +12,7 @@ use Rattle.qz_loading.specs.declared.fault.LoadFault.{LoadFault}
 use Rattle.qz_loading.specs.declared.fault.LoadFault.TheVariants.{Damaged, Behind, Altered, NotFounded, Fault, Memory}
 use Rattle.qz_loading.specs.Once.{AreTold, IsOfFiles}
 use Rattle.qz_loading.specs.Places.{catalog_place, part_place}
-use Rattle.qz_loading.specs.Reading.{CatalogIsDamaged, IsAgreedIn, IsCatalogFault, IsCatalogIn, IsDamagedAt, IsFounded, IsLoadFault, IsPartAltered, IsPartBehind, IsPartsFault, IsShardFault, IsToldOfShards, by_bytes, by_record}
+use Rattle.qz_loading.specs.Reading.{IsAgreedIn, IsCatalogFault, IsCatalogIn, IsDamagedAt, IsLoadFault, IsPartAltered, IsPartBehind, IsPartsFault, IsShardFault, IsToldOfShards, by_bytes, by_record}
 use Rattle.qz_terms.specs.declared.record.Record.{Record}
 use Rattle.qz_terms.specs.Catalog.{shards}
 use Rattle.qz_terms.specs.Legal.{AllAgree, IsAltered, IsBehind}
@@ -108,8 +108,8 @@ parts-once folder files c count a b all of also one other =
     (λ from. ⊎_elim
     (λ more. absurd (not-in-front folder files c count b a all also other one more))
     (λ to. (let same : one.index ≡ other.index = omega (arith, from, to) in
-        shard-once (files.file (part_place folder other.index)) (part-tells folder files all other.index) other.index count c a b of also
-        (subst (λ k. IsShardFault (files.file (part_place folder k)) k count c a) same one.why) other.why))
+    shard-once (files.file (part_place folder other.index)) (part-tells folder files all other.index) other.index count c a b of also
+    (subst (λ k. IsShardFault (files.file (part_place folder k)) k count c a) same one.why) other.why))
     (cases_lt other.index one.index))
     (cases_lt one.index other.index)
 

@@ -1,11 +1,11 @@
 -- What one file is read as: one list, or one damage.
-use Rattle.std.proofs.Common.{◌≡◌, ℕ, ◌+◌, ◌<◌, ⊎_elim, List, [], ◌∷◌, ◌++◌, map, length, Option, None, Some, Ok, Err, IfSome, ap, sym, subst, ◌∙◌, arith}
+use Rattle.std.proofs.Common.{◌≡◌, ℕ, ◌<◌, ⊎_elim, List, ◌∷◌, map, length, Option, None, Some, Ok, Err, IfSome, ap, sym, subst, ◌∙◌, arith}
 use Rattle.std.proofs.lemmas.Bool.{cases_lt}
 use Rattle.std.specs.Prelude.{All}
 use Rattle.qz_catalog.specs.Loads as catalog_load
 use Rattle.qz_disks.specs.Shelves.{File}
 use Rattle.qz_journal.specs.Frames.{stands_for}
-use Rattle.qz_loading.proofs.Spelled.{SplitsAt, all-same, shorter-splits, splits}
+use Rattle.qz_loading.proofs.Spelled.{all-same, shorter-splits, splits}
 use Rattle.qz_loading.specs.Reading.{CatalogIsDamaged, IsCatalogIn, IsDamagedAt, IsPartIn, PartIsDamaged, by_bytes, by_record, gate_of}
 use Rattle.qz_record.specs.Records.{IsRecord}
 use Rattle.qz_shard.specs.Loads as part_load

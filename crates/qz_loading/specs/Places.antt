@@ -1,5 +1,5 @@
 -- Where the files of a school's lists stand, which of them are out, and what becomes of the others.
-use Rattle.std.specs.Prelude.{◌≡◌, ◌≢◌, ◌⊎◌, ℕ, ◌<◌, ◌≤◌, List, Bool, true, false, IfSome}
+use Rattle.std.specs.Prelude.{◌≡◌, ◌≢◌, ◌⊎◌, ℕ, ◌<◌, List, Bool, true, false, IfSome}
 use Rattle.qz_terms.specs.declared.limits.TheConstants.{MOST_SHARDS}
 use Rattle.qz_disks.specs.Shelves.{Place, place, File, Files, SameFile}
 use Rattle.qz_folders.specs.Names.{catalog_name, part_name}

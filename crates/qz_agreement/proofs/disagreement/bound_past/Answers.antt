@@ -1,5 +1,5 @@
-use Rattle.std.proofs.Common.{◌≡◌, List, map, ap, sym, ◌∙◌}
-use Rattle.std.specs.Prelude.{ℕ, filter, find, nat_lt}
+use Rattle.std.proofs.Common.{List, map, ap, sym, ◌∙◌}
+use Rattle.std.specs.Prelude.{filter, find, nat_lt}
 use Rattle.qz_terms.specs.declared.plan.Bound.{Bound}
 use Rattle.qz_terms.specs.declared.record.Event.{Event}
 use Rattle.qz_terms.specs.Legal.{positions_by}

@@ -1,4 +1,4 @@
-use Rattle.std.proofs.Common.{◌≡◌, Option, Some, ℕ, subst}
+use Rattle.std.proofs.Common.{Option, ℕ, subst}
 use Rattle.qz_agreement.specs.Findings.{AreJudged}
 use Rattle.qz_agreement.proofs.Final.{first-told, found-inside, none-found}
 use Rattle.qz_agreement.proofs.disagreement.first_disagreement.Goals as goal

@@ -1,8 +1,3 @@
-use Rattle.std.proofs.Common.{◌≡◌, Some, true, false, option_map}
-use Rattle.std.specs.Prelude.{is_some}
-use Rattle.qz_grading.specs.Grading.{at_place}
-use Rattle.qz_terms.specs.Catalog.{plan, users}
-use Rattle.qz_catalog.specs.Holdings.{lean}
 use Rattle.qz_agreement.proofs.Verdicts.{start-decides, start-misfits}
 use Rattle.qz_agreement.proofs.fitting.start_fits.Goals as goal
 

@@ -1,5 +1,4 @@
-use Rattle.std.proofs.Common.{List, Some, option_map, ◌∙◌, sym, subst, ap, ◌≡◌}
-use Rattle.std.specs.Prelude.{IfOk}
+use Rattle.std.proofs.Common.{List, Some, option_map, sym, subst, ◌≡◌}
 use Rattle.std.proofs.lemmas.Result.{IfOk-weaker}
 use Rattle.qz_grading.specs.declared.question.Shape.{Shape}
 use Rattle.qz_grading.specs.Grading.{shape}

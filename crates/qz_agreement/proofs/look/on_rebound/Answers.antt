@@ -1,6 +1,4 @@
-use Rattle.std.proofs.Common.{◌≡◌, Bool, sym, subst}
-use Rattle.std.specs.Bool.{Decides}
-use Rattle.qz_agreement.specs.Fitting.{BindsByJob}
+use Rattle.std.proofs.Common.{sym}
 use Rattle.qz_agreement.proofs.Verdicts.{rebound-pending}
 use Rattle.qz_agreement.proofs.look.on_rebound.Goals as goal
 

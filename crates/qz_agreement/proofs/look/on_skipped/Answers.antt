@@ -1,4 +1,4 @@
-use Rattle.std.proofs.Common.{Bool, sym, subst}
+use Rattle.std.proofs.Common.{sym, subst}
 use Rattle.qz_terms.specs.Legal.{SkipAgrees}
 use Rattle.qz_agreement.specs.declared.look.Verdict.{Verdict}
 use Rattle.qz_agreement.specs.Fitting.{IsVerdict}

@@ -1,4 +1,4 @@
-use Rattle.std.proofs.Common.{sym, ◌∙◌}
+use Rattle.std.proofs.Common.{sym}
 use Rattle.qz_agreement.proofs.Verdicts.{step-verdict}
 use Rattle.qz_agreement.proofs.look.on_step.Goals as goal
 

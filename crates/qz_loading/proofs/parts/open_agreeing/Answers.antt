@@ -1,7 +1,5 @@
 use Rattle.std.proofs.Common.{arith}
 use Rattle.std.proofs.lemmas.Result.{err_from_is_err_and}
-use Rattle.qz_disks.specs.Shelves.{place}
-use Rattle.qz_folders.specs.Names.{part_name}
 use Rattle.qz_loading.specs.Places.{part_place}
 use Rattle.qz_loading.proofs.Listing.{part_in}
 use Rattle.qz_loading.proofs.OpeningParts.{changes_twice}

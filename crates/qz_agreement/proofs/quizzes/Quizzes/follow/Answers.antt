@@ -1,5 +1,4 @@
 use Rattle.std.proofs.Common.{ap, sym, ◌∙◌}
-use Rattle.std.specs.Prelude.{is_some}
 use Rattle.qz_terms.specs.History.{start_by}
 use Rattle.qz_agreement.proofs.Mapped.{nothing-there, quiz-kept, quiz-other, quiz-put, none-started}
 use Rattle.qz_agreement.proofs.quizzes.Quizzes.follow.Goals as goal
