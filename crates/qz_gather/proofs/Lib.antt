@@ -1,0 +1,5 @@
+pub mod Clearing
+pub mod Turning
+pub mod Growing
+pub mod Noting
+pub mod Keeping
