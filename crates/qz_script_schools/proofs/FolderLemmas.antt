@@ -24,6 +24,7 @@ use Rattle.qz_school.specs.Solos.{Fails, GoOn, School, faults_of, held_of, lists
 use Rattle.qz_school.proofs.Keepers.{go_both, go_none}
 use Rattle.qz_serial.specs.Once.{AskedOnce}
 use Rattle.qz_serial.proofs.Staying.{asks_grow}
+use Rattle.qz_solo.specs.Standing.{StandAsSchool}
 use Rattle.qz_terms.specs.declared.ask.Ask.{Ask}
 use Rattle.qz_terms.specs.declared.reply.Reply.{Reply}
 use Rattle.qz_terms.specs.Serial.{Held}
@@ -94,9 +95,9 @@ back-stands old new journal held same back = told-stands (StandForList held new.
 pub given_back : {D : Type 0} (disks : Disks D) (folder : List ℕ) (old new : Shelved) (mid : Files) (count : ℕ) (a b : School (Ledger D))
     → TellAlike folder old.files new.files → IsLoadedFrom disks.moment disks.left_at folder old.files a.catalog a.parts → KeepsElsewhere folder (length a.parts) old.files mid → old.faults ≤ count
     → length b.parts ≡ length a.parts → disk_faults disks a ≤ disk_faults disks b
-    → IsBack b.catalog.keeper b.catalog.held (new.files.file (catalog_place folder)) → PartsAreBack folder b.parts new.files → KeepsElsewhere folder (length b.parts) mid new.files
+    → IsBack b.catalog.keeper b.catalog.held (new.files.file (catalog_place folder)) → PartsAreBack folder b.parts new.files → StandAsSchool (lists_in b) → KeepsElsewhere folder (length b.parts) mid new.files
     → RisesBy (disk_faults disks b) count new.faults → IsGivenBack disks folder old new a b
-given_back disks folder old new mid count a b alike loaded apart later same fell catalog parts others rises = record {
+given_back disks folder old new mid count a b alike loaded apart later same fell catalog parts school others rises = record {
   loaded = loaded;
   count = same;
   later = fell;
@@ -104,6 +105,7 @@ given_back disks folder old new mid count a b alike loaded apart later same fell
   parts = record {
     each = λ k s got. back-stands (old.files.file (part_place folder k)) (new.files.file (part_place folder k)) s.keeper s.held (alike (part_name k)) (parts.each k s got);
   };
+  school = school;
   others = elsewhere-on folder (length a.parts) (length b.parts) old.files mid new.files same apart others;
   risen = rises-past old.faults count new.faults (disk_faults disks b) later rises;
   as_often = λ n told. often-past old.faults count new.faults (disk_faults disks a) (disk_faults disks b) n later rises told;

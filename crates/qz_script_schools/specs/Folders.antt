@@ -15,6 +15,7 @@ use Rattle.qz_script.specs.Retries.{Seen}
 use Rattle.qz_script.specs.Scripts.{HasRisenBy, ServeEnds}
 use Rattle.qz_shard.specs.Keeping as part
 use Rattle.qz_school.specs.Solos.{GoOn, School, faults_of, lists_in}
+use Rattle.qz_solo.specs.Standing.{StandAsSchool}
 use Rattle.qz_terms.specs.Serial.{Held}
 
 -- what is told of the disks of a shelf: the moment of one, what a crash at each moment may have left of it, that it fails no call, and how
@@ -47,13 +48,15 @@ IsStanding held old new = IfSome old.reads (λ _. StandForList held new.left)
 pub record PartsStand {D : Type 0} (folder : List ℕ) (parts : List (part.Keeping (Ledger D))) (old new : Files) : Type 0 where
   pub each : (k : ℕ) (s : part.Keeping (Ledger D)) → slice_get parts k ≡ Some s → IsStanding s.held (old.file (part_place folder k)) (new.file (part_place folder k))
 
--- The files of a folder gave the school a, and took b back: each stands for its list then, and no other file on the shelf changed.
+-- The files of a folder gave the school a, and took b back: each stands for its list then, and no other file on the shelf changed. Whichever
+-- of the lists that may stand do, they are a school's.
 pub record IsGivenBack {D : Type 0} (disks : Disks D) (folder : List ℕ) (old new : Shelved) (a b : School (Ledger D)) : Type 0 where
   pub loaded : IsLoadedFrom disks.moment disks.left_at folder old.files a.catalog a.parts
   pub count : length b.parts ≡ length a.parts
   pub later : disk_faults disks a ≤ disk_faults disks b
   pub catalog : IsStanding b.catalog.held (old.files.file (catalog_place folder)) (new.files.file (catalog_place folder))
   pub parts : PartsStand folder b.parts old.files new.files
+  pub school : StandAsSchool (lists_in b)
   pub others : KeepsElsewhere folder (length a.parts) old.files new.files
   -- the shelf's count takes those of the disks
   pub risen : HasRisenBy old.faults (disk_faults disks b) new.faults

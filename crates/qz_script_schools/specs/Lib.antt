@@ -1,2 +1,3 @@
 pub mod Memory
 pub mod Folders
+pub mod Again

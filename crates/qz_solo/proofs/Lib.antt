@@ -1,4 +1,5 @@
 pub mod Standing
+pub mod Upholding
 pub mod UnderPlans
 pub mod Serving
 pub mod Steps

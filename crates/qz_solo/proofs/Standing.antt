@@ -86,8 +86,8 @@ changed_part c ss k s g solo is same agree =
 
 -- ---- a catalogue that has grown
 
-shards-append : (c rest : List Record) (n : ℕ) → catalog.shards c ≡ Some n → catalog.shards (c ++ rest) ≡ Some n
-shards-append c rest n is = ap first_of (filter_map-append _ c rest) ∙ first_of-append (filter_map _ c) (filter_map _ rest) n is
+pub shards_append : (c rest : List Record) (n : ℕ) → catalog.shards c ≡ Some n → catalog.shards (c ++ rest) ≡ Some n
+shards_append c rest n is = ap first_of (filter_map-append _ c rest) ∙ first_of-append (filter_map _ c) (filter_map _ rest) n is
 
 pub agree_longer : (c d h : List Record) → Grows c d → AllAgree c h → AllAgree d h
 agree_longer c d h grown all = subst (λ (l : List Record). AllAgree l h) (sym grown.grown) (all-longer c grown.rest h all)
@@ -96,7 +96,7 @@ pub grown_solo : {K : Type 0} (c d : records.Keeping K) (ss : List (part.Keeping
 grown_solo c d ss solo grown = record {
   some = solo.some;
   placed = solo.placed;
-  founded = subst (λ (l : List Record). catalog.shards l ≡ Some (length ss)) (sym grown.grown) (shards-append c.held.list grown.rest (length ss) solo.founded);
+  founded = subst (λ (l : List Record). catalog.shards l ≡ Some (length ss)) (sym grown.grown) (shards_append c.held.list grown.rest (length ss) solo.founded);
   agree = record { each = λ k s at. stand_as (AllAgree d.held.list) (AllAgree c.held.list) s.held (λ h all. agree_longer c.held.list d.held.list h grown all) (solo.agree.each k s at) };
 }
 

@@ -1,3 +1,4 @@
+pub mod Standing
 pub mod Restarting
 pub mod Memory
 pub mod Marks

@@ -10,7 +10,9 @@ ghost use Rattle.qz_loading.specs.Closing.{IsBack, PartsAreBack};
 ghost use Rattle.qz_loading.specs.Opening.{AreSound, AreSoundOut, IsLoadedFrom};
 ghost use Rattle.qz_loading.specs.Places.{IsOut, KeepsElsewhere, LeavesUnreached, ListsStay, catalog_place};
 ghost use Rattle.qz_loading.specs.Reading.{IsLoadFault};
+ghost use Rattle.qz_school.specs.Solos.{lists_in};
 ghost use Rattle.qz_solo.specs.Restarting.{Restarts};
+ghost use Rattle.qz_solo.specs.Standing.{StandAsSchool};
 
 use crate::Solo;
 use qz_disks::{Keeper, Shelf};
@@ -58,7 +60,7 @@ pub fn load<F: Shelf>(
 }
 
 /// Gives every file of a school's lists back. It takes no memory, and writes nothing. Each file stands for its list then, or where a
-/// record is in doubt for the list or for it with that record.
+/// record is in doubt for the list or for it with that record; and whichever of these do, they are a school's.
 pub fn close<F: Shelf>(shelf: &mut F, folder: &[u8], school: Solo<Journal<F::Disk>>)
     requires few { length school.parts ≤ MOST_SHARDS }
     requires out { IsOut folder.now (length school.parts) (F.files shelf.old) }
@@ -66,6 +68,7 @@ pub fn close<F: Shelf>(shelf: &mut F, folder: &[u8], school: Solo<Journal<F::Dis
     ensures catalog { IsBack school.catalog.keeper school.catalog.held
         ((F.files shelf.new).file (catalog_place folder.now)) }
     ensures parts { PartsAreBack folder.now school.parts (F.files shelf.new) }
+    ensures school { StandAsSchool (lists_in school) }
     ensures others { KeepsElsewhere folder.now (length school.parts)
         (F.files shelf.old) (F.files shelf.new) }
     ensures faults { RisesBy (F.Disk.faults school.catalog.keeper.disk
@@ -77,6 +80,7 @@ pub fn close<F: Shelf>(shelf: &mut F, folder: &[u8], school: Solo<Journal<F::Dis
         → StaysSound (F.sound shelf.old) (F.sound shelf.new)
         (F.faults shelf.old) (F.faults shelf.new) ⊥ }
 {
+    school.attest();
     let (catalog, shards) = school.into_parts();
     qz_loading::close(shelf, folder, Loaded { catalog, shards });
 }

@@ -7,6 +7,7 @@ ghost use Rattle.qz_terms.specs.Legal.{IsLegalCatalog};
 ghost use Rattle.qz_terms.specs.Serial.{held_in};
 ghost use Rattle.qz_school.specs.Answering.{IsServed, MayBeAsked};
 ghost use Rattle.qz_school.specs.Solos.{IsSolo, faults_of, lists_in};
+ghost use Rattle.qz_solo.specs.Standing.{AreLegal, StandAsSchool};
 
 use qz_catalog::Catalog;
 use qz_disks::Keeper;
@@ -63,6 +64,15 @@ impl<K: Keeper> Solo<K> {
         self.catalog.len()
     }
 
+    /// Does nothing. What it says holds of every school: whichever of the lists that may stand do, they are a school's.
+    pub fn attest(&self)
+        ensures { StandAsSchool (lists_in self.now) }
+    {
+        // Whatever a list holds is legal.
+        let _length = self.catalog.len();
+        attest_shards(&self.shards);
+    }
+
     /// The record at a place, from 1 on, of the catalogue's list or of this shard's, and `None` where there is no such shard or place. One in
     /// doubt has none.
     pub fn record_at(&self, list: Option<u8>, place: u64) -> Option<&Record>
@@ -72,6 +82,15 @@ impl<K: Keeper> Solo<K> {
             None => self.catalog.record_at(place),
             Some(index) => self.shards.get(usize::from(index))?.record_at(place),
         }
+    }
+}
+
+/// Whatever a shard holds is legal.
+fn attest_shards<K: Keeper>(shards: &[Shard<K>])
+    ensures { AreLegal shards.now }
+{
+    for shard in shards {
+        let _length = shard.len();
     }
 }
 

@@ -13,7 +13,7 @@ close-requires-clause-out g c κs within = out_as_many _ _ _ _ (school_count _ _
 pub returns-in-Ok-clause-ended : goal.returns-in-Ok-clause-ended
 returns-in-Ok-clause-ended g c =
     let e = rw c.in-Ok.ensures.unwritten at c.say_served.ensures in
-    let back = given_back _ _ _ _ _ _ _ _ (λ name. g.met.F.Shelf.tells_alike c.args.shelf.now c.close.new.shelf (place c.args.folder.now name) (c.requires.none_out.each name) (c.close.ensures.none_out.each name)) c.in-Ok.ensures.loaded c.in-Ok.ensures.others c.open_school.ensures.later (school_count _ _ _ _ _ _ _ _ _ c.serve_school-school.result.1 c.serve_school-school.ensures) (school_later _ _ _ _ _ _ _ _ _ c.serve_school-school.result.1 c.serve_school-school.ensures) c.close.ensures.catalog c.close.ensures.parts c.close.ensures.others c.close.ensures.faults in
+    let back = given_back _ _ _ _ _ _ _ _ (λ name. g.met.F.Shelf.tells_alike c.args.shelf.now c.close.new.shelf (place c.args.folder.now name) (c.requires.none_out.each name) (c.close.ensures.none_out.each name)) c.in-Ok.ensures.loaded c.in-Ok.ensures.others c.open_school.ensures.later (school_count _ _ _ _ _ _ _ _ _ c.serve_school-school.result.1 c.serve_school-school.ensures) (school_later _ _ _ _ _ _ _ _ _ c.serve_school-school.result.1 c.serve_school-school.ensures) c.close.ensures.catalog c.close.ensures.parts c.close.ensures.school c.close.ensures.others c.close.ensures.faults in
     record { stop = e.stop; status_is = e.status_is; cause = served_ends _ _ _ _ _ _ _ _ _ _ e.stop back (said_of _ _ _ _ _ _ _ _ _ _ _ _ _ c.serve_school-school.result.1 e.stop c.serve_school-school.ensures back e.cause) c.close.ensures.none_out (omega (arith, c.open_school.ensures.later, c.close.ensures.faults.later)) }
 
 pub returns-in-Ok-clause-complete : goal.returns-in-Ok-clause-complete

@@ -14,7 +14,7 @@ returns-in-Ok-clause-ended g c =
     let b = c.of.result in
     let same : b ≡ a = school-same a b _ _ c.of.ensures c.into_parts-catalog.ensures.catalog c.into_parts-catalog.ensures.shards in
     let told = said-of c.told-told.result c.args.quiz _ a (c.deref.ensures.value ∙ c.into_parts-catalog.ensures.shards) c.told-told.ensures in
-    let back = given_back _ _ _ _ _ _ a b (λ name. g.met.F.Shelf.tells_alike c.args.shelf.now c.close.new.shelf (place c.args.folder.now name) (c.requires.none_out.each name) (c.close.ensures.none_out.each name)) c.in-Ok.ensures.loaded c.in-Ok.ensures.others c.open_school.ensures.later (ap (λ s. length s.parts) same) (faults-same (record { moment = g.F.Disk.Disk.moment; left_at = g.F.Disk.Disk.left_at; sound = g.F.Disk.Disk.sound; faults = g.F.Disk.Disk.faults }) a b same) c.close.ensures.catalog c.close.ensures.parts c.close.ensures.others c.close.ensures.faults in
+    let back = given_back _ _ _ _ _ _ a b (λ name. g.met.F.Shelf.tells_alike c.args.shelf.now c.close.new.shelf (place c.args.folder.now name) (c.requires.none_out.each name) (c.close.ensures.none_out.each name)) c.in-Ok.ensures.loaded c.in-Ok.ensures.others c.open_school.ensures.later (ap (λ s. length s.parts) same) (faults-same (record { moment = g.F.Disk.Disk.moment; left_at = g.F.Disk.Disk.left_at; sound = g.F.Disk.Disk.sound; faults = g.F.Disk.Disk.faults }) a b same) c.close.ensures.catalog c.close.ensures.parts c.close.ensures.school c.close.ensures.others c.close.ensures.faults in
     record {
       stop = e.stop;
       status_is = e.status_is;
