@@ -1,5 +1,4 @@
-pub mod Numbered
+pub mod Pushing
+pub mod Entering
 pub mod Calls
-pub mod Inserting
-pub mod PayloadTable
 pub mod Keeping

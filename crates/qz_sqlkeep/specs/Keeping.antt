@@ -1,5 +1,5 @@
 -- What a keeper over a database has, and what its calls do to the tables.
-use Rattle.std.specs.Prelude.{◌≡◌, ℕ, Bool, false, if◌then◌else◌, List, [], ◌∷◌, map, Option, Some, None, Result, IsTrue, MatchResult, refl}
+use Rattle.std.specs.Prelude.{◌≡◌, ℕ, Bool, false, if◌then◌else◌, List, Option, Some, None, Result, IsTrue, IfOk, IfSome, MatchResult, refl}
 use Rattle.std.specs.Coded.{Coded, code_by, coded×, coded_ℕ, coded_list, coded_option}
 use Rattle.qz_disks.specs.declared.keeper.KeepErr.{KeepErr}
 use Rattle.qz_disks.specs.declared.keeper.KeepErr.TheVariants.{Fault, Memory}
@@ -11,9 +11,11 @@ use Rattle.sqlite.specs.declared.error.ErrorCode.TheVariants.{OutOfMemory}
 use Rattle.sqlite.specs.Effect.{Database}
 use Rattle.sqlite.specs.Held.{Held, held_code}
 use Rattle.sqlite.specs.State.{State}
-use Rattle.sqlite_value.specs.declared.value.Value.TheVariants.{Blob}
-use Rattle.sqlite_value.specs.Order.{Row}
-use Rattle.qz_sqlkeep.specs.Schema.{HasTables, payloads_in}
+use Rattle.qz_sqltables.specs.Rows.{Tables}
+use Rattle.qz_sqltables.specs.Schema.{HasTables, payloads_in}
+use Rattle.qz_sqltables.specs.Statements.{StaysAsItWas, Turns}
+use Rattle.qz_terms.specs.declared.record.Record.{Record}
+use Rattle.qz_sqlkeep.specs.Tables.{SpellEach, tables_of, with_entry}
 
 -- ---- the keeper
 
@@ -32,10 +34,16 @@ keeping_code {S} store =
 abbrev pub kept_in : Bool → Database → Option (List (List ℕ))
 kept_in tells db = if tells then Some (payloads_in db) else None
 
--- Between its calls no transaction is open, and the database of a store that tells it is the tables of a list.
+-- the database is the tables of the payloads
+pub record Stands (payloads : List (List ℕ)) (db : Database) : Type 0 where
+  pub spelled : List (Option Record)
+  pub each : SpellEach payloads spelled
+  pub tables : HasTables (tables_of payloads spelled) db
+
+-- Between its calls no transaction is open, and the database of a store that tells it is the tables of its payloads.
 pub record IsAtRest (tells : Bool) (s : State) : Type 0 where
   pub idle : s.in_transaction ≡ false
-  pub stands : IsTrue tells → HasTables (payloads_in s.now) s.now
+  pub stands : IsTrue tells → Stands (payloads_in s.now) s.now
 
 -- ---- refusals
 
@@ -49,43 +57,36 @@ abbrev pub faults_after : KeepErr → ℕ → ℕ
 faults_after Fault before = counted before
 faults_after Memory before = before
 
--- ---- what a call does to the tables, where nobody else writes the database and the disk returns what was written
+-- ---- what an append does to the tables, where nobody else writes the database and the disk returns what was written
+
+-- a payload was put with what it spells, and that is committed
+pub record Enters (payload : List ℕ) (spelled : Option Record) (old new : State) : Type 0 where
+  pub is_open : IsTrue new.is_open
+  pub committed : new.committed ≡ new.now
+  pub turns : Turns (with_entry payload spelled) old.now new.now
+
+abbrev pub EndsEntering : {E : Type 0} → List ℕ → Option Record → State → State → Result (Unit {0}) E → Type 0
+EndsEntering payload spelled old new result = MatchResult result (λ _. Enters payload spelled old new) (λ _. StaysAsItWas old new)
 
 -- the tables are those of the list with one more payload, and that is committed
 pub record Stores (payload : List ℕ) (old new : State) : Type 0 where
   pub is_open : IsTrue new.is_open
   pub committed : new.committed ≡ new.now
-  pub tables : (payloads : List (List ℕ)) → HasTables payloads old.now → HasTables (with_one_more payload payloads) new.now
-
--- the database is as it was; it is shut where its disk failed, and then shows nothing
-pub record StaysAsItWas (old new : State) : Type 0 where
-  pub was_open : IsTrue new.is_open → IsTrue old.is_open
-  pub same : IsTrue new.is_open → new.now ≡ old.now
-
--- the rows show the payloads of the tables, one in each, and the tables stay
-pub record AreFound (payloads : List (List ℕ)) (rows : List Row) (old new : State) : Type 0 where
-  pub is_open : IsTrue new.is_open
-  pub stays : StaysAsItWas old new
-  pub shown : rows ≡ map (λ payload. Blob payload ∷ []) payloads
-
-pub record FindsRows (rows : List Row) (old new : State) : Type 0 where
-  pub finds : (payloads : List (List ℕ)) → HasTables payloads old.now → AreFound payloads rows old new
-
--- what was found is the list of the tables, which stay
-pub record IsFound (payloads found : List (List ℕ)) (old new : State) : Type 0 where
-  pub is_open : IsTrue new.is_open
-  pub stays : StaysAsItWas old new
-  pub list : found ≡ payloads
-
-pub record FindsList (found : List (List ℕ)) (old new : State) : Type 0 where
-  pub finds : (payloads : List (List ℕ)) → HasTables payloads old.now → IsFound payloads found old new
-
--- a database that has the tables is as it was
-pub record KeepsTables (old new : State) : Type 0 where
-  pub keeps : (payloads : List (List ℕ)) → HasTables payloads old.now → StaysAsItWas old new
+  pub tables : (payloads : List (List ℕ)) → Stands payloads old.now → Stands (with_one_more payload payloads) new.now
 
 abbrev pub EndsStoring : {E : Type 0} → List ℕ → State → State → Result (Unit {0}) E → Type 0
 EndsStoring payload old new result = MatchResult result (λ _. Stores payload old new) (λ _. StaysAsItWas old new)
 
-abbrev pub EndsFinding : {E : Type 0} → State → State → Result (List (List ℕ)) E → Type 0
-EndsFinding old new result = MatchResult result (λ found. FindsList found old new) (λ _. KeepsTables old new)
+-- ---- what is read
+
+-- what the tables of the payloads tell
+pub record IsReadingOf {A : Type 0} (reading : Tables → A) (payloads : List (List ℕ)) (found : A) : Type 0 where
+  pub spelled : List (Option Record)
+  pub each : SpellEach payloads spelled
+  pub is : found ≡ reading (tables_of payloads spelled)
+
+-- it is read from the list kept, where the store tells it, and changes neither that nor the payload in doubt
+pub record EndsReading {A E : Type 0} (reading : Tables → A) (old new : Option (List (List ℕ))) (doubt_before doubt_now : Option (List ℕ)) (result : Result A E) : Type 0 where
+  pub told : IfOk result (λ found. IfSome old (λ payloads. IsReadingOf reading payloads found))
+  pub kept : new ≡ old
+  pub same_doubt : doubt_now ≡ doubt_before

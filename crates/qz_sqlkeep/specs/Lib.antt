@@ -1,4 +1,3 @@
 pub mod Tables
-pub mod Schema
 pub mod Keeping
 pub mod Told

@@ -1,5 +1,5 @@
--- The four tables of a list of payloads, and what is read from them.
-use Rattle.std.specs.Prelude.{◌≡◌, ℕ, ◌==◌, ◌&&◌, List, [], ◌∷◌, filter, filter_map, map, Option, Some, None, option_map, option_and_then}
+-- The four tables of a list of payloads.
+use Rattle.std.specs.Prelude.{◌≡◌, ℕ, ◌+◌, List, [], ◌∷◌, filter_map, length, Option, Some, None, option_map, option_and_then}
 use Rattle.std.specs.List.{AllZip, enumerate_from}
 use Rattle.qz_grading.specs.declared.refusal.AttemptId.{AttemptId}
 use Rattle.qz_grading.specs.Steps.{last_of}
@@ -9,9 +9,9 @@ use Rattle.qz_terms.specs.declared.record.Event.TheVariants as event
 use Rattle.qz_terms.specs.declared.record.How.{How}
 use Rattle.qz_terms.specs.declared.record.How.TheVariants as how
 use Rattle.qz_terms.specs.declared.record.Record.{Record}
-use Rattle.qz_terms.specs.History.{Start, attempt_before, ends, started}
-use Rattle.qz_terms.specs.Lists.{in_order}
+use Rattle.qz_terms.specs.History.{Start, ends, started}
 use Rattle.qz_terms.specs.Spelling.{spelling}
+use Rattle.qz_sqltables.specs.Rows.{AttemptRow, ReplyRow, StepRow, Tables, with_attempt, with_payload, with_reply, with_status, with_step}
 
 -- ---- what payloads spell
 
@@ -23,26 +23,6 @@ Spells payload (Some r) = IsRecord r × (payload ≡ spelling r)
 -- each payload of a list, in turn
 abbrev pub SpellEach : List (List ℕ) → List (Option Record) → Type 0
 SpellEach = AllZip Spells
-
--- ---- rows
-
-pub record AttemptRow : Type 0 where
-  pub owner : ℕ
-  pub nth : ℕ
-  pub quiz : ℕ
-  -- 0 while it waits, 1 once it is finished, 2 once it is abandoned
-  pub status : ℕ
-
-pub record StepRow : Type 0 where
-  pub place : ℕ
-  pub owner : ℕ
-  pub nth : ℕ
-  pub slot : ℕ
-
-pub record ReplyRow : Type 0 where
-  pub caller : ℕ
-  pub word : List ℕ
-  pub place : ℕ
 
 -- ---- attempts
 
@@ -87,14 +67,6 @@ reply_row p = option_and_then (reply_by p.0) p.1
 
 -- ---- the tables
 
-pub record Tables : Type 0 where
-  -- `record`: the payloads, whose places count from 1
-  pub payloads : List (List ℕ)
-  -- `attempt`, `step`, `reply`
-  pub attempts : List AttemptRow
-  pub steps : List StepRow
-  pub replies : List ReplyRow
-
 -- the tables of payloads that spell these
 abbrev pub tables_of : List (List ℕ) → List (Option Record) → Tables
 tables_of payloads spelled = record {
@@ -104,15 +76,24 @@ tables_of payloads spelled = record {
   replies = filter_map reply_row (enumerate_from 1 spelled);
 }
 
--- ---- what is read from them
+-- ---- what one record changes
 
-abbrev pub attempt_in : AttemptRow → AttemptId
-attempt_in a = record { user = a.owner; nth = a.nth }
+-- the tables with what an event brings, whose record stands at the place
+abbrev pub with_event : Record → ℕ → Event → Tables → Tables
+with_event r place (event.Started quiz nth behaviour bounds learned) = with_attempt (record { owner = r.owner; nth = nth; quiz = quiz; status = 0 })
+with_event r place (event.Acted a slot step) = with_step (record { place = place; owner = a.user; nth = a.nth; slot = slot })
+with_event r place (event.Ended a how) = with_status a.user a.nth (status_of (Some how))
+with_event r place e = λ t. t
 
--- the attempts at a quiz that wait, in order of owner and number
-abbrev pub waiting : ℕ → Tables → List AttemptId
-waiting quiz t = in_order attempt_before (map attempt_in (filter (λ (a : AttemptRow). (a.quiz == quiz) && (a.status == 0)) t.attempts))
+-- the tables with the key of a caller's request, if it had one
+abbrev pub with_key : ℕ → ℕ → Option (List ℕ) → Tables → Tables
+with_key caller place None t = t
+with_key caller place (Some word) t = with_reply (record { caller = caller; word = word; place = place }) t
 
--- the places of an attempt's steps, in order
-abbrev pub places_of : AttemptId → Tables → List ℕ
-places_of id t = map (λ (s : StepRow). s.place) (filter (λ (s : StepRow). (s.owner == id.user) && (s.nth == id.nth)) t.steps)
+abbrev pub with_record : ℕ → Option Record → Tables → Tables
+with_record place None t = t
+with_record place (Some r) t = with_key r.caller place r.key (with_event r place r.event t)
+
+-- the tables with one more payload, and what it spells
+abbrev pub with_entry : List ℕ → Option Record → Tables → Tables
+with_entry payload spelled t = with_record (length t.payloads + 1) spelled (with_payload payload t)

@@ -2,11 +2,9 @@
 #![tactic(auto)]
 
 mod base;
-mod payloads;
+mod entries;
 mod refusals;
-mod schema;
 mod sql_keeper;
 
 pub use base::Base;
-pub use schema::make_tables;
 pub use sql_keeper::SqlKeeper;

@@ -8,14 +8,17 @@ ghost use Rattle.qz_disks.specs.Sound.{StaysSound};
 ghost use Rattle.sqlite.specs.Held.{state};
 ghost use Rattle.sqlite.specs.State.{HasCleanDisk};
 ghost use Rattle.sqlite.specs.Steps.{over_memory};
-ghost use Rattle.qz_sqlkeep.specs.Schema.{HasTables, payloads_in};
-ghost use Rattle.qz_sqlkeep.specs.Keeping.{kept_in, EndsFinding, EndsStoring};
+ghost use Rattle.qz_sqltables.specs.Rows.{places_of, waiting};
+ghost use Rattle.qz_sqltables.specs.Schema.{payloads_in};
+ghost use Rattle.qz_sqltables.specs.Statements.{EndsFinding};
+ghost use Rattle.qz_sqlkeep.specs.Keeping.{kept_in, EndsReading, EndsStoring, Stands};
 
 use crate::Base;
-use crate::payloads::{append_payload, read_payloads};
+use crate::entries::append_payload;
 use crate::refusals::told;
-use crate::schema::make_tables;
 use qz_disks::{KeepErr, Keeper};
+use qz_grading::AttemptId;
+use qz_sqltables::{make_tables, read_payloads, read_places, read_waiting};
 use qz_text::{Bytes, Listed};
 use sqlite::{Connection, Error, MemStore};
 use std::alloc::Global;
@@ -50,7 +53,7 @@ impl<S: Base> SqlKeeper<S> {
     pub fn new(conn: Connection<S>) -> SqlKeeper<S>
         requires idle { conn.in_transaction ≡ false }
         requires tables { IsTrue S.Base.tells
-            → HasTables (payloads_in (state S.Store conn).now) (state S.Store conn).now }
+            → Stands (payloads_in (state S.Store conn).now) (state S.Store conn).now }
         ensures { result ≡ record { conn = conn; doubt = None; faults = 0 } }
     {
         SqlKeeper {
@@ -66,12 +69,53 @@ impl<S: Base> SqlKeeper<S> {
     {
         self.faults
     }
+
+    /// The attempts at a quiz that wait, in order of owner and number.
+    ///
+    /// After an error the list and the payload in doubt are as they were.
+    pub fn waiting(&mut self, alloc: Global, quiz: u32) -> Result<Listed<AttemptId>, KeepErr>
+        ensures list { EndsReading (waiting quiz)
+            (kept_in S.Base.tells (state S.Store self.old.conn).now)
+            (kept_in S.Base.tells (state S.Store self.new.conn).now)
+            self.old.doubt self.new.doubt result }
+        ensures cause { HasKeepCause self.old.faults self.new.faults result }
+
+        // What it finds in a database in a file too.
+        ensures tables { HasCleanDisk (state S.Store self.new.conn) → EndsFinding (waiting quiz)
+            (state S.Store self.old.conn) (state S.Store self.new.conn) result }
+    {
+        match read_waiting(alloc, &mut self.conn, quiz) {
+            Ok(found) => Ok(found),
+            Err(error) => Err(told(&mut self.faults, error)),
+        }
+    }
+
+    /// The places of an attempt's steps, in order.
+    ///
+    /// After an error the list and the payload in doubt are as they were.
+    pub fn steps_of(&mut self, alloc: Global, attempt: AttemptId) -> Result<Listed<u64>, KeepErr>
+        ensures list { EndsReading (places_of attempt)
+            (kept_in S.Base.tells (state S.Store self.old.conn).now)
+            (kept_in S.Base.tells (state S.Store self.new.conn).now)
+            self.old.doubt self.new.doubt result }
+        ensures cause { HasKeepCause self.old.faults self.new.faults result }
+
+        // What it finds in a database in a file too.
+        ensures tables { HasCleanDisk (state S.Store self.new.conn) → EndsFinding
+            (places_of attempt)
+            (state S.Store self.old.conn) (state S.Store self.new.conn) result }
+    {
+        match read_places(alloc, &mut self.conn, attempt) {
+            Ok(found) => Ok(found),
+            Err(error) => Err(told(&mut self.faults, error)),
+        }
+    }
 }
 
 impl SqlKeeper<MemStore> {
     /// A keeper of an empty list, in memory.
     pub fn in_memory(alloc: Global) -> Result<SqlKeeper<MemStore>, Error>
-        ensures tables { IfOk result (λ k. HasTables [] (state over_memory k.conn).now) }
+        ensures tables { IfOk result (λ k. Stands [] (state over_memory k.conn).now) }
         ensures fresh { IfOk result (λ k. (k.doubt ≡ None) × (k.faults ≡ 0)) }
     {
         let mut conn = Connection::open_in_memory(alloc)?;
@@ -105,7 +149,7 @@ impl<S: Base> Keeper for SqlKeeper<S> {
             (state S.Store self.old.conn) (state S.Store self.new.conn) result }
     {
         let copy = Bytes::of(alloc, payload)?;
-        match append_payload(&mut self.conn, payload) {
+        match append_payload(alloc, &mut self.conn, payload) {
             Ok(()) => Ok(()),
             Err(error) => match told(&mut self.faults, error) {
                 KeepErr::Memory => Err(KeepErr::Memory),
@@ -127,7 +171,7 @@ impl<S: Base> Keeper for SqlKeeper<S> {
 
         // What it finds in a database in a file too.
         ensures tables { HasCleanDisk (state S.Store self.new.conn) → EndsFinding
-            (state S.Store self.old.conn) (state S.Store self.new.conn) result }
+            (λ t. t.payloads) (state S.Store self.old.conn) (state S.Store self.new.conn) result }
     {
         match read_payloads(alloc, &mut self.conn) {
             Ok(found) => {

@@ -1,0 +1,10 @@
+pub mod Texts
+pub mod Numbered
+pub mod Writing
+pub mod Lists
+pub mod Values
+pub mod Apart
+pub mod Changes
+pub mod Calls
+pub mod Showing
+pub mod Creating
