@@ -1,6 +1,7 @@
 -- The polls of a task.
 use Rattle.std.proofs.Common.{◌≡◌, inl, inr, ◌<◌, Bool, true, [], Option, Some, None, refl, arith, vec_len}
 use Rattle.std.specs.Prelude.{IsSomeAnd}
+use Rattle.std.proofs.Math.Logic.{∥∥₁_map}
 use Rattle.qz_terms.specs.declared.ask.Ask.{Ask}
 use Rattle.qz_terms.specs.declared.reply.Reply.{Reply}
 use Rattle.qz_http.specs.declared.items.LinkEnd.{LinkEnd}
@@ -43,9 +44,7 @@ module _ {D L C : Type 0} (asks : Answerer D C → Answerer D C → Ask → Repl
   pub again : (old new : Serving D L C) (woken : Bool) → GoesOn asks g old new woken → CanGoOn asks g old → vec_len new.room ≡ vec_len old.room → CanGoOn asks g new
   again old new woken goes can same = record {
     room = omega (arith, can.room, same);
-    first = can.first;
-    a = can.a;
-    under_way = (goes.each can.first can.a can.under_way).under_way;
+    begun = ∥∥₁_map can.begun (λ s. record { first = s.first; a = s.a; under_way = (goes.each s.first s.a s.under_way).under_way });
   }
 
   -- and what it ends with then is what it may end with now
@@ -59,4 +58,4 @@ module _ {D L C : Type 0} (asks : Answerer D C → Answerer D C → Ask → Repl
   -- a task that begins may be polled
   pub may_poll : (serving : Option (Serving D L C)) (desk : D) (link : L) (clock : C) → IsSomeAnd serving (Begins asks g desk link clock) → MayPoll asks g serving
   may_poll None desk link clock none = absurd none
-  may_poll (Some s) desk link clock new = record { room = new.room; first = (outside_of g link).peer; a = record { desk = desk; clock = clock }; under_way = new.under_way }
+  may_poll (Some s) desk link clock new = record { room = new.room; begun = ∣ record { first = (outside_of g link).peer; a = record { desk = desk; clock = clock }; under_way = new.under_way } ∣₁ }

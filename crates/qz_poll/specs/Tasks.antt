@@ -21,12 +21,16 @@ pub record TakesAll (takes : ℕ → Ask → Type 0) : Type 0 where
   pub each : (moment : ℕ) (ask : Ask) → is_moment moment ≡ true → IsAskable ask → takes moment ask
 
 module _ {D L C : Type 0} (asks : Answerer D C → Answerer D C → Ask → Reply → Type 0) (g : Ghosts L) where
-  -- a link is under way from some beginning, and there is room to read into
-  pub record CanGoOn (s : Serving D L C) : Type 0 where
-    pub room : 0 < vec_len s.room
+  -- a link is under way from some beginning
+  pub record HasBegun (s : Serving D L C) : Type 0 where
     pub first : Peer
     pub a : Answerer D C
     pub under_way : IsUnderWay asks first a (stage_of g s)
+
+  -- it is, and there is room to read into
+  pub record CanGoOn (s : Serving D L C) : Type 0 where
+    pub room : 0 < vec_len s.room
+    pub begun : ∥ HasBegun s ∥₁
 
   -- nothing was read of the link or written to it, and nothing asked
   pub record Begins (desk : D) (link : L) (clock : C) (s : Serving D L C) : Type 0 where

@@ -1,9 +1,10 @@
 //! The task that serves one link.
 
-ghost use Rattle.std.specs.Prelude.{◌≡◌, IfErr, IfOk, IsSome, IsSomeAnd, option_map};
+ghost use Rattle.std.specs.Prelude.{◌≡◌, false, IfErr, IfOk, IsSome, IsSomeAnd, option_map};
 ghost use Rattle.futures.specs.Poll.{IfReady, OnPending};
 ghost use Rattle.futures.specs.Task.{Covers, Keeps};
 ghost use Rattle.futures.specs.Task.EventLoop.Names.{key_source};
+ghost use Rattle.qz_http.specs.declared.items.LinkEnd.TheVariants as end;
 ghost use Rattle.qz_asking.specs.Asking.{Asks};
 ghost use Rattle.qz_poll.specs.Outsides.{outside_of};
 ghost use Rattle.qz_poll.specs.Tasks.{Begins, MayEnd, MayPoll, PollsOn, TakesAll};
@@ -97,6 +98,35 @@ impl<D: Desk, L: ReadyLink, C: Clock> LinkTask<D, L, C> {
     {
         self.key.bell()
     }
+
+    /// Whether the bell was rung since a poll found the link not ready. Where it wasn't, the task waits at its key again, as
+    /// after such a poll.
+    pub fn is_rung(&self, cx: &mut Context<'_>) -> bool
+        ensures waits { result ≡ false → Covers cx.new (λ s. s ≡ key_source self.now.key) }
+        ensures kept { Keeps cx.old cx.new }
+    {
+        match cx.poll_fired(&self.key) {
+            Poll::Ready(_) => true,
+            Poll::Pending => false,
+        }
+    }
+
+    /// Gives the link up before it is over. It ends as one for which memory was wanting.
+    pub fn stop(self) -> TaskEnd<D, L, C>
+        requires { MayPoll (Asks C.tells D.answers) L.ReadyLink self.serving }
+        ensures ends { MayEnd (Asks C.tells D.answers) L.ReadyLink self.serving result }
+        ensures why { result.why ≡ end.Memory }
+    {
+        let LinkTask {
+            alloc: _,
+            key: _,
+            serving,
+        } = self;
+        let Some(serving) = serving else {
+            unreachable!()
+        };
+        ended(serving, LinkEnd::Memory)
+    }
 }
 
 impl<D: Desk + Drop, L: ReadyLink + Drop, C: Clock + Drop> Future for LinkTask<D, L, C> {
@@ -155,20 +185,32 @@ impl<D, L, C> LinkTask<D, L, C> {
         let Some(serving) = self.serving.take() else {
             unreachable!()
         };
-        let Serving {
-            desk,
-            link,
-            clock,
-            core: _,
-            room: _,
-            outbox: _,
-            over: _,
-        } = serving;
-        Poll::Ready(TaskEnd {
-            why,
-            link,
-            desk,
-            clock,
-        })
+        Poll::Ready(ended(serving, why))
+    }
+}
+
+// What is left of a link that has ended.
+fn ended<D, L, C>(serving: Serving<D, L, C>, why: LinkEnd) -> TaskEnd<D, L, C>
+    ensures { result ≡ record {
+      why = why;
+      link = serving.link;
+      desk = serving.desk;
+      clock = serving.clock;
+    } }
+{
+    let Serving {
+        desk,
+        link,
+        clock,
+        core: _,
+        room: _,
+        outbox: _,
+        over: _,
+    } = serving;
+    TaskEnd {
+        why,
+        link,
+        desk,
+        clock,
     }
 }

@@ -1,12 +1,13 @@
 use Rattle.std.proofs.Common.{◌≡◌, ◌∙◌, arith}
+use Rattle.std.proofs.Math.Logic.{∥∥₁_elim}
+use Rattle.std.specs.Coded.{le_prop}
 use Rattle.qz_poll.specs.Stages.{stage_of}
 use Rattle.qz_poll.proofs.StageLemmas.{further, further_on, pauses}
 use Rattle.qz_poll.proofs.serving.Serving.advance.Goals as goal
 
 pub loop-answered-smaller-in-Answered : goal.loop-answered-smaller-in-Answered
 loop-answered-smaller-in-Answered g c =
-    let going = c.requires.going in
-    (c.in-Answered.ensures.leaves going.first going.a (c.loop-answered.invariant.keeps.each going.first going.a going.under_way).under_way).1
+    ∥∥₁_elim c.requires.going.begun le_prop (λ s. (c.in-Answered.ensures.leaves s.first s.a (c.loop-answered.invariant.keeps.each s.first s.a s.under_way).under_way).1)
 
 pub loop-answered-preserved-in-Answered : goal.loop-answered-preserved-in-Answered
 loop-answered-preserved-in-Answered g c = record {
@@ -21,8 +22,7 @@ loop-answered-preserved-in-Answered g c = record {
 
 pub loop-answered-smaller : goal.loop-answered-smaller
 loop-answered-smaller g c =
-    let going = c.requires.going in
-    (c.in-On.ensures.leaves going.first going.a (c.loop-answered.invariant.keeps.each going.first going.a going.under_way).under_way).1
+    ∥∥₁_elim c.requires.going.begun le_prop (λ s. (c.in-On.ensures.leaves s.first s.a (c.loop-answered.invariant.keeps.each s.first s.a s.under_way).under_way).1)
 
 pub loop-answered-preserved : goal.loop-answered-preserved
 loop-answered-preserved g c = record {

@@ -1,0 +1,4 @@
+mod Places
+mod KeptLemmas
+mod SlotLemmas
+mod Rounds

@@ -1,0 +1,4 @@
+pub mod Halls
+pub mod Slots
+pub mod Kept
+pub mod Waits
