@@ -291,15 +291,15 @@ module _ {D L C K : Type 0} (asks : Answerer D C → Answerer D C → Ask → Re
         out = omega (arith, k.out, closed);
       }
 
-  -- no link was taken
-  pub serves_none : (most : ℕ) (e : Entrance L) (seats : List (D × C)) (links shorts : ℕ) (why : PollWhy) → start ≡ all_free e seats → links ≡ 0 → shorts ≡ 0 → EndsAtOnce most why
-      → ServesReady asks (peer_of g) most start e seats links shorts why
-  serves_none most e seats links shorts why is none_taken none_short so =
-      let begun : start.entrance ≡ e = ap (λ (h : Hall L (Answerer D C)). h.entrance) is in
-      record {
-        happens = rw (none_taken, none_short) (subst (λ (h : Hall L (Answerer D C)). Happens asks (peer_of g) start h 0 0) is none);
-        within = omega (arith, none_taken);
-        stops = rw none_taken (stops_at_once most why start.entrance e so);
-        returns = omega (arith, none_taken, ap (λ (x : Entrance L). x.returns) begun);
-        out = omega (arith, ap (λ (x : Entrance L). x.out) begun);
-      }
+-- no link was taken
+pub serves_none : {D L C : Type 0} (asks : Answerer D C → Answerer D C → Ask → Reply → Type 0) (g : Ghosts L) (start : Hall L (Answerer D C)) (most : ℕ) (e : Entrance L) (seats : List (D × C)) (links shorts : ℕ) (why : PollWhy) → start ≡ all_free e seats → links ≡ 0 → shorts ≡ 0 → EndsAtOnce most why
+    → ServesReady asks (peer_of g) most start e seats links shorts why
+serves_none {D} {L} {C} asks g start most e seats links shorts why is none_taken none_short so =
+    let begun : start.entrance ≡ e = ap (λ (h : Hall L (Answerer D C)). h.entrance) is in
+    record {
+      happens = rw (none_taken, none_short) (subst (λ (h : Hall L (Answerer D C)). Happens asks (peer_of g) start h 0 0) is none);
+      within = omega (arith, none_taken);
+      stops = rw none_taken (stops_at_once most why start.entrance e so);
+      returns = omega (arith, none_taken, ap (λ (x : Entrance L). x.returns) begun);
+      out = omega (arith, ap (λ (x : Entrance L). x.out) begun);
+    }
