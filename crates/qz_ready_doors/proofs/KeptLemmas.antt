@@ -1,5 +1,5 @@
 -- What stays known of a door and the desks before it, step after step.
-use Rattle.std.proofs.Common.{◌≡◌, inl, inr, ℕ, ◌+◌, ◌<◌, ◌≤◌, true, List, [], ◌∷◌, map, length, slice_get, slice_set, Option, Some, None, refl, sym, ap, ◌∙◌, subst, arith}
+use Rattle.std.proofs.Common.{◌≡◌, inl, inr, ℕ, ◌+◌, ◌<◌, ◌≤◌, List, [], map, length, slice_get, slice_set, Option, Some, None, refl, sym, ap, ◌∙◌, subst, arith}
 use Rattle.std.specs.List.{All, sum_by}
 use Rattle.std.specs.Prelude.{IfSome, get_or}
 use Rattle.std.proofs.Math.ListN.{length-map}
@@ -20,7 +20,7 @@ use Rattle.qz_ready_doors.specs.declared.end.PollWhy.TheVariants as ends
 use Rattle.qz_ready_doors.specs.declared.slot.Ended.{Ended}
 use Rattle.qz_ready_doors.specs.declared.slot.Slot.{Slot}
 use Rattle.qz_ready_doors.specs.declared.slot.Slot.TheVariants as slot
-use Rattle.qz_ready_doors.specs.Halls.{Hall, Happens, Place, ServesReady, Stops, all_free, answerer_of, busy, ended, free, none, took, tried}
+use Rattle.qz_ready_doors.specs.Halls.{Hall, Happens, Place, ServesReady, Stops, all_free, busy, ended, free, none, took, tried}
 use Rattle.qz_ready_doors.specs.Kept.{EndsAtOnce, Gives, IsKept, IsShut, Takes, free_slot, peer_of}
 use Rattle.qz_ready_doors.specs.Slots.{Declines, Frees, IsSlot, Opens, Stays, open_in, place_of}
 use Rattle.qz_ready_doors.proofs.Places.{all_still, get_set, open_busy, open_free, open_same, none_open, open_within, opens, place_was, places, places_free, places_same, set_twice, shorter_most, within_old}

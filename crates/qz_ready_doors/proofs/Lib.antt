@@ -1,4 +1,3 @@
 mod Places
 mod KeptLemmas
 mod SlotLemmas
-mod Rounds

@@ -20,7 +20,7 @@ use Rattle.qz_ready_doors.specs.declared.slot.Slot.{Slot}
 use Rattle.qz_ready_doors.specs.declared.slot.Slot.TheVariants as slot
 use Rattle.qz_ready_doors.specs.declared.slot.Taken.{Taken}
 use Rattle.qz_ready_doors.specs.Halls.{Place, busy, free}
-use Rattle.qz_ready_doors.specs.Slots.{Declines, Frees, HasLink, IsSlot, Opens, Stays, place_of}
+use Rattle.qz_ready_doors.specs.Slots.{Declines, Frees, HasLink, IsSlot, Opens, place_of}
 
 abbrev link_of : {L S : Type 0} → L → Place L S → L
 link_of other (free a) = other

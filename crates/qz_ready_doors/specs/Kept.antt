@@ -1,5 +1,5 @@
 -- What is known at any time of a door and the desks before it.
-use Rattle.std.specs.Prelude.{◌≡◌, ℕ, ◌+◌, ◌<◌, ◌≤◌, ⊤, List, [], map, Option, Some, None, IfSome}
+use Rattle.std.specs.Prelude.{◌≡◌, ℕ, ◌+◌, ◌<◌, ◌≤◌, ⊤, [], map, Option, Some, None, IfSome}
 use Rattle.std.specs.List.{All, sum_by}
 use Rattle.qz_outside.specs.Causes.{HasRisen}
 use Rattle.qz_terms.specs.declared.ask.Ask.{Ask}

@@ -14,17 +14,17 @@ returns-in-Some-clause-kept g c =
     let was = read_at c.args.desks.now.slots.items c.args.at c.index_mut.result.now (some_within _ c.args.desks.now.slots.items c.args.at c.requires.free) c.index_mut.ensures.value in
     let t = c.in-Ok-Link.ensures in
     ∥∥₁_map c.requires.kept (λ k. kept_declined _ _ _ _ c.args.desks.now c.give_back.new.desks c.args.at c.index_mut.result.now c.open.new.self k was
-          (slots_as c.give_back.new.desks _ c.give_back.ensures.counts) (entrance_by g.P.ReadyDoor.left g.P.ReadyDoor.returned g.P.ReadyDoor.returns g.P.ReadyDoor.out g.P.ReadyDoor.faults c.try_next.new.self) _ c.in-Ok-Link.link c.in-Some.ended c.in-Some.ensures.opens
-          (record { next = rw c.in-Ok-Link.field-0-is at t.takes; returned = t.apart; returns = t.returns_stay; later = t.cause.later }) c.give_back.ensures.gives c.requires.more.1 c.requires.more.0
-          (counts_as c.args.desks.now c.give_back.new.desks _ c.give_back.ensures.counts refl refl))
+    (slots_as c.give_back.new.desks _ c.give_back.ensures.counts) (entrance_by g.P.ReadyDoor.left g.P.ReadyDoor.returned g.P.ReadyDoor.returns g.P.ReadyDoor.out g.P.ReadyDoor.faults c.try_next.new.self) _ c.in-Ok-Link.link c.in-Some.ended c.in-Some.ensures.opens
+    (record { next = rw c.in-Ok-Link.field-0-is at t.takes; returned = t.apart; returns = t.returns_stay; later = t.cause.later }) c.give_back.ensures.gives c.requires.more.1 c.requires.more.0
+    (counts_as c.args.desks.now c.give_back.new.desks _ c.give_back.ensures.counts refl refl))
 
 pub returns-in_default-clause-kept : goal.returns-in_default-clause-kept
 returns-in_default-clause-kept g c =
     let was = read_at c.args.desks.now.slots.items c.args.at c.index_mut.result.now (some_within _ c.args.desks.now.slots.items c.args.at c.requires.free) c.index_mut.ensures.value in
     let t = c.in-Ok-Link.ensures in
     ∥∥₁_map c.requires.kept (λ k. kept_opened _ _ _ _ c.args.desks.now _ c.args.at c.index_mut.result.now c.open.new.self k was refl (entrance_by g.P.ReadyDoor.left g.P.ReadyDoor.returned g.P.ReadyDoor.returns g.P.ReadyDoor.out g.P.ReadyDoor.faults c.try_next.new.self) c.in-Ok-Link.link c.in_default.ensures.opens
-          (record { next = rw c.in-Ok-Link.field-0-is at t.takes; returned = t.apart; returns = t.returns_stay; later = t.cause.later }) c.requires.more.1 c.requires.more.0
-          (record { most = refl; shut = refl; taken = refl; short = refl }))
+    (record { next = rw c.in-Ok-Link.field-0-is at t.takes; returned = t.apart; returns = t.returns_stay; later = t.cause.later }) c.requires.more.1 c.requires.more.0
+    (record { most = refl; shut = refl; taken = refl; short = refl }))
 
 pub returns-in-Ok-NotYet-clause-kept : goal.returns-in-Ok-NotYet-clause-kept
 returns-in-Ok-NotYet-clause-kept g c =

@@ -1,4 +1,3 @@
-use Rattle.std.proofs.Common.{refl}
 use Rattle.qz_poll.proofs.Stops.{stops_as}
 use Rattle.qz_poll.proofs.task.LinkTask.stop.Goals as goal
 
