@@ -93,6 +93,7 @@ bulk_ends n old new before now stop.BadWords ends quiet = absurd ends
 bulk_ends n old new before now stop.ShelfFault ends quiet = absurd ends
 bulk_ends n old new before now stop.Refused ends quiet = absurd ends
 bulk_ends n old new before now stop.DoorFault ends quiet = absurd ends
+bulk_ends n old new before now stop.Gap ends quiet = absurd ends
 bulk_ends n old new before now (stop.Malformed line) ends quiet = absurd ends
 bulk_ends n old new before now (stop.Unreadable line rule) ends quiet = absurd ends
 bulk_ends n old new before now stop.SourceFault ends quiet = absurd ends

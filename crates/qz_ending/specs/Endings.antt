@@ -26,6 +26,7 @@ status_of (Some stop.Refused) = 7
 status_of (Some stop.Memory) = 8
 status_of (Some stop.TooLong) = 9
 status_of (Some stop.DoorFault) = 10
+status_of (Some stop.Gap) = 11
 
 -- a call with this status ended so, for some stop
 pub record Ended (Ends : Option Stop → Type 0) (status : ℕ) : Type 0 where

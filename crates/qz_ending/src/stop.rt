@@ -30,6 +30,8 @@ pub enum Stop {
     TooLong,
     /// A door failed: status 10.
     DoorFault,
+    /// A new record was found to be nobody's: status 11.
+    Gap,
 }
 
 impl Stop {
@@ -50,6 +52,7 @@ impl Stop {
             Stop::Memory => 8,
             Stop::TooLong => 9,
             Stop::DoorFault => 10,
+            Stop::Gap => 11,
         }
     }
 }

@@ -48,6 +48,7 @@ gifts_all writes old new stop.BadWords h = absurd h
 gifts_all writes old new stop.ShelfFault h = absurd h
 gifts_all writes old new stop.Refused h = absurd h
 gifts_all writes old new stop.DoorFault h = absurd h
+gifts_all writes old new stop.Gap h = absurd h
 gifts_all writes old new (stop.Malformed line) h = absurd h
 gifts_all writes old new (stop.Unreadable line rule) h = record {
   done = λ text bank left within reads quiet silent.

@@ -45,6 +45,7 @@ module _ (number : ℕ) (p : Play) (lines rest : List (List ℕ)) (line front : 
   fails_more stop.ShelfFault reads = absurd reads
   fails_more stop.Refused reads = absurd reads
   fails_more stop.DoorFault reads = absurd reads
+  fails_more stop.Gap reads = absurd reads
   fails_more (stop.Unreadable n rule) reads = absurd reads
   fails_more stop.SourceFault reads = absurd reads
   fails_more stop.SinkFault reads = absurd reads

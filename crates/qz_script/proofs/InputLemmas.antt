@@ -129,6 +129,7 @@ stops_next old mid left between rest before during later line stop.BadWords h f 
 stops_next old mid left between rest before during later line stop.ShelfFault h f = absurd f
 stops_next old mid left between rest before during later line stop.Refused h f = absurd f
 stops_next old mid left between rest before during later line stop.DoorFault h f = absurd f
+stops_next old mid left between rest before during later line stop.Gap h f = absurd f
 stops_next old mid left between rest before during later line (stop.Unreadable n rule) h f = absurd f
 stops_next old mid left between rest before during later line (stop.Malformed n) h f = absurd f
 stops_next old mid left between rest before during later line stop.SinkFault h f = absurd f

@@ -42,6 +42,7 @@ answers a b old new before now line r (Err stop.BadWords) goes says = absurd say
 answers a b old new before now line r (Err stop.ShelfFault) goes says = absurd says
 answers a b old new before now line r (Err stop.Refused) goes says = absurd says
 answers a b old new before now line r (Err stop.DoorFault) goes says = absurd says
+answers a b old new before now line r (Err stop.Gap) goes says = absurd says
 answers a b old new before now line r (Err (stop.Unreadable n rule)) goes says = absurd says
 answers a b old new before now line r (Err (stop.Malformed n)) goes says = absurd says
 answers a b old new before now line r (Err stop.SourceFault) goes says = absurd says
@@ -182,6 +183,7 @@ ends_reading a b left between rest holds written before during now early late ol
 ends_reading a b left between rest holds written before during now early late old limit stop.ShelfFault s n = absurd n
 ends_reading a b left between rest holds written before during now early late old limit stop.Refused s n = absurd n
 ends_reading a b left between rest holds written before during now early late old limit stop.DoorFault s n = absurd n
+ends_reading a b left between rest holds written before during now early late old limit stop.Gap s n = absurd n
 ends_reading a b left between rest holds written before during now early late old limit (stop.Unreadable k rule) s n = absurd n
 ends_reading a b left between rest holds written before during now early late old limit (stop.Malformed k) s n = absurd n
 ends_reading a b left between rest holds written before during now early late old limit stop.SinkFault s n = absurd n
@@ -269,6 +271,7 @@ stops_line a b c left rest holds written wrote before now early mid late limit b
 stops_line a b c left rest holds written wrote before now early mid late limit bytes output front lines line stop.ShelfFault taken within answered appends later without with_it line_is o = absurd o
 stops_line a b c left rest holds written wrote before now early mid late limit bytes output front lines line stop.Refused taken within answered appends later without with_it line_is o = absurd o
 stops_line a b c left rest holds written wrote before now early mid late limit bytes output front lines line stop.DoorFault taken within answered appends later without with_it line_is o = absurd o
+stops_line a b c left rest holds written wrote before now early mid late limit bytes output front lines line stop.Gap taken within answered appends later without with_it line_is o = absurd o
 stops_line a b c left rest holds written wrote before now early mid late limit bytes output front lines line (stop.Unreadable n rule) taken within answered appends later without with_it line_is o = absurd o
 stops_line a b c left rest holds written wrote before now early mid late limit bytes output front lines line (stop.Malformed n) taken within answered appends later without with_it line_is o = absurd o
 stops_line a b c left rest holds written wrote before now early mid late limit bytes output front lines line stop.SourceFault taken within answered appends later without with_it line_is o = absurd o
@@ -328,6 +331,7 @@ serves_within limit a b old new (Some stop.BadWords) text e is within source sin
 serves_within limit a b old new (Some stop.ShelfFault) text e is within source sink = absurd e
 serves_within limit a b old new (Some stop.Refused) text e is within source sink = absurd e
 serves_within limit a b old new (Some stop.DoorFault) text e is within source sink = absurd e
+serves_within limit a b old new (Some stop.Gap) text e is within source sink = absurd e
 serves_within limit a b old new (Some (stop.Unreadable n rule)) text e is within source sink = absurd e
 serves_within limit a b old new (Some (stop.Malformed n)) text e is within source sink = absurd e
 serves_within limit a b old new (Some stop.SourceFault) text e is within source sink = absurd (source e.risen)

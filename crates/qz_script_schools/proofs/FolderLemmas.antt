@@ -132,6 +132,7 @@ unloaded-for folder old new before now stop.Refused u = record { cause = u.cause
 unloaded-for folder old new before now stop.Memory u = record { cause = u.cause; unloaded = u.unloaded }
 unloaded-for folder old new before now stop.TooLong u = absurd u
 unloaded-for folder old new before now stop.DoorFault u = absurd u
+unloaded-for folder old new before now stop.Gap u = absurd u
 
 unloaded_none_out : (folder : List ℕ) (old new : Shelved) (before now : Sunk) (s : Stop) → UnloadedBy folder old new before now s → NoneOutIn folder new.files
 unloaded_none_out folder old new before now s u = (unloaded-for folder old new before now s u).unloaded.none_out
@@ -153,6 +154,7 @@ not_raised folder old new before now stop.Refused u sink shelf = inl refl
 not_raised folder old new before now stop.Memory u sink shelf = inr refl
 not_raised folder old new before now stop.TooLong u sink shelf = absurd u
 not_raised folder old new before now stop.DoorFault u sink shelf = absurd u
+not_raised folder old new before now stop.Gap u sink shelf = absurd u
 
 pub unserved_status : (folder : List ℕ) (kept : Type 0) (old new : Shelved) (before now : Sunk) (s : Option Stop) → Unserved folder kept old new before now s → ¬ HasRisen before.faults now.faults → ¬ HasRisen old.faults new.faults
     → (status_of s ≡ 7) ⊎ (status_of s ≡ 8)

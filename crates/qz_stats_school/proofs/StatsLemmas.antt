@@ -46,6 +46,7 @@ written-status text before now (Some stop.Refused) written quiet = absurd writte
 written-status text before now (Some stop.Memory) written quiet = inr refl
 written-status text before now (Some stop.TooLong) written quiet = absurd written
 written-status text before now (Some stop.DoorFault) written quiet = absurd written
+written-status text before now (Some stop.Gap) written quiet = absurd written
 
 pub says_all : {D : Type 0} (disks : Disks D) (folder : List ℕ) (quiz : ℕ) (old new : Shelved) (before now : Sunk) (s : Option Stop) → StatsEnds disks folder quiz old new before now s → SaysAll old new before now (status_of s)
 says_all disks folder quiz old new before now s ends = record { done = λ sink shelf. by sink shelf ends.by }

@@ -15,6 +15,7 @@ fn each_stop_has_its_status(rt: HostRuntime) {
         (Stop::Memory, 8),
         (Stop::TooLong, 9),
         (Stop::DoorFault, 10),
+        (Stop::Gap, 11),
     ] {
         assert_eq!(rt; stop.status(), status, "{stop:?}");
     }
