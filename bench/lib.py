@@ -128,8 +128,13 @@ def setting_up(slots, users, text="Question"):
 def found(quizd, folder, shards, lines):
     """Founds a school in a folder, and asks the lines of it, each of which has to be accepted."""
     subprocess.run([quizd, "found", folder, str(shards), "root"], check=True, stdout=subprocess.DEVNULL)
+    told_all([quizd, "script", folder], lines)
+
+
+def told_all(command, lines):
+    """Asks lines of a program that answers each with a line, each of which has to be accepted."""
     text = "".join(line + "\n" for line in lines)
-    said = subprocess.run([quizd, "script", folder], input=text, capture_output=True, text=True, check=True).stdout
+    said = subprocess.run(command, input=text, capture_output=True, text=True, check=True).stdout
     accepted(text.splitlines(), said.splitlines())
 
 
