@@ -1,0 +1,4 @@
+mod Closing
+mod Fresh
+mod Marking
+mod Missing
