@@ -1,0 +1,80 @@
+//! Serving doors over the school of a folder.
+
+ghost use Rattle.std.specs.Prelude.{◌≡◌, ◌<◌, ◌≤◌, length};
+ghost use Rattle.qz_disks.specs.Shelves.{NoneOutIn};
+ghost use Rattle.qz_ending.specs.Endings.{Ended};
+ghost use Rattle.qz_stations.specs.Stations.{entrance_by, peer_by, serving_by};
+ghost use Rattle.qz_serving.specs.Folders.{DoorsFolderEnds, ServesDoors};
+ghost use Rattle.qz_serving.specs.Saying.{NoDoorFails};
+
+use crate::saying::say_ended;
+use qz_disks::Shelf;
+use qz_links::{Clock, Door};
+use qz_opening::open_school;
+use qz_outside::Sink;
+use qz_solo::close;
+use qz_stations::{Crew, serve_school};
+use std::alloc::Global;
+use std::sync::Wait;
+use std::thread::Threads;
+
+/// Serves the first doors, as many as there are workers, over the school of a folder, of which no file is out: side by side, each on a thread
+/// of its own where one can be started, until `links` links of the crew were taken there, none comes or the door fails. Its regraders work on the
+/// jobs of the school meanwhile, by the first clocks, and once more when all have left. Writes `served N`, how many links were taken in all, and
+/// answers the exit status.
+///
+/// With status 7 the files don't give a school, and one line says why; with status 6 the shelf failed, or the disk of a file; no link was
+/// taken then. With status 8 memory was wanting, for the school, for a link, which has ended then, for the last pass of the regraders, or for the
+/// line; with status 10 a door failed, and the others were served. Afterwards each file is given back, and stands for its list. With status 0
+/// and at least one regrader each job is done in each shard then, unless a file failed meanwhile.
+pub fn serve_folder<
+    W: Threads + Wait + Sync,
+    O: Sink,
+    R: Door + Send,
+    C: Clock + Send + Drop,
+    F: Shelf,
+>(
+    rt: &W,
+    alloc: Global,
+    folder: &[u8],
+    crew: Crew,
+    sink: &mut O,
+    doors: &mut Vec<(R, C)>,
+    clocks: Vec<C>,
+    shelf: &mut F,
+) -> u8
+where
+    F::Disk: Send + Sync,
+    R::Link: Send,
+    requires none_out { NoneOutIn folder.now (F.files shelf.old) }
+    requires some { 0 < crew.workers }
+    requires enough { crew.workers ≤ length doors.old.items }
+    requires clocks { crew.regraders ≤ length clocks.items }
+    ensures ended { Ended
+        (DoorsFolderEnds (record { moment = F.Disk.moment; left_at = F.Disk.left_at; sound = F.Disk.sound; faults = F.Disk.faults })
+        folder.now crew.workers crew.regraders
+        (serving_by C.tells (peer_by R.Link.left R.Link.holds R.Link.faults)
+        (entrance_by R.left R.returned R.returns R.out R.faults) crew.links)
+        doors.old.items doors.new.items
+        (record { files = F.files shelf.old; faults = F.faults shelf.old })
+        (record { files = F.files shelf.new; faults = F.faults shelf.new })
+        (record { holds = O.holds sink.old; faults = O.faults sink.old })
+        (record { holds = O.holds sink.new; faults = O.faults sink.new }))
+        result }
+    ensures complete { ServesDoors (NoDoorFails R.faults doors.old.items doors.new.items)
+        (record { files = F.files shelf.old; faults = F.faults shelf.old })
+        (record { files = F.files shelf.new; faults = F.faults shelf.new })
+        (record { holds = O.holds sink.old; faults = O.faults sink.old })
+        (record { holds = O.holds sink.new; faults = O.faults sink.new })
+        result }
+    ensures doors { length doors.new.items ≡ length doors.old.items }
+{
+    match open_school(alloc, folder, sink, shelf) {
+        Ok(school) => {
+            let (school, served) = serve_school(rt, alloc, school, crew, doors, clocks);
+            close(shelf, folder, school);
+            say_ended(alloc, sink, served)
+        }
+        Err(stop) => stop.status(),
+    }
+}
