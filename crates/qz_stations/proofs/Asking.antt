@@ -1,13 +1,17 @@
--- What is read of a link may be asked of a school, and a visit to a school that serves a door goes on.
-use Rattle.std.proofs.Common.{◌≡◌, ◌≤◌, ℕ, true, List, [], None, Some, Option, IfSome, length, arith}
+-- What is read of a link may be asked of a school, and one who asks a school and serves a door goes on: a visit, or a clerk, who notes what is asked.
+use Rattle.std.proofs.Common.{◌≡◌, ◌≤◌, ℕ, true, List, [], ◌∷◌, None, Some, Option, IfSome, length, refl, sym, subst, arith}
+use Rattle.std.specs.List.{AllZip}
 use Rattle.std.specs.Prelude.{unwrap_or}
-use Rattle.qz_asking.specs.Following.{Follows, asked, stays}
+use Rattle.qz_asking.specs.Following.{Follows, asked}
+use Rattle.qz_asking.specs.Following as following
 use Rattle.qz_asking.specs.Asking.{Answerer, Asks}
 use Rattle.qz_doors.specs.declared.door.DoorEnd.{DoorEnd}
 use Rattle.qz_doors.specs.Doors.{Entrance, ServesDoor}
 use Rattle.qz_doors.specs.Links.{Peer}
 use Rattle.qz_doors.proofs.Carrying.{Carries, carries_door}
 use Rattle.qz_doors.proofs.Following.{by_door}
+use Rattle.qz_gather.specs.Clerks.{Answers, Clerk, noted, unasked}
+use Rattle.qz_grading.specs.declared.refusal.Refusal.TheVariants as refusal
 use Rattle.qz_http.specs.Items.{IsAskable}
 use Rattle.qz_regrading.specs.declared.ends.LoopEnd.{LoopEnd}
 use Rattle.qz_regrading.specs.Loops.{Regrades}
@@ -17,13 +21,19 @@ use Rattle.qz_regrading.specs.Working as working
 use Rattle.qz_regrading.proofs.Searching.{regrades_follow}
 use Rattle.qz_school.specs.Answering.{MayBeAsked}
 use Rattle.qz_terms.specs.declared.ask.Ask.{Ask}
+use Rattle.qz_serial.specs.Once.{unsaid}
+use Rattle.qz_stations.specs.Noting.{clerk_sees, noting, quiet}
+use Rattle.qz_stations.specs.Posts.{HasRegraded, IsServed}
+use Rattle.qz_stations.specs.Stations.{serving_by}
 use Rattle.qz_terms.specs.declared.reply.Reply.{Reply}
+use Rattle.qz_terms.specs.declared.reply.Reply.TheVariants as reply
 use Rattle.qz_terms.specs.Kept.{is_moment}
+use Rattle.qz_terms.specs.Serial.{AllMended, Held, Mended, no_memory, stays}
 use Rattle.qz_visit.specs.Holding.{GoesOn}
 use Rattle.qz_visit.specs.Seeing.{IsAskedBeside}
 use Rattle.qz_visit.specs.Visits.{Asked, Tellings, Visitor, lists_told, said_by, seen_in}
 use Rattle.qz_visit.proofs.Holding.{goes_asked, goes_on, goes_self}
-use Rattle.qz_visit.proofs.Seeing.{asked_beside}
+use Rattle.qz_visit.proofs.Seeing.{all_self, asked_beside}
 use Rattle.qz_wire.specs.Brief.{IsBriefToken}
 
 brief-key : (key : Option (List ℕ)) → IfSome key IsBriefToken → length (unwrap_or key []) ≤ 64
@@ -37,46 +47,135 @@ may_ask now ask kept can = record { keyed = can.keyed; kept = can.kept; describe
 abbrev pub Visiting : Visitor → Visitor → ℕ → Ask → Reply → Type 0
 Visiting a b now ask told = (b.school ≡ a.school) × (Asked a.passes b.passes b.last now ask told)
 
-pub visit_goes : (a b : Visitor) → Follows Visiting a b → GoesOn a b
-visit_goes a _ (stays _) = goes_self a
+visit_goes : (a b : Visitor) → Follows Visiting a b → GoesOn a b
+visit_goes a _ (following.stays _) = goes_self a
 visit_goes a c (asked _ b _ now ask r before last) = goes_on a b c (visit_goes a b before) (goes_asked b c now ask r last)
 
--- of a visit, what it sees of the lists
-abbrev pub seen_by_clock : {C : Type 0} → Answerer Visitor C → Answerer Tellings C
-seen_by_clock a = record { desk = seen_in a.desk.passes; clock = a.clock }
+-- ---- a clerk
 
-asks-beside : {C : Type 0} (tells : C → ℕ → C → Type 0) → Carries (Asks tells Visiting) (Asks tells IsAskedBeside) seen_by_clock
-asks-beside tells = record {
-  each = λ a b what r s. record { moment = s.moment; told = s.told; answered = asked_beside a.desk.passes b.desk.passes _ what (said_by r b.desk.last) s.answered.1.visited };
+all-mended : (hs : List Held) → AllZip Mended hs hs
+all-mended [] = tt
+all-mended (h ∷ hs) = (stays h, all-mended hs)
+
+-- where memory is wanting for its note nothing is asked
+unasked-beside : (t : Tellings) (now : ℕ) (ask : Ask) → IsAskedBeside t t now ask (reply.Refused refusal.Memory)
+unasked-beside t now ask = record {
+  found = t;
+  begins = all_self t;
+  grows = all_self t;
+  once = record {
+    asks = record {
+      mended = lists_told t;
+      mends = same;
+      keeps = record { records = λ unread. refl; parts = λ k unread. refl };
+      turn = no_memory (lists_told t) now ask;
+    };
+    cause = λ told. absurd cc;
+    stands = λ place d keyed told. absurd cc;
+    stays = λ x told there. there;
+    again = λ told there. (unsaid refl, same);
+  };
 }
+  where
+    same : AllMended (lists_told t) (lists_told t)
+    same = record { records = stays (lists_told t).records; parts = all-mended (lists_told t).parts }
 
--- ---- one who regrades
+-- what a clerk sees of the lists
+abbrev pub clerk_seen : Clerk → Tellings
+clerk_seen c = seen_in c.visit.passes
 
-works-beside : {C : Type 0} (tells : C → ℕ → C → Type 0) (a b : Answerer Visitor C) (ws : List Worked) → Works tells Visiting a ws b → Works tells IsAskedBeside (seen_by_clock a) ws (seen_by_clock b)
-works-beside tells a _ _ (working.none _) = working.none (seen_by_clock a)
-works-beside tells a b _ (working.more _ m _ ws w before may one) =
-    working.more (seen_by_clock a) (seen_by_clock m) (seen_by_clock b) ws w (works-beside tells a m ws before) may ((asks-beside tells).each m b (worker_asks w.request) w.reply one)
+pub clerk_beside : (a b : Clerk) (now : ℕ) (ask : Ask) (r : Reply) → Answers a b now ask r → IsAskedBeside (clerk_seen a) (clerk_seen b) now ask r
+clerk_beside a b now ask r (unasked same told) = subst (IsAskedBeside (clerk_seen a) (clerk_seen b) now ask) (sym told) (subst (λ (c : Clerk). IsAskedBeside (clerk_seen a) (clerk_seen c) now ask (reply.Refused refusal.Memory)) (sym same) (unasked-beside (clerk_seen a) now ask))
+clerk_beside a b now ask r (noted n school asks tells more) = asked_beside a.visit.passes b.visit.passes now ask (said_by r b.visit.last) asks.visited
 
-pub regrades_beside : {C : Type 0} (tells : C → ℕ → C → Type 0) (a b : Answerer Visitor C) (end : LoopEnd) → Regrades tells Visiting (λ (v : Visitor). lists_told (seen_in v.passes)) a b end
-    → Regrades tells IsAskedBeside lists_told (seen_by_clock a) (seen_by_clock b) end
-regrades_beside tells a b end r = record {
-  before = r.before;
-  between = seen_by_clock r.between;
-  worked = works-beside tells a r.between r.before r.worked;
-  last = r.last;
-  works = works-beside tells r.between b r.last r.works;
-  sweeps = r.sweeps;
-  ended = r.ended;
-}
+clerk-asked : (a b : Clerk) (now : ℕ) (ask : Ask) (r : Reply) → Answers a b now ask r → GoesOn a.visit b.visit
+clerk-asked a b now ask r (unasked same told) = subst (λ (c : Clerk). GoesOn a.visit c.visit) (sym same) (goes_self a.visit)
+clerk-asked a b now ask r (noted n school asks tells more) = goes_asked a.visit b.visit now ask r (school, asks)
 
-pub regrades_go : {C : Type 0} (tells : C → ℕ → C → Type 0) (a b : Answerer Visitor C) (end : LoopEnd) → Regrades tells Visiting (λ (v : Visitor). lists_told (seen_in v.passes)) a b end → GoesOn a.desk b.desk
-regrades_go tells a b end r = visit_goes a.desk b.desk (regrades_follow tells Visiting (λ (v : Visitor). lists_told (seen_in v.passes)) a b end r)
+clerk-goes : (a b : Clerk) → Follows Answers a b → GoesOn a.visit b.visit
+clerk-goes a _ (following.stays _) = goes_self a.visit
+clerk-goes a c (asked _ b _ now ask r before last) = goes_on a.visit b.visit c.visit (clerk-goes a b before) (clerk-asked b c now ask r last)
 
--- ---- a door
+-- ---- one who asks beside others
 
-module _ {L C : Type 0} (tells : C → ℕ → C → Type 0) (peer : L → Peer) (most : ℕ) (old new : Entrance L) (a b : Answerer Visitor C) (end : DoorEnd) (served : ServesDoor (Asks tells Visiting) peer most old new a b end) where
-  pub serves_beside : ServesDoor (Asks tells IsAskedBeside) peer most old new (seen_by_clock a) (seen_by_clock b) end
-  serves_beside = carries_door (Asks tells Visiting) (Asks tells IsAskedBeside) seen_by_clock peer most old new a b end (asks-beside tells) served
+pub visit_beside : (a b : Visitor) (now : ℕ) (ask : Ask) (r : Reply) → Visiting a b now ask r → IsAskedBeside (seen_in a.passes) (seen_in b.passes) now ask r
+visit_beside a b now ask r answered = asked_beside a.passes b.passes now ask (said_by r b.last) answered.1.visited
 
-  pub visit_goes_on : GoesOn a.desk b.desk
-  visit_goes_on = visit_goes a.desk b.desk (by_door Visiting tells peer most old new a b end served)
+module _ {S : Type 0} (answers : S → S → ℕ → Ask → Reply → Type 0) (see : S → Tellings) (beside : (a b : S) (now : ℕ) (ask : Ask) (r : Reply) → answers a b now ask r → IsAskedBeside (see a) (see b) now ask r) where
+  -- what is seen of the lists
+  abbrev seen_by_clock : {C : Type 0} → Answerer S C → Answerer Tellings C
+  seen_by_clock a = record { desk = see a.desk; clock = a.clock }
+
+  asks-beside : {C : Type 0} (tells : C → ℕ → C → Type 0) → Carries (Asks tells answers) (Asks tells IsAskedBeside) seen_by_clock
+  asks-beside tells = record {
+    each = λ a b what r s. record { moment = s.moment; told = s.told; answered = beside a.desk b.desk _ what r s.answered };
+  }
+
+  works-beside : {C : Type 0} (tells : C → ℕ → C → Type 0) (a b : Answerer S C) (ws : List Worked) → Works tells answers a ws b → Works tells IsAskedBeside (seen_by_clock a) ws (seen_by_clock b)
+  works-beside tells a _ _ (working.none _) = working.none (seen_by_clock a)
+  works-beside tells a b _ (working.more _ m _ ws w before may one) =
+      working.more (seen_by_clock a) (seen_by_clock m) (seen_by_clock b) ws w (works-beside tells a m ws before) may ((asks-beside tells).each m b (worker_asks w.request) w.reply one)
+
+  regrades_seen : {C : Type 0} (tells : C → ℕ → C → Type 0) (a b : Answerer S C) (end : LoopEnd) → Regrades tells answers (λ (s : S). lists_told (see s)) a b end
+      → Regrades tells IsAskedBeside lists_told (seen_by_clock a) (seen_by_clock b) end
+  regrades_seen tells a b end r = record {
+    before = r.before;
+    between = seen_by_clock r.between;
+    worked = works-beside tells a r.between r.before r.worked;
+    last = r.last;
+    works = works-beside tells r.between b r.last r.works;
+    sweeps = r.sweeps;
+    ended = r.ended;
+  }
+
+  serves_seen : {L C : Type 0} (tells : C → ℕ → C → Type 0) (peer : L → Peer) (most : ℕ) (old new : Entrance L) (a b : Answerer S C) (end : DoorEnd) → ServesDoor (Asks tells answers) peer most old new a b end
+      → ServesDoor (Asks tells IsAskedBeside) peer most old new (seen_by_clock a) (seen_by_clock b) end
+  serves_seen tells peer most old new a b end served = carries_door (Asks tells answers) (Asks tells IsAskedBeside) seen_by_clock peer most old new a b end (asks-beside tells) served
+
+-- ---- a post where a door was served
+
+module _ {D L C : Type 0} (tells : C → ℕ → C → Type 0) (peer : L → Peer) (entrance : D → Entrance L) (most : ℕ) (door door' : D) (clock clock' : C) (end was : DoorEnd) where
+  -- by a visit
+  pub visit_served : (a b : Visitor) → ServesDoor (Asks tells Visiting) peer most (entrance door) (entrance door') (record { desk = a; clock = clock }) (record { desk = b; clock = clock' }) end
+      → IsServed (serving_by tells peer entrance most) (record { place = (door, clock); visit = a; notes = None; end = was }) (record { place = (door', clock'); visit = b; notes = None; end = end })
+  visit_served a b served = record {
+    going = serves_seen Visiting (λ (v : Visitor). seen_in v.passes) visit_beside tells peer most (entrance door) (entrance door') (record { desk = a; clock = clock }) (record { desk = b; clock = clock' }) end served;
+    goes_on = visit_goes a b (by_door Visiting tells peer most (entrance door) (entrance door') (record { desk = a; clock = clock }) (record { desk = b; clock = clock' }) end served);
+    notes = quiet;
+  }
+
+  -- by a clerk
+  pub clerk_served : (a b : Clerk) → ServesDoor (Asks tells Answers) peer most (entrance door) (entrance door') (record { desk = a; clock = clock }) (record { desk = b; clock = clock' }) end
+      → IsServed (serving_by tells peer entrance most) (record { place = (door, clock); visit = a.visit; notes = Some a.notes; end = was }) (record { place = (door', clock'); visit = b.visit; notes = Some b.notes; end = end })
+  clerk_served a b served = record {
+    going = serves_seen Answers clerk_seen clerk_beside tells peer most (entrance door) (entrance door') (record { desk = a; clock = clock }) (record { desk = b; clock = clock' }) end served;
+    goes_on = clerk-goes a b (by_door Answers tells peer most (entrance door) (entrance door') (record { desk = a; clock = clock }) (record { desk = b; clock = clock' }) end served);
+    notes = noting a.notes b.notes served;
+  }
+
+-- ---- a post where somebody regraded
+
+module _ {C : Type 0} (tells : C → ℕ → C → Type 0) (clock clock' : C) (end : LoopEnd) (was : DoorEnd) where
+  pub visit_regraded : (a b : Visitor) → Regrades tells Visiting (λ (v : Visitor). lists_told (seen_in v.passes)) (record { desk = a; clock = clock }) (record { desk = b; clock = clock' }) end
+      → HasRegraded tells (record { place = clock; visit = a; notes = None; end = was }) (record { place = clock'; visit = b; notes = None; end = was })
+  visit_regraded a b r = record {
+    gone_on = record {
+      goes_on = visit_goes a b (regrades_follow tells Visiting (λ (v : Visitor). lists_told (seen_in v.passes)) (record { desk = a; clock = clock }) (record { desk = b; clock = clock' }) end r);
+      end = refl;
+    };
+    loop = end;
+    regrades = regrades_seen Visiting (λ (v : Visitor). seen_in v.passes) visit_beside tells (record { desk = a; clock = clock }) (record { desk = b; clock = clock' }) end r;
+    notes = quiet;
+  }
+
+  pub clerk_regraded : (a b : Clerk) → Regrades tells Answers clerk_sees (record { desk = a; clock = clock }) (record { desk = b; clock = clock' }) end
+      → HasRegraded tells (record { place = clock; visit = a.visit; notes = Some a.notes; end = was }) (record { place = clock'; visit = b.visit; notes = Some b.notes; end = was })
+  clerk_regraded a b r = record {
+    gone_on = record {
+      goes_on = clerk-goes a b (regrades_follow tells Answers clerk_sees (record { desk = a; clock = clock }) (record { desk = b; clock = clock' }) end r);
+      end = refl;
+    };
+    loop = end;
+    regrades = regrades_seen Answers clerk_seen clerk_beside tells (record { desk = a; clock = clock }) (record { desk = b; clock = clock' }) end r;
+    notes = noting a.notes b.notes r;
+  }

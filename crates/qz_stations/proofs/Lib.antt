@@ -6,3 +6,4 @@ pub mod Leaving
 pub mod Serving
 pub mod Regrading
 pub mod Passing
+pub mod Books

@@ -3,13 +3,14 @@ use Rattle.std.proofs.Common.{◌≡◌, ℕ, zero, suc, ◌+◌, ◌<◌, ◌�
 use Rattle.std.specs.Prelude.{option_map, slice_get, sum_by, unwrap_or}
 use Rattle.std.proofs.lemmas.List.Sums.{sum_by-cons}
 use Rattle.qz_catalog_turns.specs.Turning.{held_of}
+use Rattle.qz_gather.specs.Clerks.{Answers, Clerk}
 use Rattle.qz_outside.specs.Causes.{HasRisen}
 use Rattle.qz_regrading.specs.Workers.{CountsFault, IsFront, KeepsParts, ServesWorkers, TellsWorker, worker_asks}
 use Rattle.qz_regrading.proofs.Keeping.{front-same, keeps-more}
 use Rattle.qz_regrading.proofs.Telling.{served_by_rules, telling_law}
 use Rattle.qz_school.specs.Answering.{IsServed}
 use Rattle.qz_school.specs.Solos.{faults_of, lists_in}
-use Rattle.qz_stations.proofs.Asking.{Visiting}
+use Rattle.qz_stations.proofs.Asking.{Visiting, clerk_beside, visit_beside}
 use Rattle.qz_terms.specs.declared.ask.Ask.{Ask}
 use Rattle.qz_terms.specs.declared.record.Record.{Record}
 use Rattle.qz_terms.specs.declared.reply.Reply.{Reply}
@@ -18,9 +19,8 @@ use Rattle.qz_terms.specs.Serial.{Held}
 use Rattle.qz_turn.specs.declared.view.Tale.{Tale}
 use Rattle.qz_turn.specs.Tales.{Follows}
 use Rattle.qz_visit.specs.Seeing.{FollowAll, FollowEach, IsAskedBeside, more, none}
-use Rattle.qz_visit.specs.Visits.{Rose, Seats, Tellings, Visitor, faults_seen, lists_told, of_catalog, of_shard, said_by, seen_by, seen_in}
+use Rattle.qz_visit.specs.Visits.{Rose, Seats, Tellings, Visitor, faults_seen, lists_told, of_catalog, of_shard, seen_by, seen_in}
 use Rattle.qz_visit.specs.Ways.{Part}
-use Rattle.qz_visit.proofs.Seeing.{asked_beside}
 
 -- ---- alone
 
@@ -116,14 +116,21 @@ sum-seen (p ∷ ps) = rw (in-more p.seen (seen_by ps), sum_by-cons (λ (q : Part
 told-seen : (p : Seats) → faults_told (seen_in p) ≡ faults_seen p
 told-seen p = ap (λ (n : ℕ). p.records.seen.faults + n) (sum-seen p.parts)
 
-visit-counts : (a b : Visitor) (now : ℕ) (ask : Ask) (r : Reply) → Visiting a b now ask r → CountsFault (faults_seen a.passes) (faults_seen b.passes) r
-visit-counts a b now ask r answered =
-    let c = beside-counts (seen_in a.passes) (seen_in b.passes) now ask r (asked_beside a.passes b.passes now ask (said_by r b.last) answered.1.visited) in
-    rw (sym (told-seen a.passes), sym (told-seen b.passes)) c
+-- One who asks beside others tells a worker of the lists that it sees, and counts what it has seen fail.
+module _ {S : Type 0} (answers : S → S → ℕ → Ask → Reply → Type 0) (passes : S → Seats) (beside : (a b : S) (now : ℕ) (ask : Ask) (r : Reply) → answers a b now ask r → IsAskedBeside (seen_in (passes a)) (seen_in (passes b)) now ask r) where
+  counts : (a b : S) (now : ℕ) (ask : Ask) (r : Reply) → answers a b now ask r → CountsFault (faults_seen (passes a)) (faults_seen (passes b)) r
+  counts a b now ask r answered =
+      let c = beside-counts (seen_in (passes a)) (seen_in (passes b)) now ask r (beside a b now ask r answered) in
+      rw (sym (told-seen (passes a)), sym (told-seen (passes b))) c
 
--- a visit tells a worker of the lists that its passes see, and counts what they have seen fail
+  serves-so : ServesWorkers (λ (s : S). lists_told (seen_in (passes s))) (λ (s : S). faults_seen (passes s)) answers
+  serves-so = record {
+    tells = λ a b now x r may answered. beside-tells (seen_in (passes a)) (seen_in (passes b)) now x r (beside a b now (worker_asks x) r answered);
+    counts = λ a b now x r may answered. counts a b now (worker_asks x) r answered;
+  }
+
 pub visit_serves : ServesWorkers (λ (v : Visitor). lists_told (seen_in v.passes)) (λ (v : Visitor). faults_seen v.passes) Visiting
-visit_serves = record {
-  tells = λ a b now x r may answered. beside-tells (seen_in a.passes) (seen_in b.passes) now x r (asked_beside a.passes b.passes now (worker_asks x) (said_by r b.last) answered.1.visited);
-  counts = λ a b now x r may answered. visit-counts a b now (worker_asks x) r answered;
-}
+visit_serves = serves-so Visiting (λ (v : Visitor). v.passes) visit_beside
+
+pub clerk_serves : ServesWorkers (λ (c : Clerk). lists_told (seen_in c.visit.passes)) (λ (c : Clerk). faults_seen c.visit.passes) Answers
+clerk_serves = serves-so Answers (λ (c : Clerk). c.visit.passes) clerk_beside

@@ -27,7 +27,7 @@ use Rattle.qz_visit.specs.Visits.{Locks, Seats, Tellings, Visitor, lists_told, s
 use Rattle.qz_visit.proofs.Holding.{every_held, from_map, goes_self, holds_on, holds_opened, seats_opened}
 use Rattle.qz_visit.proofs.Opened.{has_below}
 use Rattle.qz_stations.specs.Posts.{AreAmong, AreEach, AreManned, HasGoneOn, HasRegraded, HoldTheirs, HoldsEvery, IsCounted, IsHeldBy, IsServed, TakesIn, TakesUp, seen_at}
-use Rattle.qz_stations.specs.Stations.{Post, RegradesBeside, RegradesOnce, Serving, ServesAt, ServesBeside, all_ends, at_place, no_end}
+use Rattle.qz_stations.specs.Stations.{Post, RegradesBeside, RegradesOnce, Serving, ServesAt, ServesBeside, all_ends, at_place, end_of, no_end}
 use Rattle.qz_stations.proofs.Lists.{get_longer}
 use Rattle.qz_stations.proofs.TakingUp.{hold_theirs}
 
@@ -80,7 +80,7 @@ module _ {P : Type 0} (s : Locks) (told : Tellings) (numbers : List ℕ) (old re
 
   module _ (Does : Post P → Post P → Type 0) (left : List (Post P)) (did : AreEach Does taken left) where
     -- the station as it was taken up
-    was : (k : ℕ) (q : Post P) → slice_get left k ≡ Some q → (p : Post P) × ((slice_get taken k ≡ Some p) × Does p q)
+    pub was : (k : ℕ) (q : Post P) → slice_get left k ≡ Some q → (p : Post P) × ((slice_get taken k ≡ Some p) × Does p q)
     was k q at =
         let within = slice_get_within left k q at in
         let long = did.count in
@@ -116,7 +116,7 @@ module _ {P : Type 0} (s : Locks) (told : Tellings) (numbers : List ℕ) (old re
 
 -- ---- those that regrade
 
-same-there : {A : Type 0} (xs : List A) (k : ℕ) (x y : A) → slice_get xs k ≡ Some x → slice_get xs k ≡ Some y → x ≡ y
+pub same-there : {A : Type 0} (xs : List A) (k : ℕ) (x y : A) → slice_get xs k ≡ Some x → slice_get xs k ≡ Some y → x ≡ y
 same-there xs k x y at there = cc
 
 -- where nobody was served yet
@@ -162,6 +162,10 @@ regraded_kept tells told Kept Known count to so = record {
 
 -- ---- doors
 
+-- a station's place is the one at its place
+pub stands : {P : Type 0} (ps : List (Post P)) (rest places : List P) (k : ℕ) (p : Post P) → places ≡ map at_place ps ++ rest → slice_get ps k ≡ Some p → slice_get places k ≡ Some (at_place p)
+stands ps rest places k p is at = subst (λ (l : List _). slice_get l k ≡ Some (at_place p)) (sym is) (get_longer (map at_place ps) rest k (at_place p) (slice_get-map at_place ps k ∙ rw at refl))
+
 module _ {D C : Type 0} (s : Locks) (count : ℕ) (told : Tellings) (numbers : List ℕ) (old rest : List (D × C)) (passes : Seats) (taken : List (Post (D × C))) (so : TakesUp s told numbers old rest passes taken) (serves : Serving D C) (left : List (Post (D × C))) (served : AreEach (IsServed serves) taken left) where
   -- all doors were served, each for what its passes saw
   pub beside : (first last : Seats) (new : List (D × C)) (end : DoorEnd) → length taken ≡ count → new ≡ map at_place left ++ rest → end ≡ all_ends (map (λ (p : Post (D × C)). p.end) left) → TakesIn s first last left
@@ -181,9 +185,6 @@ module _ {D C : Type 0} (s : Locks) (count : ℕ) (told : Tellings) (numbers : L
       dropped : (ps : List (Post (D × C))) (doors : List (D × C)) → doors ≡ map at_place ps ++ rest → length ps ≡ count → drop count doors ≡ rest
       dropped ps doors is long = ap (λ (n : ℕ). drop n doors) (sym (length-map ps at_place ∙ long)) ∙ ap (λ (l : List (D × C)). drop (length (map at_place ps)) l) is ∙ drop-append_seam (map at_place ps) rest
 
-      stands : (ps : List (Post (D × C))) (doors : List (D × C)) (k : ℕ) (p : Post (D × C)) → doors ≡ map at_place ps ++ rest → slice_get ps k ≡ Some p → slice_get doors k ≡ Some (at_place p)
-      stands ps doors k p is at = subst (λ (l : List (D × C)). slice_get l k ≡ Some (at_place p)) (sym is) (get_longer (map at_place ps) rest k (at_place p) (slice_get-map at_place ps k ∙ rw at refl))
-
       at_door : (k : ℕ) (e : DoorEnd) → slice_get (map (λ (p : Post (D × C)). p.end) left) k ≡ Some e → ServesAt serves told (λ seen. FollowAll seen (seen_in last)) old new k e
       at_door k e at =
           let q = from_map (λ (p : Post (D × C)). p.end) left k e at in
@@ -195,8 +196,8 @@ module _ {D C : Type 0} (s : Locks) (count : ℕ) (told : Tellings) (numbers : L
             clock = p.0.place.1;
             ticked = q.0.place.1;
             seen = seen_in q.0.visit.passes;
-            before = stands taken old k p.0 so.places p.1.0;
-            after = stands left new k q.0 doors q.1.0;
+            before = stands taken rest old k p.0 so.places p.1.0;
+            after = stands left rest new k q.0 doors q.1.0;
             going = subst (λ (x : DoorEnd). serves.serves p.0.place.0 q.0.place.0 (record { desk = told; clock = p.0.place.1 }) (record { desk = seen_in q.0.visit.passes; clock = q.0.place.1 }) x) (sym q.1.1)
                 (subst (λ (t : Tellings). serves.serves p.0.place.0 q.0.place.0 (record { desk = t; clock = p.0.place.1 }) (record { desk = seen_in q.0.visit.passes; clock = q.0.place.1 }) q.0.end) is.seen p.1.1.going);
             kept = takes.each k q.0 q.1.0;
@@ -246,6 +247,15 @@ match_mean P Q R (Err e) to is = is
 pub if_ok : {A E : Type 0} (P Q : A → Type 0) (r : Result A E) → ((a : A) → P a → Q a) → IfOk r P → IfOk r Q
 if_ok P Q (Ok a) to is = to a is
 if_ok P Q (Err e) to is = is
+
+-- of an end that came with notes
+pub ended : {B E : Type 0} (P : DoorEnd → Type 0) (R : E → Type 0) (r : Result (DoorEnd × B) E) → MatchResult r (λ sat. P sat.0) R → MatchResult (end_of r) P R
+ended P R (Ok sat) is = is
+ended P R (Err e) is = is
+
+pub if_ended : {B E : Type 0} (P : DoorEnd → Type 0) (r : Result (DoorEnd × B) E) → IfOk r (λ sat. P sat.0) → IfOk (end_of r) P
+if_ended P (Ok sat) is = is
+if_ended P (Err e) is = is
 
 -- ---- a list that was written over
 

@@ -49,7 +49,7 @@ module _ {P : Type 0} (s : Locks) where
     pub next_holds : Holds s (next.first ∷ next.rest) passes
     next_holds = subst (λ (l : List ℕ). Holds s l passes) next.is so.own
 
-    module _ (rest : List P) (after given : Seats) (longer : List (Post P)) (at : P) (p : Post P) (first : now ≡ at ∷ rest) (splits : Splits passes after given) (stands : p ≡ record { place = at; visit = p.visit; end = no_end }) (visit : p.visit.passes ≡ given) (more : longer ≡ stations ++ p ∷ []) where
+    module _ (rest : List P) (after given : Seats) (longer : List (Post P)) (at : P) (p : Post P) (first : now ≡ at ∷ rest) (splits : Splits passes after given) (stands : p ≡ record { place = at; visit = p.visit; notes = p.notes; end = no_end }) (visit : p.visit.passes ≡ given) (more : longer ≡ stations ++ p ∷ []) where
       left : Holds s next.rest after
       left = holds_left s next.first next.rest passes after given next_holds splits
 

@@ -1,10 +1,13 @@
 -- Stations that are taken up, served and left.
-use Rattle.std.specs.Prelude.{◌≡◌, ◌⊎◌, ℕ, ◌+◌, ◌^◌, ◌<◌, ◌≤◌, List, ◌++◌, length, map, slice_get, Some, Contains}
+use Rattle.std.specs.Prelude.{◌≡◌, ◌⊎◌, ℕ, ◌+◌, ◌^◌, ◌<◌, ◌≤◌, Bool, List, ◌++◌, length, map, slice_get, Some, Contains}
 use Rattle.qz_asking.specs.Asking.{Answerer}
 use Rattle.qz_doors.specs.declared.door.DoorEnd.{DoorEnd}
+use Rattle.qz_gather.specs.Clerks.{Answers}
+use Rattle.qz_gather.specs.Notes.{AreTrueOf}
 use Rattle.qz_regrading.specs.declared.ends.LoopEnd.{LoopEnd}
 use Rattle.qz_regrading.specs.Loops.{Regrades}
-use Rattle.qz_stations.specs.Stations.{Post, Serving, at_place, no_end}
+use Rattle.qz_stations.specs.Noting.{NotesOn, clerk_sees, none_yet}
+use Rattle.qz_stations.specs.Stations.{Post, Serving, at_place, no_end, notes_at}
 use Rattle.qz_turn.specs.Rule.{HasEvery}
 use Rattle.qz_visit.specs.Holding.{GoesOn, Holds}
 use Rattle.qz_visit.specs.Seeing.{FollowAll, IsAskedBeside}
@@ -53,7 +56,15 @@ pub record TakesUp {P : Type 0} (s : Locks) (told : Tellings) (numbers : List �
   pub count : length passes.records.numbers + length stations ≡ length numbers
   pub dealt : AreDealt numbers passes.records.numbers stations
 
+-- nothing was noted at these yet
+pub record AreUnnoted {P : Type 0} (noting : Bool) (stations : List (Post P)) : Type 0 where
+  pub each : (k : ℕ) (p : Post P) → slice_get stations k ≡ Some p → p.notes ≡ none_yet noting
+
 -- ---- leaving
+
+-- the notes at each are true of what its passes have seen
+pub record NoteTruly {P : Type 0} (stations : List (Post P)) : Type 0 where
+  pub each : (k : ℕ) (p : Post P) → slice_get stations k ≡ Some p → AreTrueOf (seen_in p.visit.passes) (notes_at p)
 
 -- A number of links that has 32 bits was taken, and no more were short than were taken.
 pub record IsCounted (e : DoorEnd) : Type 0 where
@@ -85,6 +96,7 @@ pub record TakesIn {P : Type 0} (s : Locks) (old new : Seats) (stations : List (
 pub record IsServed {D C : Type 0} (serves : Serving D C) (old new : Post (D × C)) : Type 0 where
   pub going : serves.serves old.place.0 new.place.0 (record { desk = seen_in old.visit.passes; clock = old.place.1 }) (record { desk = seen_in new.visit.passes; clock = new.place.1 }) new.end
   pub goes_on : GoesOn old.visit new.visit
+  pub notes : NotesOn (λ a b. serves.notes old.place.0 new.place.0 (record { desk = a; clock = old.place.1 }) (record { desk = b; clock = new.place.1 }) new.end) old.visit new.visit old.notes new.notes
 
 -- one who regrades stays, or asked the school
 pub record HasGoneOn {C : Type 0} (old new : Post C) : Type 0 where
@@ -100,6 +112,7 @@ pub record HasRegraded {C : Type 0} (tells : C → ℕ → C → Type 0) (old ne
   pub gone_on : HasGoneOn old new
   pub loop : LoopEnd
   pub regrades : Regrades tells IsAskedBeside lists_told (seen_at old) (seen_at new) loop
+  pub notes : NotesOn (λ a b. Regrades tells Answers clerk_sees (record { desk = a; clock = old.place }) (record { desk = b; clock = new.place }) loop) old.visit new.visit old.notes new.notes
 
 -- this was done at each
 pub record AreEach {P : Type 0} (Does : Post P → Post P → Type 0) (old new : List (Post P)) : Type 0 where

@@ -1,10 +1,12 @@
 -- The doors of a school, served side by side: what each who served one saw of the school, and how serving ended.
-use Rattle.std.specs.Prelude.{◌≡◌, ℕ, ◌+◌, ◌<◌, false, ◌||◌, List, length, drop, slice_get, sum_by, Option, Some}
+use Rattle.std.specs.Prelude.{◌≡◌, ℕ, ◌+◌, ◌<◌, false, ◌||◌, List, [], length, drop, slice_get, sum_by, unwrap_or, Option, Some, Result, Ok, Err}
 use Rattle.std.specs.List.{list_any}
 use Rattle.qz_doors.specs.declared.door.DoorEnd.{DoorEnd}
 use Rattle.qz_asking.specs.Asking.{Answerer, Asks}
 use Rattle.qz_doors.specs.Doors.{Entrance, ServesDoor}
 use Rattle.qz_doors.specs.Links.{Peer}
+use Rattle.qz_gather.specs.declared.note.Note.{Note}
+use Rattle.qz_gather.specs.Clerks.{Answers, Clerk}
 use Rattle.qz_regrading.specs.declared.ends.LoopEnd.{LoopEnd}
 use Rattle.qz_regrading.specs.Loops.{Regrades}
 use Rattle.qz_visit.specs.Seeing.{IsAskedBeside}
@@ -12,14 +14,19 @@ use Rattle.qz_visit.specs.Visits.{Tellings, Visitor, lists_told}
 
 -- ---- a station
 
--- a place, which is a door with its clock, or a clock alone; one who asks the school there; and how serving the door ended
+-- a place, which is a door with its clock, or a clock alone; one who asks the school there, the notes where they are taken; and how serving the
+-- door ended
 pub record Post (P : Type 0) : Type 0 where
   pub place : P
   pub visit : Visitor
+  pub notes : Option (List Note)
   pub end : DoorEnd
 
 abbrev pub at_place : {P : Type 0} → Post P → P
 at_place p = p.place
+
+abbrev pub notes_at : {P : Type 0} → Post P → List Note
+notes_at p = unwrap_or p.notes []
 
 -- ---- how serving ended
 
@@ -33,13 +40,19 @@ both_ends a b = record { taken = a.taken + b.taken; fault = a.fault || b.fault; 
 abbrev pub all_ends : List DoorEnd → DoorEnd
 all_ends ends = record { taken = sum_by (λ e. e.taken) ends; fault = list_any (λ e. e.fault) ends; short = sum_by (λ e. e.short) ends }
 
+-- without what came with it
+abbrev pub end_of : {B E : Type 0} → Result (DoorEnd × B) E → Result DoorEnd E
+end_of (Ok sat) = Ok sat.0
+end_of (Err why) = Err why
+
 -- ---- doors
 
--- What serving a door means: the door, then what answers, of which the lists that it sees are told, before and after, and how it ended. What
--- a clock tells belongs to it.
+-- What serving a door means: the door, then what answers, of which the lists that it sees are told, before and after, and how it ended. The same
+-- of a clerk, who notes what is asked. What a clock tells belongs to it.
 pub record Serving (D C : Type 0) : Type 1 where
   pub tells : C → ℕ → C → Type 0
   pub serves : D → D → Answerer Tellings C → Answerer Tellings C → DoorEnd → Type 0
+  pub notes : D → D → Answerer Clerk C → Answerer Clerk C → DoorEnd → Type 0
 
 -- a link, by what is told of one
 abbrev pub peer_by : {L : Type 0} → (left holds : L → Option (List ℕ)) → (faults : L → ℕ) → L → Peer
@@ -51,7 +64,11 @@ entrance_by left returned returns out faults door = record { left = left door; r
 
 -- Doors are served, and each request is answered beside others: by what a clock tells, and by what links and doors are.
 abbrev pub serving_by : {D L C : Type 0} → (C → ℕ → C → Type 0) → (L → Peer) → (D → Entrance L) → ℕ → Serving D C
-serving_by tells peer entrance links = record { tells = tells; serves = λ door served a b end. ServesDoor (Asks tells IsAskedBeside) peer links (entrance door) (entrance served) a b end }
+serving_by tells peer entrance links = record {
+  tells = tells;
+  serves = λ door served a b end. ServesDoor (Asks tells IsAskedBeside) peer links (entrance door) (entrance served) a b end;
+  notes = λ door served a b end. ServesDoor (Asks tells Answers) peer links (entrance door) (entrance served) a b end;
+}
 
 -- The door at this place was served by its clock for one who saw this much of the lists before. Of what it saw afterwards this holds.
 pub record ServesAt {D C : Type 0} (serves : Serving D C) (told : Tellings) (Kept : Tellings → Type 0) (old new : List (D × C)) (k : ℕ) (end : DoorEnd) : Type 0 where

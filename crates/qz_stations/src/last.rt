@@ -1,7 +1,7 @@
 //! A school is served and regraded side by side, and regraded once more when all have left.
 
 ghost use Rattle.std.specs.Prelude.{◌≡◌, ◌<◌, ◌≤◌, length, MatchResult};
-ghost use Rattle.qz_stations.specs.Passing.{IsPassed, ServesNone, ServesSchool};
+ghost use Rattle.qz_stations.specs.Passing.{Lasts, ServesNone, ServesSchool};
 ghost use Rattle.qz_stations.specs.Stations.{entrance_by, peer_by, serving_by};
 
 use crate::ServeEnd;
@@ -15,18 +15,22 @@ use std::alloc::Global;
 use std::sync::Wait;
 use std::thread::Threads;
 
-/// Makes the last pass over a school that nobody else asks, by the clock of the first door.
-fn regrade_last<K: Keeper, W: Wait, R: Door, C: Clock>(
+/// Makes the last pass over a school that nobody else asks, by the clock of the first door, where anybody regrades. What it came to.
+pub fn regrade_last<K: Keeper, W: Wait, R: Door, C: Clock>(
     rt: &W,
     alloc: Global,
     solo: &mut Solo<K>,
+    regraders: u8,
     doors: &mut Vec<(R, C)>,
-) -> LoopEnd
+) -> Option<LoopEnd>
     requires { 0 < length doors.old.items }
-    ensures { IsPassed C.tells K.sound K.faults solo.old solo.new doors.old.items doors.new.items result }
+    ensures { Lasts C.tells K.sound K.faults regraders solo.old solo.new doors.old.items doors.new.items result }
 {
+    if regraders == 0 {
+        return None;
+    }
     let stop = Stop::new(0);
-    regrade_loop(rt, alloc, solo, &mut doors[0].1, &stop)
+    Some(regrade_loop(rt, alloc, solo, &mut doors[0].1, &stop))
 }
 
 /// Serves the first doors over a school, one a worker: side by side, each on a thread of its own, or where none can be started one after the
@@ -69,10 +73,6 @@ where
         Ok(end) => end,
         Err(NoMemory) => return (solo, Err(NoMemory)),
     };
-    if crew.regraders == 0 {
-        let last = None;
-        return (solo, Ok(ServeEnd { doors: end, last }));
-    }
-    let last = Some(regrade_last(rt, alloc, &mut solo, doors));
+    let last = regrade_last(rt, alloc, &mut solo, crew.regraders, doors);
     (solo, Ok(ServeEnd { doors: end, last }))
 }

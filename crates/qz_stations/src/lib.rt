@@ -4,11 +4,14 @@
 
 mod ends;
 mod last;
+mod noting;
+mod seat;
 mod serve;
 mod sides;
 mod station;
 mod turns;
 
 pub use ends::ServeEnd;
-pub use last::serve_school;
+pub use last::{regrade_last, serve_school};
+pub use noting::{Noted, serve_noting};
 pub use serve::Crew;

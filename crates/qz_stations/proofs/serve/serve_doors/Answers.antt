@@ -1,5 +1,5 @@
 use Rattle.std.proofs.Common.{arith}
-use Rattle.qz_stations.proofs.Serving.{beside_kept, closed_every, closes_whole, if_ok, match_mean, opened_every, opened_many, regraded_kept, told_whole}
+use Rattle.qz_stations.proofs.Serving.{beside_kept, closed_every, closes_whole, ended, if_ended, if_ok, match_mean, opened_every, opened_many, regraded_kept, told_whole}
 use Rattle.qz_visit.specs.Closing.{Closes}
 use Rattle.qz_visit.specs.Visits.{seen_in}
 use Rattle.qz_visit.proofs.Holding.{passes_held}
@@ -30,15 +30,16 @@ returns-in-Ok-clause-served g c =
     let same = c.into_parts-catalog.ensures in
     let told = told_whole g.K.Keeper.faults _ _ _ c.args.solo _ _ same.catalog same.shards c.in-Ok.ensures.opened in
     let closed : Closes g.K.Keeper.faults (seen_in c.serve_beside-passes.result.0.seats) c.of.result = rw c.of.ensures c.close-catalog.ensures.closes in
-    rw (← told)
-    (match_mean _ _ _ c.serve_beside-passes.result.1 (λ end so. beside_kept _ _ _ _ _ _ _ end (λ t on. closes_from _ t _ _ on closed) so) c.serve_beside-passes.ensures.served)
+    rw (← told, c.end_of.ensures)
+    (ended _ _ c.serve_beside-passes.result.1 (match_mean _ _ _ c.serve_beside-passes.result.1 (λ sat so. beside_kept _ _ _ _ _ _ _ sat.0 (λ t on. closes_from _ t _ _ on closed) so) c.serve_beside-passes.ensures.served))
 
 pub returns-in-Ok-clause-regraded : goal.returns-in-Ok-clause-regraded
 returns-in-Ok-clause-regraded g c =
     let same = c.into_parts-catalog.ensures in
     let told = told_whole g.K.Keeper.faults _ _ _ c.args.solo _ _ same.catalog same.shards c.in-Ok.ensures.opened in
     let closed : Closes g.K.Keeper.faults (seen_in c.serve_beside-passes.result.0.seats) c.of.result = rw c.of.ensures c.close-catalog.ensures.closes in
-    rw (← told) (if_ok _ _ c.serve_beside-passes.result.1 (λ end so. regraded_kept _ _ _ _ _ (λ t on. closes_from _ t _ _ on closed) so) c.serve_beside-passes.ensures.regraded)
+    rw (← told, c.end_of.ensures)
+    (if_ended _ c.serve_beside-passes.result.1 (if_ok _ _ c.serve_beside-passes.result.1 (λ sat so. regraded_kept _ _ _ _ _ (λ t on. closes_from _ t _ _ on closed) so) c.serve_beside-passes.ensures.regraded))
 
 pub returns-in-Err-clause-closes : goal.returns-in-Err-clause-closes
 returns-in-Err-clause-closes g c =

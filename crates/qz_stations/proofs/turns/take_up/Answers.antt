@@ -2,7 +2,9 @@ use Rattle.std.proofs.Common.{◌<◌, ◌∷◌, [], length, length-append, map
 use Rattle.std.proofs.lemmas.List.{length-map}
 use Rattle.qz_stations.specs.Stations.{at_place}
 use Rattle.qz_stations.proofs.Lists.{first_of_some}
+use Rattle.qz_stations.proofs.Books.{counts_unasked, unnoted_one}
 use Rattle.qz_stations.proofs.TakingUp.{next_holds, takes_one}
+use Rattle.qz_visit.specs.Visits.{Visitor}
 use Rattle.qz_visit.proofs.Holding.{holds_given, of_held}
 use Rattle.qz_stations.proofs.turns.take_up.Goals as goal
 
@@ -13,6 +15,9 @@ new-requires g c =
     let test = c.loop-test.true in
     let enough = c.requires.enough in
     of_held _ _ _ _ (holds_given _ _ _ _ _ _ (next_holds _ _ _ _ _ _ _ i.0 (omega (arith, long, test, enough))) c.in_ok-given.ensures.given)
+
+pub new-requires-in-loop : goal.new-requires-in-loop
+new-requires-in-loop g c = counts_unasked c.new.result _ _ (ap (λ (v : Visitor). v.passes) c.new.ensures) (ap (λ (v : Visitor). v.last) c.new.ensures) c.in_ok-given.ensures.unasked
 
 pub loop-preserved : goal.loop-preserved
 loop-preserved g c =
@@ -32,7 +37,7 @@ loop-preserved g c =
     let next = first_of_some now at some c.remove-at.ensures.value ∙ ap (λ l. at ∷ l) (sym c.remove-at.ensures.by_index.2) in
     let made = c.new-in-loop.ensures in
     let visit = ap (λ p. p.visit.passes) made ∙ ap (λ v. v.passes) c.new.ensures in
-    let stands = made ∙ (λ i. record { place = at; visit = (sym (ap (λ p. p.visit) made)) i; end = Rattle.qz_stations.specs.Stations.no_end }) in
+    let stands = made ∙ (λ i. record { place = at; visit = (sym (ap (λ p. p.visit) made)) i; notes = (sym (ap (λ p. p.notes) made)) i; end = Rattle.qz_stations.specs.Stations.no_end }) in
     let pushed = ap (λ l. length l) c.push_reserved.ensures.items in
     let one = length-append c.loop.stations.items (c.new-in-loop.result ∷ []) in
     let room = i.2 in
@@ -44,4 +49,5 @@ loop-preserved g c =
       omega (arith, pushed, one, long),
       omega (arith, room, kept),
       omega (arith, pushed, one, place, fewer, same),
+      unnoted_one _ _ _ c.new-in-loop.result i.4 (ap (λ p. p.notes) made) c.push_reserved.ensures.items,
     )
