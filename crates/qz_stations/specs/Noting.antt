@@ -1,6 +1,5 @@
 -- Clerks at the doors of a school, side by side: what each noted, from the first request on.
 use Rattle.std.specs.Prelude.{◌≡◌, ℕ, ◌+◌, ◌<◌, Bool, true, false, List, [], length, slice_get, Option, None, Some}
-use Rattle.qz_asking.specs.Asking.{Answerer}
 use Rattle.qz_doors.specs.declared.door.DoorEnd.{DoorEnd}
 use Rattle.qz_gather.specs.declared.note.Note.{Note}
 use Rattle.qz_gather.specs.Clerks.{Answers, Clerk}

@@ -1,7 +1,6 @@
 use Rattle.std.proofs.Common.{refl, arith}
 use Rattle.qz_stations.proofs.Books.{long_told}
 use Rattle.qz_stations.proofs.Serving.{closed_every, closes_whole, opened_every, opened_many, told_whole}
-use Rattle.qz_visit.specs.Closing.{Closes}
 use Rattle.qz_visit.proofs.Holding.{founding_held, passes_held}
 use Rattle.qz_visit.proofs.Seeing.{closes_from}
 use Rattle.qz_stations.proofs.noting.serve_noting.Goals as goal

@@ -5,7 +5,7 @@ use Rattle.qz_stations.specs.Stations.{notes_at}
 use Rattle.qz_stations.proofs.Books.{books_both, books_left, books_on, noted_kept, noted_longer, notes_works}
 use Rattle.qz_visit.specs.Seeing.{FollowAll}
 use Rattle.qz_visit.specs.Visits.{seen_in}
-use Rattle.qz_stations.proofs.Serving.{back_served, back_taken, beside_kept, counted_regraded, every_among, goes_regraded, if_ok, manned_served, manned_taken, match_mean, regraded_beside, written}
+use Rattle.qz_stations.proofs.Serving.{back_served, back_taken, beside_kept, counted_regraded, every_among, goes_regraded, manned_served, manned_taken, regraded_beside, written}
 use Rattle.qz_visit.proofs.Seeing.{all_on, all_self}
 use Rattle.qz_stations.proofs.serve.serve_beside.Goals as goal
 
