@@ -1,3 +1,4 @@
 mod Places
 mod KeptLemmas
 mod SlotLemmas
+pub mod RunLemmas

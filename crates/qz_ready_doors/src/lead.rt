@@ -63,7 +63,7 @@ impl<D: Desk + Drop, P: ReadyDoor<Link: Drop>, C: Clock + Drop, K: Began<D, P::L
 }
 
 /// Serves the links of a door. Where memory is wanting it ends early: what it leaves is known in each case.
-pub fn run<R, W, D, P, C, K>(rt: &R, watch: &mut W, held: &mut Held<D, P, C, K>)
+pub(crate) fn run<R, W, D, P, C, K>(rt: &R, watch: &mut W, held: &mut Held<D, P, C, K>)
 where
     R: Wait + RandomSource + AllocGlobal,
     W: Watch,
