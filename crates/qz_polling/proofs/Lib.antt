@@ -1,0 +1,3 @@
+mod Sets
+mod Seating
+pub mod Closing
