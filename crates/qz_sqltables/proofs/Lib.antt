@@ -8,3 +8,4 @@ pub mod Changes
 pub mod Calls
 pub mod Showing
 pub mod Creating
+pub mod Dropping

@@ -23,7 +23,7 @@ use Rattle.sqlite_value.specs.declared.value.Value.TheVariants.{Null, Int}
 use Rattle.sqlite_value.specs.Order.{Row, bytes, column}
 use Rattle.qz_sqltables.specs.Rows.{StepRow, Tables, attempt_in, is_step_of, place_of, places_of, waiting, waits_at}
 use Rattle.qz_sqltables.specs.Schema.{HasTables, attempt_cells, attempt_from, attempt_shown, keeper_schema, number_in, numbered_row, payload_cells, payload_shown, payloads_in, place_shown, step_cells}
-use Rattle.qz_sqltables.specs.Statements.{EndsFinding, Finds, StaysAsItWas}
+use Rattle.qz_sqltables.specs.Statements.{EndsFinding, Finds, FindsRecords, StaysAsItWas}
 use Rattle.qz_sqltables.proofs.Apart.{Counted, apart_counted, clash}
 use Rattle.qz_sqltables.proofs.Calls.{stays_queried, unchanged}
 use Rattle.qz_sqltables.proofs.Numbered.{map-enumerate_from, number_of, numbers_rise}
@@ -32,22 +32,29 @@ use Rattle.qz_sqltables.proofs.Values.{equals, equals_given}
 
 -- ---- payloads
 
-pub finds_payloads : (old new : State) (rows : List Row) → Shown find_text [] old new rows → Finds (λ t. map payload_shown t.payloads) rows old new
-finds_payloads old new rows h = record {
-  finds = λ t has.
-      let read = reads_as find_text [] old new keeper_schema has.schema find_command find_is.0 find_plain find_is.1 rows h in
-      let db : Trees = overlay old.now.trees [] in
-      let all = enumerate_from 1 t.payloads in
-      let source = last_table db 0 (numbered_row payload_cells) number_of all has.records (numbers_rise 1 t.payloads) (at_end db) in
-      let same = unchanged find_text [] old new rows keeper_schema has.schema find_plain h in
-      let ordered =
-      answer_by_keys find_query db [] source (λ _. true) (λ _. refl) (λ r. r) (λ p. payload_shown p.1) (λ _. refl) refl refl (λ a b. last_key (value_cmp-Int (number_of a) (number_of b))) rows (read.answer Null) in
-      record {
-        is_open = same.0.is_open;
-        stays = record { was_open = λ _. same.0.was_open; same = λ _. same.0.now_is };
-        is = sym (map-id rows) ∙ ordered ∙ ap (map (λ (p : ℕ × List ℕ). payload_shown p.1)) (unfiltered all refl) ∙ map-enumerate_from payload_shown 1 t.payloads;
-      };
-}
+module _ (old new : State) (rows : List Row) (h : Shown find_text [] old new rows) where
+  pub finds_records : FindsRecords (map payload_shown) rows old
+  finds_records = record {
+    finds = λ payloads has.
+        let read = reads_as find_text [] old new keeper_schema has.schema find_command find_is.0 find_plain find_is.1 rows h in
+        let db : Trees = overlay old.now.trees [] in
+        let all = enumerate_from 1 payloads in
+        let source = last_table db 0 (numbered_row payload_cells) number_of all has.records (numbers_rise 1 payloads) (at_end db) in
+        let ordered =
+        answer_by_keys find_query db [] source (λ _. true) (λ _. refl) (λ r. r) (λ p. payload_shown p.1) (λ _. refl) refl refl (λ a b. last_key (value_cmp-Int (number_of a) (number_of b))) rows (read.answer Null) in
+        sym (map-id rows) ∙ ordered ∙ ap (map (λ (p : ℕ × List ℕ). payload_shown p.1)) (unfiltered all refl) ∙ map-enumerate_from payload_shown 1 payloads;
+  }
+
+  pub finds_payloads : Finds (λ t. map payload_shown t.payloads) rows old new
+  finds_payloads = record {
+    finds = λ t has.
+        let same = unchanged find_text [] old new rows keeper_schema has.schema find_plain h in
+        record {
+          is_open = same.0.is_open;
+          stays = record { was_open = λ _. same.0.was_open; same = λ _. same.0.now_is };
+          is = finds_records.finds t.payloads (record { schema = has.schema; records = has.records });
+        };
+  }
 
 -- ---- the attempts that wait
 
@@ -175,6 +182,19 @@ ends_reading shown reading decode back old new rows (Err e) finds is = record { 
 
 pub payloads_back : (t : Tables) → map (λ (row : Row). bytes (column row 0)) (map payload_shown t.payloads) ≡ t.payloads
 payloads_back t = map_back payload_shown (λ row. bytes (column row 0)) (λ _. refl) t.payloads
+
+-- what rows of `record` show
+pub finds_back : (old : State) (rows : List Row) (r : Result (List (List ℕ)) Error) → FindsRecords (map payload_shown) rows old → IfOk r (λ found. found ≡ map (λ row. bytes (column row 0)) rows)
+    → IfOk r (λ found. FindsRecords (λ payloads. payloads) found old)
+finds_back old rows (Ok found) finds is = record {
+  finds = λ payloads has. is ∙ ap (map (λ row. bytes (column row 0))) (finds.finds payloads has) ∙ map_back payload_shown (λ row. bytes (column row 0)) (λ _. refl) payloads;
+}
+finds_back old rows (Err e) finds is = tt
+
+pub shows_records : {V : Type 0} (items : V → List Row) (old new : State) (r : Result V Error) → IfOk r (λ v. Shown find_text [] old new (items v))
+    → IfOk r (λ v. FindsRecords (map payload_shown) (items v) old)
+shows_records items old new (Ok v) ok = finds_records old new (items v) ok
+shows_records items old new (Err e) ok = tt
 
 pub waiting_back : (quiz : ℕ) (t : Tables) → map attempt_from (map attempt_shown (waiting quiz t)) ≡ waiting quiz t
 waiting_back quiz t = map_back attempt_shown attempt_from (λ _. refl) (waiting quiz t)

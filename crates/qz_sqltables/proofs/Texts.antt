@@ -1,12 +1,15 @@
 -- What the texts of the statements mean.
+use Rattle.std.specs.Fmt.{digits}
 use Rattle.std.proofs.Common.{◌≡◌, ℕ, None, pos, negsuc, List, [], ◌∷◌, codes, false, Ok, refl}
 use Rattle.sqlite.proofs.Callers.{IsPlain, command_of, statement_of}
+use Rattle.sqlite.specs.Does.{is_acted_on}
 use Rattle.sqlite.specs.Listing.{understood}
 use Rattle.sqlite_catalog.specs.Change.{created}
 use Rattle.sqlite_resolve.specs.Compile.{table_defined_by}
 use Rattle.sqlite_schema.specs.declared.command.Command.{Command}
-use Rattle.sqlite_schema.specs.declared.command.Command.TheVariants.{CreateTable, Insert, Select, Update}
+use Rattle.sqlite_schema.specs.declared.command.Command.TheVariants.{CreateTable, DropTable, Insert, Select, Update}
 use Rattle.sqlite_schema.specs.declared.command.Source.TheVariants.{Values}
+use Rattle.sqlite_schema.specs.declared.schema.Keys.TheVariants.{Enforced}
 use Rattle.sqlite_schema.specs.declared.schema.Schema.{Schema}
 use Rattle.sqlite_schema.specs.declared.schema.Table.{Table}
 use Rattle.sqlite_tied.specs.Compute.{everything}
@@ -19,7 +22,7 @@ use Rattle.sqlite_sql.specs.declared.ops.CompareOp.TheVariants.{Eq}
 use Rattle.sqlite_value.specs.declared.keys.Collation.TheVariants.{Binary}
 use Rattle.sqlite_value.specs.declared.keys.Key.{Key}
 use Rattle.sqlite_value.specs.declared.value.Value.TheVariants.{Null, Int}
-use Rattle.qz_sqltables.specs.Schema.{attempt_table, keeper_schema, no_schema, record_table, reply_table, step_table, with_attempts, with_records, with_steps}
+use Rattle.qz_sqltables.specs.Schema.{attempt_table, keeper_schema, no_schema, record_table, reply_table, step_table, steps_at, with_attempts, with_records, with_steps, without_replies, without_steps}
 
 pub record Creates (schema : Schema) (text : List ℕ) (table : Table) : Type 0 where
   pub command : command_of (understood schema text) ≡ CreateTable
@@ -42,7 +45,9 @@ reply_text = codes "CREATE TABLE reply (caller INTEGER NOT NULL, word TEXT NOT N
 abbrev pub with_replies : Schema
 with_replies = created with_steps reply_table
 
+-- the names of the indexes are those that SQLite gives them
 pub all_are : with_replies ≡ keeper_schema
+unfolding digits
 all_are = refl
 
 pub creates_record : Creates no_schema record_text record_table
@@ -60,6 +65,44 @@ creates_step = record { command = refl; statement = refl; defined = refl; plain 
 pub creates_reply : Creates with_steps reply_text reply_table
 unfolding understood everything
 creates_reply = record { command = refl; statement = refl; defined = refl; plain = (refl, refl) }
+
+-- the statement drops the table at this place
+pub record IsDrop (schema : Schema) (text : List ℕ) (at : ℕ) : Type 0 where
+  pub command : command_of (understood schema text) ≡ DropTable at
+  pub plain : IsPlain (understood schema text)
+
+abbrev pub drop_steps_text : List ℕ
+drop_steps_text = codes "DROP TABLE step"
+
+abbrev pub drop_replies_text : List ℕ
+drop_replies_text = codes "DROP TABLE reply"
+
+abbrev pub drop_attempts_text : List ℕ
+drop_attempts_text = codes "DROP TABLE attempt"
+
+abbrev pub drop_records_text : List ℕ
+drop_records_text = codes "DROP TABLE record"
+
+pub drops_steps : IsDrop keeper_schema drop_steps_text 2
+unfolding understood everything
+drops_steps = record { command = refl; plain = (refl, refl) }
+
+-- no row refers to a step
+pub steps_unacted : is_acted_on keeper_schema Enforced steps_at ≡ false
+unfolding understood everything
+steps_unacted = refl
+
+pub drops_replies : IsDrop without_steps drop_replies_text 2
+unfolding understood everything
+drops_replies = record { command = refl; plain = (refl, refl) }
+
+pub drops_attempts : IsDrop without_replies drop_attempts_text 1
+unfolding understood everything
+drops_attempts = record { command = refl; plain = (refl, refl) }
+
+pub drops_records : IsDrop with_records drop_records_text 0
+unfolding understood everything
+drops_records = record { command = refl; plain = (refl, refl) }
 
 -- ---- statements
 

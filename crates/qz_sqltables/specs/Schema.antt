@@ -3,16 +3,17 @@ use Rattle.std.specs.Prelude.{◌≡◌, ℕ, pos, Bool, true, false, List, [], 
 use Rattle.std.specs.List.{enumerate_from}
 use Rattle.qz_grading.specs.declared.refusal.AttemptId.{AttemptId}
 use Rattle.sqlite.specs.Effect.{Database}
-use Rattle.sqlite_catalog.specs.Change.{created}
-use Rattle.sqlite_catalog.specs.Listing.{automatic}
+use Rattle.sqlite_catalog.specs.Change.{created, without_table}
 use Rattle.sqlite_keyed.specs.Keyed.{IsKeyedBy}
 use Rattle.sqlite_keyed.specs.Rules.{AreApart}
 use Rattle.sqlite_schema.specs.declared.schema.Action.TheVariants.{NoAction}
 use Rattle.sqlite_schema.specs.declared.schema.Column.{Column}
+use Rattle.sqlite_schema.specs.declared.schema.Index.{Index}
 use Rattle.sqlite_schema.specs.declared.schema.Kind.{Kind}
 use Rattle.sqlite_schema.specs.declared.schema.Kind.TheVariants.{Integer, Text as Words, Any}
 use Rattle.sqlite_schema.specs.declared.schema.Reference.{Reference}
 use Rattle.sqlite_schema.specs.declared.schema.Schema.{Schema}
+use Rattle.sqlite_schema.specs.declared.schema.Stamps.{Stamps}
 use Rattle.sqlite_schema.specs.declared.schema.Table.{Table}
 use Rattle.sqlite_value.specs.declared.keys.Collation.TheVariants.{Binary}
 use Rattle.sqlite_value.specs.declared.keys.Order.{Order}
@@ -27,6 +28,10 @@ use Rattle.qz_sqltables.specs.Rows.{AttemptRow, ReplyRow, StepRow, Tables, place
 abbrev pub column_of : List ℕ → Kind → Bool → Column
 column_of name kind not_null = record { name = name; kind = kind; is_strict = false; not_null = not_null; default = Null; collation = Binary }
 
+-- no default reads the time
+abbrev pub no_stamps : Stamps
+no_stamps = record { places = []; terms = []; formats = [] }
+
 -- a table with these columns, and a rowid of its own unless a column is its key
 abbrev pub table_of : List ℕ → List Column → Option ℕ → List ℕ → List (List ℕ) → List Order → List Reference → Table
 table_of name columns key primary uniques orders references = record {
@@ -40,7 +45,7 @@ table_of name columns key primary uniques orders references = record {
   checks = [];
   references = references;
   computed = [];
-  stamps = record { places = []; terms = []; formats = [] };
+  stamps = no_stamps;
   is_counted = false;
 }
 
@@ -109,12 +114,27 @@ steps_at = record step_table { tree = 3 }
 abbrev pub replies_at : Table
 replies_at = record reply_table { tree = 4 }
 
+-- the index of the first two columns of a table
+abbrev pub index_of : List ℕ → ℕ → ℕ → Index
+index_of name tree table = record { name = name; tree = tree; table = table; columns = first_two; order = rising; is_unique = true }
+
+-- those of the keys of `attempt` and `reply`, by the names that SQLite gives them
+abbrev pub key_indexes : List Index
+key_indexes = index_of (codes "sqlite_autoindex_attempt_1") 2 1 ∷ index_of (codes "sqlite_autoindex_reply_1") 5 4 ∷ []
+
 abbrev pub keeper_schema : Schema
 keeper_schema = record {
   tables = record_table ∷ attempts_at ∷ steps_at ∷ replies_at ∷ [];
-  indexes = automatic attempts_at 0 first_two 2 ∷ automatic replies_at 0 first_two 5 ∷ [];
+  indexes = key_indexes;
   views = [];
 }
+
+-- the tables that are left, one by one
+abbrev pub without_steps : Schema
+without_steps = without_table keeper_schema 3
+
+abbrev pub without_replies : Schema
+without_replies = without_table without_steps 4
 
 -- ---- rows
 
@@ -171,6 +191,11 @@ pub record HasTables (t : Tables) (db : Database) : Type 0 where
   pub apart : AreApart same_attempt t.attempts
   -- no place has two steps, and they stand in order
   pub risen : IsKeyedBy place_of t.steps
+
+-- `record` has these payloads, whose places count from 1, in a database that has the tables, whatever the others have
+pub record HasRecords (payloads : List (List ℕ)) (db : Database) : Type 0 where
+  pub schema : db.schema ≡ keeper_schema
+  pub records : db.trees 0 ≡ numbered_rows payload_cells payloads
 
 -- the payloads that `record` has, in order of their places
 abbrev pub payloads_in : Database → List (List ℕ)

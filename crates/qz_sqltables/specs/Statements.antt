@@ -6,7 +6,7 @@ use Rattle.sqlite.specs.State.{State}
 use Rattle.sqlite_schema.specs.declared.schema.Schema.{Schema}
 use Rattle.sqlite_trees.specs.Tree.{Trees}
 use Rattle.qz_sqltables.specs.Rows.{Tables, with_payload}
-use Rattle.qz_sqltables.specs.Schema.{HasTables}
+use Rattle.qz_sqltables.specs.Schema.{HasRecords, HasTables}
 
 -- ---- writes
 
@@ -53,6 +53,11 @@ pub record HasRows (listed : Schema) (rows : Trees) (db : Database) : Type 0 whe
 pub record Makes (listed next : Schema) (tree : ℕ) (old new : Database) : Type 0 where
   pub makes : (rows : Trees) → rows tree ≡ [] → HasRows listed rows old → HasRows next rows new
 
--- the tables left keep their rows
-pub record Leaves (listed next : Schema) (old new : Database) : Type 0 where
-  pub leaves : (rows : Trees) → HasRows listed rows old → HasRows next rows new
+-- a database that lists the one lists the other
+abbrev pub Relists : Schema → Schema → Database → Database → Type 0
+Relists listed next old new = old.schema ≡ listed → new.schema ≡ next
+
+-- ---- the payloads that `record` has, whatever the other tables have
+
+pub record FindsRecords {A : Type 0} (reading : List (List ℕ) → A) (found : A) (old : State) : Type 0 where
+  pub finds : (payloads : List (List ℕ)) → HasRecords payloads old.now → found ≡ reading payloads

@@ -2,9 +2,13 @@
 #![tactic(auto)]
 
 mod reads;
+mod recognize;
+mod remake;
 mod schema;
 mod writes;
 
 pub use reads::{read_payloads, read_places, read_waiting};
+pub use recognize::{is_blank, is_keepers};
+pub use remake::remake_tables;
 pub use schema::make_tables;
 pub use writes::{put_attempt, put_payload, put_reply, put_step, set_status};

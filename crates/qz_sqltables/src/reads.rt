@@ -12,7 +12,7 @@ ghost use Rattle.qz_sqltables.specs.Schema.{
   payload_shown,
   place_shown,
 };
-ghost use Rattle.qz_sqltables.specs.Statements.{EndsFinding, Finds, StaysAsItWas};
+ghost use Rattle.qz_sqltables.specs.Statements.{EndsFinding, Finds, FindsRecords, StaysAsItWas};
 
 use qz_grading::AttemptId;
 use qz_text::{Bytes, Listed};
@@ -27,6 +27,8 @@ fn payload_rows<S: Alter>(conn: &mut Connection<S>) -> Result<Vec<Row>, Error>
         (λ rows. Finds (λ t. map payload_shown t.payloads) rows.items
         (state S.Store conn.old) (state S.Store conn.new))
         (λ _. StaysAsItWas (state S.Store conn.old) (state S.Store conn.new)) }
+    ensures records { HasCleanDisk (state S.Store conn.new) → IfOk result
+        (λ rows. FindsRecords (map payload_shown) rows.items (state S.Store conn.old)) }
 {
     // It is idle, so what it shows is committed.
     let _idle = conn.is_autocommit();
@@ -61,6 +63,10 @@ pub fn read_payloads<S: Alter>(
     ensures idle { conn.new.in_transaction ≡ false }
     ensures found { HasCleanDisk (state S.Store conn.new) → EndsFinding
         (λ t. t.payloads) (state S.Store conn.old) (state S.Store conn.new) result }
+
+    // They are those of `record`, whatever the other tables have.
+    ensures records { HasCleanDisk (state S.Store conn.new) → IfOk result
+        (λ found. FindsRecords (λ payloads. payloads) found (state S.Store conn.old)) }
 {
     let rows = payload_rows(conn)?;
     payloads_of(alloc, &rows)

@@ -123,7 +123,7 @@ fn make_others<S: Alter>(tx: &mut Transaction<'_, S>) -> Result<usize, Error>
 }
 
 // Makes all tables.
-fn make_all<S: Alter>(tx: &mut Transaction<'_, S>) -> Result<usize, Error>
+pub(crate) fn make_all<S: Alter>(tx: &mut Transaction<'_, S>) -> Result<usize, Error>
     ensures same_reference { tx.new.conn.ghost_name ≡ tx.old.conn.ghost_name }
     ensures made { HasCleanDisk (state S.Store tx.new.conn.now)
         → IsTrue (state S.Store tx.old.conn.now).in_transaction
