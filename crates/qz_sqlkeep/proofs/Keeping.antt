@@ -6,10 +6,10 @@ use Rattle.qz_disks.specs.Keepers.{MayStand, with_one_more}
 use Rattle.qz_sqltables.proofs.Showing.{payloads_told}
 use Rattle.qz_sqltables.specs.Rows.{Tables, no_tables}
 use Rattle.qz_sqltables.specs.Schema.{HasTables, payloads_in}
-use Rattle.qz_sqltables.specs.Statements.{Finds, KeepsTables}
+use Rattle.qz_sqltables.specs.Statements.{Finds, KeepsTables, Turns}
 use Rattle.qz_terms.specs.declared.record.Record.{Record}
-use Rattle.qz_sqlkeep.specs.Keeping.{EndsEntering, EndsStoring, Enters, IsAtRest, IsReadingOf, Stands, Stores, kept_in}
-use Rattle.qz_sqlkeep.specs.Tables.{Spells, tables_of}
+use Rattle.qz_sqlkeep.specs.Keeping.{EndsEntering, EndsStoring, Enters, Grows, IsAtRest, IsReadingOf, Stands, Stores, kept_in}
+use Rattle.qz_sqlkeep.specs.Tables.{Spells, tables_of, with_entry}
 use Rattle.qz_sqlkeep.proofs.Pushing.{entry_more, zip-push}
 
 -- ---- lists and their tables
@@ -24,15 +24,20 @@ stands_as payloads s stands = subst (λ l. Stands l s.now) (sym (payloads_are pa
 pub stands_empty : (db : Database) → HasTables no_tables db → Stands [] db
 stands_empty db has = record { spelled = []; each = tt; tables = has }
 
+pub grows : (old new : Database) (payload : List ℕ) (spelled : Option Record) → Spells payload spelled → Turns (with_entry payload spelled) old new → Grows payload old new
+grows old new payload spelled spells turns = record {
+  grows = λ payloads stands. record {
+    spelled = stands.spelled ++ spelled ∷ [];
+    each = zip-push Spells payloads stands.spelled payload spelled stands.each spells;
+    tables = subst (λ t. HasTables t new) (sym (entry_more payloads stands.spelled payload spelled stands.each)) (turns.turns (tables_of payloads stands.spelled) stands.tables);
+  };
+}
+
 pub stores : (old new : State) (payload : List ℕ) (spelled : Option Record) → Spells payload spelled → Enters payload spelled old new → Stores payload old new
 stores old new payload spelled spells enters = record {
   is_open = enters.is_open;
   committed = enters.committed;
-  tables = λ payloads stands. record {
-    spelled = stands.spelled ++ spelled ∷ [];
-    each = zip-push Spells payloads stands.spelled payload spelled stands.each spells;
-    tables = subst (λ t. HasTables t new.now) (sym (entry_more payloads stands.spelled payload spelled stands.each)) (enters.turns.turns (tables_of payloads stands.spelled) stands.tables);
-  };
+  tables = (grows old.now new.now payload spelled spells enters.turns).grows;
 }
 
 pub ends_storing : {E : Type 0} (old new : State) (payload : List ℕ) (spelled : Option Record) (r : Result (Unit {0}) E) → Spells payload spelled → EndsEntering payload spelled old new r

@@ -1,5 +1,5 @@
 -- What a keeper over a database has, and what its calls do to the tables.
-use Rattle.std.specs.Prelude.{◌≡◌, ℕ, Bool, false, if◌then◌else◌, List, Option, Some, None, Result, IsTrue, IfOk, IfSome, MatchResult, refl}
+use Rattle.std.specs.Prelude.{◌≡◌, ℕ, Bool, false, if◌then◌else◌, List, [], Option, Some, None, Result, IsTrue, IfOk, IfSome, MatchResult, refl}
 use Rattle.std.specs.Coded.{Coded, code_by, coded×, coded_ℕ, coded_list, coded_option}
 use Rattle.qz_disks.specs.declared.keeper.KeepErr.{KeepErr}
 use Rattle.qz_disks.specs.declared.keeper.KeepErr.TheVariants.{Fault, Memory}
@@ -12,7 +12,7 @@ use Rattle.sqlite.specs.Effect.{Database}
 use Rattle.sqlite.specs.Held.{Held, held_code}
 use Rattle.sqlite.specs.State.{State}
 use Rattle.qz_sqltables.specs.Rows.{Tables}
-use Rattle.qz_sqltables.specs.Schema.{HasTables, payloads_in}
+use Rattle.qz_sqltables.specs.Schema.{HasRecords, HasTables, keeper_schema, no_schema, payloads_in}
 use Rattle.qz_sqltables.specs.Statements.{StaysAsItWas, Turns}
 use Rattle.qz_terms.specs.declared.record.Record.{Record}
 use Rattle.qz_sqlkeep.specs.Tables.{SpellEach, tables_of, with_entry}
@@ -76,6 +76,28 @@ pub record Stores (payload : List ℕ) (old new : State) : Type 0 where
 
 abbrev pub EndsStoring : {E : Type 0} → List ℕ → State → State → Result (Unit {0}) E → Type 0
 EndsStoring payload old new result = MatchResult result (λ _. Stores payload old new) (λ _. StaysAsItWas old new)
+
+-- ---- tables made anew
+
+-- tables of payloads become those of the list with one more
+pub record Grows (payload : List ℕ) (old new : Database) : Type 0 where
+  pub grows : (payloads : List (List ℕ)) → Stands payloads old → Stands (with_one_more payload payloads) new
+
+-- whatever the tables had, they are those of these payloads, and that is committed
+pub record Remakes (payloads : List (List ℕ)) (old new : State) : Type 0 where
+  pub is_open : IsTrue new.is_open
+  pub committed : new.committed ≡ new.now
+  pub stands : old.now.schema ≡ keeper_schema → Stands payloads new.now
+
+-- The tables are those of the payloads found, whatever stood in them. These are the payloads of `record`; a database without tables has none.
+pub record Fills (found : List (List ℕ)) (old new : State) : Type 0 where
+  pub stands : Stands found new.now
+  pub told : (payloads : List (List ℕ)) → HasRecords payloads old.now → found ≡ payloads
+  pub none : old.now.schema ≡ no_schema → found ≡ []
+
+-- the list of a keeper whose payloads were told
+abbrev pub told_by : Bool → List (List ℕ) → Option (List (List ℕ))
+told_by tells found = if tells then Some found else None
 
 -- ---- what is read
 

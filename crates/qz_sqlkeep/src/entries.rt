@@ -20,8 +20,8 @@ use qz_terms::{Event, How, Record};
 use sqlite::{Alter, Connection, Error, ErrorCode, Transaction};
 use std::alloc::Global;
 
-// The record that a payload spells, if it spells one.
-fn record_in(alloc: Global, payload: &[u8]) -> Result<Option<Record>, Error>
+/// The record that a payload spells, if it spells one.
+pub(crate) fn record_in(alloc: Global, payload: &[u8]) -> Result<Option<Record>, Error>
     ensures { IfOk result (Spells payload.now) }
 {
     match parse(alloc, payload) {
@@ -133,8 +133,8 @@ fn put_record<S: Alter>(
     }
 }
 
-// Puts a payload and what it spells: at most three statements.
-fn put_entry<S: Alter>(
+/// Puts a payload and what it spells: at most three statements.
+pub(crate) fn put_entry<S: Alter>(
     tx: &mut Transaction<'_, S>,
     payload: &[u8],
     spelled: &Option<Record>,

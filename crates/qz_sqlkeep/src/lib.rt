@@ -3,6 +3,7 @@
 
 mod base;
 mod entries;
+mod fill;
 mod refusals;
 mod sql_keeper;
 

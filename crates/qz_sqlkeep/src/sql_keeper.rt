@@ -11,10 +11,11 @@ ghost use Rattle.sqlite.specs.Steps.{over_memory};
 ghost use Rattle.qz_sqltables.specs.Rows.{places_of, waiting};
 ghost use Rattle.qz_sqltables.specs.Schema.{payloads_in};
 ghost use Rattle.qz_sqltables.specs.Statements.{EndsFinding};
-ghost use Rattle.qz_sqlkeep.specs.Keeping.{kept_in, EndsReading, EndsStoring, Stands};
+ghost use Rattle.qz_sqlkeep.specs.Keeping.{kept_in, told_by, EndsReading, EndsStoring, Fills, Stands};
 
 use crate::Base;
 use crate::entries::append_payload;
+use crate::fill::fill;
 use crate::refusals::told;
 use qz_disks::{KeepErr, Keeper};
 use qz_grading::AttemptId;
@@ -70,6 +71,21 @@ impl<S: Base> SqlKeeper<S> {
         self.faults
     }
 
+    /// The keeper before its first fault.
+    pub fn without_faults(self) -> SqlKeeper<S>
+        ensures same { result ≡ record self { faults = 0 } }
+
+        // Where the store tells what it holds, the tables are those of the list.
+        ensures stands { IsTrue S.Base.tells → Stands
+            (payloads_in (state S.Store result.conn).now) (state S.Store result.conn).now }
+    {
+        SqlKeeper {
+            conn: self.conn,
+            doubt: self.doubt,
+            faults: 0,
+        }
+    }
+
     /// The attempts at a quiz that wait, in order of owner and number.
     ///
     /// After an error the list and the payload in doubt are as they were.
@@ -109,6 +125,27 @@ impl<S: Base> SqlKeeper<S> {
             Ok(found) => Ok(found),
             Err(error) => Err(told(&mut self.faults, error)),
         }
+    }
+}
+
+impl<S: Base + Drop> SqlKeeper<S> {
+    /// The keeper of the list in a database, with its payloads. The tables are made where there are none, and else are
+    /// made anew from the payloads of `record`, in one transaction.
+    ///
+    /// A database with other tables, or with more than these, is refused. After an error the database is dropped.
+    pub fn open(
+        alloc: Global,
+        mut conn: Connection<S>,
+    ) -> Result<(SqlKeeper<S>, Listed<Bytes>), Error>
+        requires { conn.in_transaction ≡ false }
+        ensures fresh { IfOk result (λ r. (r.0.doubt ≡ None) × (r.0.faults ≡ 0)) }
+        ensures list { IfOk result (λ r. kept_in S.Base.tells (state S.Store r.0.conn).now
+            ≡ told_by S.Base.tells r.1) }
+        ensures filled { IfOk result (λ r. HasCleanDisk (state S.Store r.0.conn)
+            → Fills r.1 (state S.Store conn) (state S.Store r.0.conn)) }
+    {
+        let payloads = fill(alloc, &mut conn)?;
+        Ok((SqlKeeper::new(conn), payloads))
     }
 }
 
