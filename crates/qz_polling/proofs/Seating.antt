@@ -19,7 +19,7 @@ use Rattle.qz_serial.proofs.Seats.{within_there}
 use Rattle.qz_served.specs.declared.saying.Served.{Served}
 use Rattle.qz_stations.specs.Posts.{AreAmong, AreManned, HoldTheirs, IsHeldBy, TakesIn, TakesUp}
 use Rattle.qz_stations.specs.Stations.{Post, at_place, no_end}
-use Rattle.qz_stations.proofs.Asking.{visit_goes_on}
+use Rattle.qz_stations.proofs.Asking.{visit_served}
 use Rattle.qz_stations.proofs.Leaving.{LeavesOn, last_manned, leaves_none, leaves_one, left_passes, popped}
 use Rattle.qz_stations.proofs.TakingUp.{hold_theirs, next_holds, takes_none, takes_one}
 use Rattle.qz_visit.specs.Closing.{ArePasses, JoinsAll}
@@ -58,7 +58,8 @@ alone asks peer a b links back ends turns = record {
 }
 
 turns_go : {L C : Type 0} (tells : C → ℕ → C → Type 0) (peer : L → Peer) (a b : Answerer Visitor C) (links back : List L) (ends : List LinkEnd) → ServesInTurn (Asks tells Visits) peer a links back ends b → GoesOn a.desk b.desk
-turns_go tells peer a b links back ends turns = visit_goes_on tells peer (length links) (own_door 0) (own_door (length links)) a b (own_end links ends) (alone (Asks tells Visits) peer a b links back ends turns)
+turns_go tells peer a b links back ends turns =
+    (visit_served tells peer (λ x. x) (length links) (own_door 0) (own_door (length links)) a.clock b.clock (own_end links ends) no_end a.desk b.desk (alone (Asks tells Visits) peer a b links back ends turns)).goes_on
 
 -- ---- a door that visitors served
 

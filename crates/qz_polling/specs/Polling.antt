@@ -1,5 +1,5 @@
 -- A school behind locks whose visitors, on one thread, serve the links of a door.
-use Rattle.std.specs.Prelude.{◌≡◌, ℕ, ◌+◌, ◌<◌, ◌≤◌, Bool, true, false, ◌||◌, nat_lt, List, map, slice_get, Some}
+use Rattle.std.specs.Prelude.{◌≡◌, ℕ, ◌+◌, ◌<◌, ◌≤◌, Bool, true, false, ◌||◌, nat_lt, List, map, slice_get, None, Some}
 use Rattle.qz_asking.specs.Asking.{Asks}
 use Rattle.qz_doors.specs.Doors.{Entrance}
 use Rattle.qz_doors.specs.Links.{Peer}
@@ -67,7 +67,7 @@ pub record VisitorsServe {L C : Type 0} (tells : C → ℕ → C → Type 0) (pe
 
 -- a visitor with a clock
 abbrev pub post_of : {C : Type 0} → Visitor × C → Post C
-post_of pair = record { place = pair.1; visit = pair.0; end = no_end }
+post_of pair = record { place = pair.1; visit = pair.0; notes = None; end = no_end }
 
 -- Visitors have the first of these clocks, each with passes of its own, of those that had these numbers. These clocks are left.
 pub record HaveSeats {C : Type 0} (s : Locks) (told : Tellings) (numbers : List ℕ) (clocks : List C) (passes : Seats) (pairs : List (Visitor × C)) : Type 0 where
