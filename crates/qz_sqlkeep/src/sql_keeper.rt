@@ -99,6 +99,8 @@ impl<S: Base> SqlKeeper<S> {
         // What it finds in a database in a file too.
         ensures tables { HasCleanDisk (state S.Store self.new.conn) → EndsFinding (waiting quiz)
             (state S.Store self.old.conn) (state S.Store self.new.conn) result }
+        ensures clean { HasCleanDisk (state S.Store self.new.conn)
+            → HasCleanDisk (state S.Store self.old.conn) }
     {
         match read_waiting(alloc, &mut self.conn, quiz) {
             Ok(found) => Ok(found),
@@ -120,6 +122,8 @@ impl<S: Base> SqlKeeper<S> {
         ensures tables { HasCleanDisk (state S.Store self.new.conn) → EndsFinding
             (places_of attempt)
             (state S.Store self.old.conn) (state S.Store self.new.conn) result }
+        ensures clean { HasCleanDisk (state S.Store self.new.conn)
+            → HasCleanDisk (state S.Store self.old.conn) }
     {
         match read_places(alloc, &mut self.conn, attempt) {
             Ok(found) => Ok(found),

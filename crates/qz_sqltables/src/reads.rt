@@ -80,6 +80,7 @@ fn waiting_rows<S: Alter>(conn: &mut Connection<S>, quiz: u32) -> Result<Vec<Row
         (λ rows. Finds (λ t. map attempt_shown (waiting quiz t)) rows.items
         (state S.Store conn.old) (state S.Store conn.new))
         (λ _. StaysAsItWas (state S.Store conn.old) (state S.Store conn.new)) }
+    ensures clean { HasCleanDisk (state S.Store conn.new) → HasCleanDisk (state S.Store conn.old) }
 {
     // It is idle, so what it shows is committed.
     let _idle = conn.is_autocommit();
@@ -119,6 +120,7 @@ pub fn read_waiting<S: Alter>(
     ensures idle { conn.new.in_transaction ≡ false }
     ensures found { HasCleanDisk (state S.Store conn.new) → EndsFinding
         (waiting quiz) (state S.Store conn.old) (state S.Store conn.new) result }
+    ensures clean { HasCleanDisk (state S.Store conn.new) → HasCleanDisk (state S.Store conn.old) }
 {
     let rows = waiting_rows(conn, quiz)?;
     attempts_of(alloc, &rows)
@@ -132,6 +134,7 @@ fn place_rows<S: Alter>(conn: &mut Connection<S>, attempt: AttemptId) -> Result<
         (λ rows. Finds (λ t. map place_shown (places_of attempt t)) rows.items
         (state S.Store conn.old) (state S.Store conn.new))
         (λ _. StaysAsItWas (state S.Store conn.old) (state S.Store conn.new)) }
+    ensures clean { HasCleanDisk (state S.Store conn.new) → HasCleanDisk (state S.Store conn.old) }
 {
     // It is idle, so what it shows is committed.
     let _idle = conn.is_autocommit();
@@ -170,6 +173,7 @@ pub fn read_places<S: Alter>(
     ensures idle { conn.new.in_transaction ≡ false }
     ensures found { HasCleanDisk (state S.Store conn.new) → EndsFinding
         (places_of attempt) (state S.Store conn.old) (state S.Store conn.new) result }
+    ensures clean { HasCleanDisk (state S.Store conn.new) → HasCleanDisk (state S.Store conn.old) }
 {
     let rows = place_rows(conn, attempt)?;
     places_in(alloc, &rows)
