@@ -1,12 +1,34 @@
 -- A command that says why a school isn't loaded.
-use Rattle.std.proofs.Common.{◌≡◌, List, ℕ, Some}
+use Rattle.std.proofs.Common.{◌≡◌, List, ℕ, Option, None, Some, refl, subst}
+use Rattle.std.proofs.KnownBytes.{Keeps-refl}
+use Rattle.std.specs.Io.KnownBytes.{Keeps}
 use Rattle.qz_ending.specs.declared.stop.Stop.{Stop}
 use Rattle.qz_ending.specs.declared.stop.Stop.TheVariants as stop
 use Rattle.qz_found.specs.FoundEndings.{Shelved, Sunk}
 use Rattle.qz_loading.specs.declared.fault.LoadFault.{LoadFault}
-use Rattle.qz_opening.specs.Unloaded.{IsUnloaded, Refuses, UnloadedBy, refusal_of}
+use Rattle.qz_loading.specs.declared.fault.LoadFault.TheVariants as fault
+use Rattle.qz_outside.specs.Causes.{HasRisen}
+use Rattle.qz_opening.specs.Unloaded.{IsUnloaded, Refuses, Tells, UnloadedBy, refusal_of, stop_of}
 
-pub refused_by : (folder : List ℕ) (old new : Shelved) (before now : Sunk) (cause : LoadFault) (line : List ℕ) (s : Stop) → IsUnloaded folder old new cause → refusal_of cause ≡ Some line → Refuses line before.holds now.holds before.faults now.faults s → UnloadedBy folder old new before now s
-refused_by folder old new before now cause line stop.Refused unloaded said written = record { cause = cause; line = line; unloaded = unloaded; said = said; written = written }
-refused_by folder old new before now cause line stop.SinkFault unloaded said both = record { cause = cause; line = line; unloaded = unloaded; said = said; written = both.0; risen = both.1 }
-refused_by folder old new before now cause line s unloaded said none = absurd none
+-- a line that was found is written
+pub tells_line : (cause : LoadFault) (line : List ℕ) (before now : Sunk) (s : Stop) → refusal_of cause ≡ Some line → Refuses line before.holds now.holds before.faults now.faults s → Tells cause before now s
+tells_line cause line before now stop.Refused said written = record { line = line; said = said; written = written }
+tells_line cause line before now stop.SinkFault said both = record { line = line; said = said; written = both.0; risen = both.1 }
+tells_line cause line before now s said none = absurd none
+
+-- a cause without a line ends it so
+pub tells_none : (cause : LoadFault) (holds : Sunk) → refusal_of cause ≡ None → Tells cause holds holds (stop_of cause)
+tells_none (fault.Damaged name here) holds none = absurd cc
+tells_none (fault.Behind shard position end) holds none = absurd cc
+tells_none (fault.Altered shard nth) holds none = absurd cc
+tells_none fault.NotFounded holds none = absurd cc
+tells_none fault.Fault holds none = (refl, Keeps-refl holds.holds)
+tells_none fault.Memory holds none = Keeps-refl holds.holds
+
+-- files that don't give a school, and what was told of them
+pub unloaded_by : (folder : List ℕ) (old new : Shelved) (before now : Sunk) (cause : LoadFault) (s : Stop) → IsUnloaded folder old new cause → (cause ≡ fault.Fault → HasRisen old.faults new.faults) → Tells cause before now s → UnloadedBy folder old new before now s
+unloaded_by folder old new before now cause stop.Refused unloaded rose told = record { cause = cause; line = told.line; unloaded = unloaded; said = told.said; written = told.written }
+unloaded_by folder old new before now cause stop.SinkFault unloaded rose told = record { cause = cause; line = told.line; unloaded = unloaded; said = told.said; written = told.written; risen = told.risen }
+unloaded_by folder old new before now cause stop.ShelfFault unloaded rose told = record { unloaded = subst (IsUnloaded folder old new) told.0 unloaded; unwritten = told.1; risen = rose told.0 }
+unloaded_by folder old new before now cause stop.Memory unloaded rose told = record { cause = cause; unloaded = unloaded; unwritten = told }
+unloaded_by folder old new before now cause s unloaded rose none = absurd none

@@ -81,8 +81,40 @@ UnloadedBy folder old new before now stop.Refused = LoadRefused folder old new b
 UnloadedBy folder old new before now stop.Memory = LoadShort folder old new before now
 UnloadedBy folder old new before now s = ⊥
 
+-- ---- what a command does then
+
 -- a line is written, and the stop is a refusal; or the sink failed under it
 abbrev pub Refuses : List ℕ → Option (List ℕ) → Option (List ℕ) → ℕ → ℕ → Stop → Type 0
 Refuses line old new before now stop.Refused = Appends old new line
 Refuses line old new before now stop.SinkFault = AppendsFront old new line × HasRisen before now
 Refuses line old new before now s = ⊥
+
+-- a shelf that fails and want of memory end it without a line
+abbrev pub stop_of : LoadFault → Stop
+stop_of (fault.Damaged name here) = stop.Refused
+stop_of (fault.Behind shard position end) = stop.Refused
+stop_of (fault.Altered shard nth) = stop.Refused
+stop_of fault.NotFounded = stop.Refused
+stop_of fault.Fault = stop.ShelfFault
+stop_of fault.Memory = stop.Memory
+
+-- the cause has this line, which was written
+pub record SaysCause (cause : LoadFault) (before now : Sunk) : Type 0 where
+  pub line : List ℕ
+  pub said : refusal_of cause ≡ Some line
+  pub written : Appends before.holds now.holds line
+
+-- the sink failed under it, behind a front
+pub record LeavesUnsaid (cause : LoadFault) (before now : Sunk) : Type 0 where
+  pub line : List ℕ
+  pub said : refusal_of cause ≡ Some line
+  pub written : AppendsFront before.holds now.holds line
+  pub risen : HasRisen before.faults now.faults
+
+-- the cause is told by its line, if it has one, unless memory was wanting for that
+abbrev pub Tells : LoadFault → Sunk → Sunk → Stop → Type 0
+Tells cause before now stop.Refused = SaysCause cause before now
+Tells cause before now stop.SinkFault = LeavesUnsaid cause before now
+Tells cause before now stop.ShelfFault = (cause ≡ fault.Fault) × Keeps before.holds now.holds
+Tells cause before now stop.Memory = Keeps before.holds now.holds
+Tells cause before now s = ⊥

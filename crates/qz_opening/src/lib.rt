@@ -2,5 +2,7 @@
 #![tactic(auto)]
 
 mod opening;
+mod saying;
 
 pub use opening::open_school;
+pub use saying::tell;

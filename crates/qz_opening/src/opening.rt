@@ -1,20 +1,19 @@
 //! Opening the school of a folder, as a command.
 
-ghost use Rattle.std.specs.Prelude.{◌≡◌, ◌≤◌, length, string_bytes, IfOk, IfErr};
+ghost use Rattle.std.specs.Prelude.{◌≡◌, ◌≤◌, length, IfOk, IfErr};
 ghost use Rattle.qz_terms.specs.declared.limits.TheConstants.{MOST_SHARDS};
 ghost use Rattle.qz_disks.specs.Shelves.{NoneOutIn};
 ghost use Rattle.qz_folders.specs.Opening.{IsSoundOut};
 ghost use Rattle.qz_loading.specs.Opening.{AreSoundOut, IsLoadedFrom};
 ghost use Rattle.qz_loading.specs.Places.{IsOut, KeepsElsewhere, catalog_place};
-ghost use Rattle.qz_opening.specs.Unloaded.{Refuses, UnloadedBy, altered_line, behind_line, damaged_line};
+ghost use Rattle.qz_opening.specs.Unloaded.{UnloadedBy};
 
+use crate::saying::tell;
 use qz_disks::Shelf;
 use qz_ending::Stop;
 use qz_journal::Journal;
-use qz_loading::LoadFault;
-use qz_outside::{Sink, write_all};
+use qz_outside::Sink;
 use qz_solo::{Solo, load};
-use qz_text::{NoMemory, Text};
 use std::alloc::Global;
 
 /// Loads the school of a folder, of which no file is out. Its lists are those that the files stand for.
@@ -51,59 +50,6 @@ pub fn open_school<O: Sink, F: Shelf>(
 {
     match load(alloc, shelf, folder) {
         Ok(school) => Ok(school),
-        Err(LoadFault::Damaged { name, place }) => {
-            let line = damaged_line(alloc, &name, place)?;
-            Err(refuse(sink, line.as_bytes()))
-        }
-        Err(
-            LoadFault::Behind {
-                shard,
-                position,
-                length,
-            },
-        ) => {
-            let line = behind_line(alloc, shard, position, length)?;
-            Err(refuse(sink, line.as_bytes()))
-        }
-        Err(LoadFault::Altered { shard, place }) => {
-            let line = altered_line(alloc, shard, place)?;
-            Err(refuse(sink, line.as_bytes()))
-        }
-        Err(LoadFault::NotFounded) => Err(refuse(sink, NOT_FOUNDED.as_bytes())),
-        Err(LoadFault::Fault) => Err(Stop::ShelfFault),
-        Err(LoadFault::Memory) => Err(Stop::Memory),
+        Err(fault) => Err(tell(alloc, sink, &fault)),
     }
-}
-
-/// What is written where the catalogue's list is empty.
-const NOT_FOUNDED: &str = "not founded\n";
-
-/// Writes why a school isn't loaded.
-fn refuse<O: Sink>(sink: &mut O, line: &[u8]) -> Stop
-    ensures { Refuses line.now (O.holds sink.old) (O.holds sink.new)
-        (O.faults sink.old) (O.faults sink.new) result }
-{
-    match write_all(sink, line) {
-        Ok(()) => Stop::Refused,
-        Err(_) => Stop::SinkFault,
-    }
-}
-
-fn damaged_line(alloc: Global, name: &Text, place: u64) -> Result<String, NoMemory>
-    ensures { IfOk result (λ line. string_bytes line ≡ damaged_line name.now place) }
-{
-    let name = name.as_str();
-    Ok(format!(in alloc; "damaged {name} {place}\n")?)
-}
-
-fn behind_line(alloc: Global, shard: u8, position: u64, length: u64) -> Result<String, NoMemory>
-    ensures { IfOk result (λ line. string_bytes line ≡ behind_line shard position «length») }
-{
-    Ok(format!(in alloc; "behind {shard} {position} {length}\n")?)
-}
-
-fn altered_line(alloc: Global, shard: u8, place: u64) -> Result<String, NoMemory>
-    ensures { IfOk result (λ line. string_bytes line ≡ altered_line shard place) }
-{
-    Ok(format!(in alloc; "altered {shard} {place}\n")?)
 }
