@@ -1,8 +1,9 @@
 -- What bases tell of the lists in their databases, and what their calls do to them.
-use Rattle.std.specs.Prelude.{◌≡◌, ◌≢◌, ℕ, Bool, true, false, if◌then◌else◌, List, Option, Some, None, Result, IsErrOf, MatchResult}
+use Rattle.std.specs.Prelude.{◌≡◌, ◌≢◌, ℕ, Bool, true, false, List, Option, Result, MatchResult}
 use Rattle.qz_disks.specs.declared.shelf.ShelfErr.{ShelfErr}
 use Rattle.qz_disks.specs.Keepers.{Reopens}
 use Rattle.qz_disks.specs.Shelves.{Place}
+pub use Rattle.qz_sqlkeep.specs.Keeping.{told_by}
 
 -- a list as it stands in a database: its payloads, where the store tells them, and the payload that was in doubt as it was given back
 pub record Standing : Type 0 where
@@ -26,10 +27,6 @@ pub record SameLists (old new : Lists) : Type 0 where
 pub record ChangesAt (changed : Place) (old new : Lists) : Type 0 where
   pub is_out : (at : Place) → at ≢ changed → new.is_out at ≡ old.is_out at
   pub list : (at : Place) → at ≢ changed → new.list at ≡ old.list at
-
--- the list of a keeper whose payloads were told
-abbrev pub told_by : Bool → List (List ℕ) → Option (List (List ℕ))
-told_by tells found = if tells then Some found else None
 
 -- A database was handed out as a keeper with the payloads found: the list that stood there, or that with the payload in doubt.
 -- The keeper's list is these payloads, and none is in doubt.

@@ -43,17 +43,51 @@ pub trait Bases {
         ensures cause { HasShelfCause (faults self.old) (faults self.new) result }
         ensures steady { OnOk result (faults self.new ≡ faults self.old) }
 
-        // The tables are those of the payloads, whatever stood in them. A store that tells what it holds is clean; a file is
-        // while nobody else writes it and the disk returns what was written.
+        // The tables are those of the payloads, whatever stood in them. A store that tells what it
+        // holds is clean; a file is, while the disk returns what was written and nobody else writes.
         ensures tables { IfOk result (λ r. HasCleanDisk (state Self.Store.Store r.0.conn)
             → Stands r.1 (state Self.Store.Store r.0.conn).now) };
 
     /// Takes a keeper back, whose database stands under this name from then on. The count of faults rises by the
     /// keeper's.
-    fn back(&mut self, folder: &[u8], name: &[u8], keeper: SqlKeeper<Self::Store>)
+    fn take_back<K: Returned<Self::Store>>(&mut self, folder: &[u8], name: &[u8], returned: K)
+        requires { (lists self.old).is_out (place folder.now name.now) ≡ true }
+        ensures lists { TakesBack (place folder.now name.now) (lists self.old) (lists self.new)
+            (standing_as (kept_in Self.Store.Base.tells
+            (state Self.Store.Store (K.held returned).conn).now) (K.held returned).doubt) }
+        ensures faults { RisesBy (K.held returned).faults (faults self.old) (faults self.new) };
+
+    /// The same for the keeper itself.
+    final fn back(&mut self, folder: &[u8], name: &[u8], keeper: SqlKeeper<Self::Store>)
         requires { (lists self.old).is_out (place folder.now name.now) ≡ true }
         ensures lists { TakesBack (place folder.now name.now) (lists self.old) (lists self.new)
             (standing_as (kept_in Self.Store.Base.tells (state Self.Store.Store keeper.conn).now)
             keeper.doubt) }
-        ensures faults { RisesBy keeper.faults (faults self.old) (faults self.new) };
+        ensures faults { RisesBy keeper.faults (faults self.old) (faults self.new) }
+    {
+        self.take_back(folder, name, keeper)
+    }
+}
+
+/// What a keeper over a store is given back as. `Bases::take_back` takes it, since the proof of an `impl` of `Bases`
+/// has no form for a method that takes a `SqlKeeper` of the associated store.
+pub trait Returned<S: Base> {
+    ghost use Rattle.qz_sqlkeep.specs.Keeping.{Keeping};
+
+    /// The keeper.
+    ghost held: { Self → Keeping S };
+
+    /// Gives the keeper.
+    fn into_keeper(self) -> SqlKeeper<S>
+        ensures { result ≡ held self };
+}
+
+impl<S: Base> Returned<S> for SqlKeeper<S> {
+    ghost held = { λ keeper. keeper };
+
+    fn into_keeper(self) -> SqlKeeper<S>
+        ensures { result ≡ self }
+    {
+        self
+    }
 }

@@ -151,6 +151,13 @@ impl<S: Base + Drop> SqlKeeper<S> {
         let payloads = fill(alloc, &mut conn)?;
         Ok((SqlKeeper::new(conn), payloads))
     }
+
+    /// Closes the database, and gives the payload in doubt.
+    pub fn into_doubt(self) -> Option<Bytes>
+        ensures { result ≡ self.doubt }
+    {
+        self.doubt
+    }
 }
 
 impl SqlKeeper<MemStore> {
