@@ -1,3 +1,4 @@
 mod Sets
 mod Seating
 pub mod Closing
+mod Folders
