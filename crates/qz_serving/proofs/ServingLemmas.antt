@@ -138,9 +138,9 @@ faulty (e ∷ es) some = by e.fault refl (faulty es)
 abbrev pub Counts : {R C : Type 0} → Serving R C → (R → ℕ) → Type 0
 Counts {R} {C} serves faults = (door served : R) (a b : Answerer Tellings C) (end : DoorEnd) → serves.serves door served a b end → end.fault ≡ true → HasRisen (faults door) (faults served)
 
-none-failed : {K R C : Type 0} (sound : K → Type 0) (count : K → ℕ) (serves : Serving R C) (faults : R → ℕ) (workers regraders : ℕ) (a b : School K) (doors after : List (R × C)) (end : ServeEnd) → Counts serves faults
+pub none_failed : {K R C : Type 0} (sound : K → Type 0) (count : K → ℕ) (serves : Serving R C) (faults : R → ℕ) (workers regraders : ℕ) (a b : School K) (doors after : List (R × C)) (end : ServeEnd) → Counts serves faults
     → ServesSchool sound count serves workers regraders a b doors after end → NoDoorFails faults doors after → end.doors.fault ≡ true → ⊥
-none-failed sound count serves faults workers regraders a b doors after end counts so quiet failed =
+none_failed sound count serves faults workers regraders a b doors after end counts so quiet failed =
     let one = faulty so.beside.ends (sym (ap (λ (e : DoorEnd). e.fault) so.beside.end_is) ∙ failed) in
     let here = so.beside.each one.place one.end one.there in
     let last = lasts_door serves.tells sound count regraders so.left b so.after after end.last so.last here.ticked one.place here.served here.after in
@@ -164,7 +164,7 @@ module _ {D R C : Type 0} (disks : Disks D) (workers regraders : ℕ) (serves : 
   doors-status : (faults : R → ℕ) (before now : Sunk) (s : Option Stop) (a b : School (Ledger D)) → Counts serves faults
       → ServedDoors disks workers regraders serves doors after before now s a b ⊎ NoneServed disks doors after before now s a b → ¬ HasRisen before.faults now.faults → NoDoorFails faults doors after → (status_of s ≡ 0) ⊎ (status_of s ≡ 8)
   doors-status faults before now s a b counts (inl some) sink quiet =
-      says-status before.holds now.holds before.faults now.faults (served_by some.end) s some.says sink (none-failed (IsSound disks.sound) (journal_faults disks) serves faults workers regraders a b doors after some.end counts some.school quiet)
+      says-status before.holds now.holds before.faults now.faults (served_by some.end) s some.says sink (none_failed (IsSound disks.sound) (journal_faults disks) serves faults workers regraders a b doors after some.end counts some.school quiet)
   doors-status faults before now s a b counts (inr none) sink quiet = inr (ap status_of none.memory)
 
   pub serves_doors : (folder : List ℕ) (faults : R → ℕ) (old new : Shelved) (before now : Sunk) (s : Option Stop) → Counts serves faults
@@ -189,12 +189,12 @@ module _ {D R C : Type 0} (disks : Disks D) (workers regraders : ℕ) (serves : 
       let often = back.as_often n (λ few. let more = rose few in omega (arith, more, later)) in
       λ few. let more = often few in omega (arith, more, some)
 
-  last-done : (a left b : School (Ledger D)) (folder : List ℕ) (old new : Shelved) (doors' : List (R × C)) (last : Option LoopEnd) → disk_faults disks a ≤ disk_faults disks left → IsGivenBack disks folder old new a b
+  pub last_done : (a left b : School (Ledger D)) (folder : List ℕ) (old new : Shelved) (doors' : List (R × C)) (last : Option LoopEnd) → disk_faults disks a ≤ disk_faults disks left → IsGivenBack disks folder old new a b
       → Lasts serves.tells (IsSound disks.sound) (journal_faults disks) regraders left b doors' after last → is_last_short last ≡ false → 0 < regraders → ¬ HasRisen old.faults new.faults → AllDone (lists_in b)
-  last-done a left b folder old new doors' None later back is short some quiet = let zero_is = is.0 in absurd (omega (arith, zero_is, some))
-  last-done a left b folder old new doors' (Some ends.Done) later back is short some quiet = is.1.ends
-  last-done a left b folder old new doors' (Some (ends.Left n)) later back is short some quiet = absurd (quiet (left-risen a left b folder old new n later back is.1.ends.0 is.1.ends.1))
-  last-done a left b folder old new doors' (Some ends.Short) later back is short some quiet = absurd cc
+  last_done a left b folder old new doors' None later back is short some quiet = let zero_is = is.0 in absurd (omega (arith, zero_is, some))
+  last_done a left b folder old new doors' (Some ends.Done) later back is short some quiet = is.1.ends
+  last_done a left b folder old new doors' (Some (ends.Left n)) later back is short some quiet = absurd (quiet (left-risen a left b folder old new n later back is.1.ends.0 is.1.ends.1))
+  last_done a left b folder old new doors' (Some ends.Short) later back is short some quiet = absurd cc
 
   -- what was served, and what was said of it
   pub said_of : {E : Type 0} (folder : List ℕ) (old new : Shelved) (before now : Sunk) (a b : School (Ledger D)) (served : Result ServeEnd E) (s : Option Stop)
@@ -204,7 +204,7 @@ module _ {D R C : Type 0} (disks : Disks D) (workers regraders : ℕ) (serves : 
     ends = inl (record { end = end; school = so; says = says });
     worked = λ is some quiet.
         let done = subst (SaysServed before.holds now.holds before.faults now.faults (served_by end)) is says in
-        last-done a so.left b folder old new so.after end.last (closes_later (journal_faults disks) a so.left so.closes) back so.last (or-false (nat_lt 0 end.doors.short) (is_last_short end.last) done.2) some quiet;
+        last_done a so.left b folder old new so.after end.last (closes_later (journal_faults disks) a so.left so.closes) back so.last (or-false (nat_lt 0 end.doors.short) (is_last_short end.last) done.2) some quiet;
   }
     where
       or-false : (p q : Bool) → p || q ≡ false → q ≡ false

@@ -2,7 +2,7 @@
 
 ghost use Rattle.std.specs.Prelude.{◌≡◌};
 ghost use Rattle.qz_ending.specs.Endings.{Ended};
-ghost use Rattle.qz_serving.specs.Saying.{SaysOf, is_short};
+ghost use Rattle.qz_serving.specs.Saying.{SaysOf, is_short, served_by};
 
 use qz_ending::Stop;
 use qz_outside::Sink;
@@ -28,14 +28,20 @@ pub(crate) fn say_ended<O: Sink>(
     let Ok(end) = served else {
         return Stop::Memory.status();
     };
-    let served = Served {
+    match say_served(alloc, sink, served_of(end)) {
+        Ok(()) => 0,
+        Err(stop) => stop.status(),
+    }
+}
+
+/// How serving them ended.
+fn served_of(end: ServeEnd) -> Served
+    ensures { result ≡ served_by end }
+{
+    Served {
         taken: end.doors.taken,
         fault: end.doors.fault,
         short: is_short(end),
-    };
-    match say_served(alloc, sink, served) {
-        Ok(()) => 0,
-        Err(stop) => stop.status(),
     }
 }
 
