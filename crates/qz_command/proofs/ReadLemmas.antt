@@ -92,34 +92,78 @@ module _ (name : Text) where
   three_refused (a ∷ b ∷ c ∷ []) plain at = absurd (at.at_fault (fault_is (three name) refl (a ∷ b ∷ c ∷ []) plain))
   three_refused (a ∷ b ∷ c ∷ d ∷ ws) plain at = other_number 3 (a ∷ b ∷ c ∷ d ∷ ws) (λ e. absurd (omega arith))
 
+-- ---- four words
+
+abbrev pub four_app : Text → App
+four_app name = words_app name (codes "first" ∷ codes "second" ∷ codes "third" ∷ codes "fourth" ∷ [])
+
+abbrev four : Text → Shape
+four name = (built (four_app name)).top
+
+module _ (name : Text) where
+  pub four_read : (ws : List Text) (m : ArgMatches) → has_flag ws ≡ false → Fits (four_app name) ws m
+      → (a : Text) × (b : Text) × (c : Text) × (d : Text) × (ws ≡ a ∷ b ∷ c ∷ d ∷ [])
+      × (first_value (found_of m) (codes "first") ≡ Some a) × (first_value (found_of m) (codes "second") ≡ Some b) × (first_value (found_of m) (codes "third") ≡ Some c)
+      × (first_value (found_of m) (codes "fourth") ≡ Some d)
+  four_read [] m plain fits = absurd (unfit MissingRequiredArgument _ (fault_is (four name) refl [] plain) fits.faultless)
+  four_read (a ∷ []) m plain fits = absurd (unfit MissingRequiredArgument _ (fault_is (four name) refl (a ∷ []) plain) fits.faultless)
+  four_read (a ∷ b ∷ []) m plain fits = absurd (unfit MissingRequiredArgument _ (fault_is (four name) refl (a ∷ b ∷ []) plain) fits.faultless)
+  four_read (a ∷ b ∷ c ∷ []) m plain fits = absurd (unfit MissingRequiredArgument _ (fault_is (four name) refl (a ∷ b ∷ c ∷ []) plain) fits.faultless)
+  four_read (a ∷ b ∷ c ∷ d ∷ []) m plain fits =
+      let rows = fits.rows ∙ rows_are (four name) refl (a ∷ b ∷ c ∷ d ∷ []) plain in
+      let value = λ (id : Text). first_value-rows (found_of m) id ∙ ap (first_of id) rows in
+      (a, b, c, d, refl, value (codes "first"), value (codes "second"), value (codes "third"), value (codes "fourth"))
+  four_read (a ∷ b ∷ c ∷ d ∷ e ∷ ws) m plain fits = absurd (unfit UnknownArgument _ (fault_is (four name) refl (a ∷ b ∷ c ∷ d ∷ e ∷ ws) plain) fits.faultless)
+
+  pub four_refused : (ws : List Text) → has_flag ws ≡ false → IsAtFault (four_app name) ws → so_many 4 ws ≡ None
+  four_refused [] plain at = refl
+  four_refused (a ∷ []) plain at = refl
+  four_refused (a ∷ b ∷ []) plain at = refl
+  four_refused (a ∷ b ∷ c ∷ []) plain at = refl
+  four_refused (a ∷ b ∷ c ∷ d ∷ []) plain at = absurd (at.at_fault (fault_is (four name) refl (a ∷ b ∷ c ∷ d ∷ []) plain))
+  four_refused (a ∷ b ∷ c ∷ d ∷ e ∷ ws) plain at = other_number 4 (a ∷ b ∷ c ∷ d ∷ e ∷ ws) (λ e. absurd (omega arith))
+
+-- so are the words, where each was found
+pub four_found : (ws : List Text) (a b c d v w x y : Text) (o p q r : Option Text) → ws ≡ a ∷ b ∷ c ∷ d ∷ []
+    → o ≡ Some a → p ≡ Some b → q ≡ Some c → r ≡ Some d
+    → Some v ≡ o → Some w ≡ p → Some x ≡ q → Some y ≡ r → so_many 4 ws ≡ Some (v ∷ w ∷ x ∷ y ∷ [])
+four_found ws a b c d v w x y o p q r is is_a is_b is_c is_d told_v told_w told_x told_y = cc
+
 -- ---- five words
 
-abbrev pub serve_app : App
-serve_app = words_app (codes "serve") (codes "folder" ∷ codes "port" ∷ codes "workers" ∷ codes "regraders" ∷ codes "links" ∷ [])
+abbrev pub five_app : Text → App
+five_app name = words_app name (codes "first" ∷ codes "second" ∷ codes "third" ∷ codes "fourth" ∷ codes "fifth" ∷ [])
 
-abbrev serve : Shape
-serve = (built serve_app).top
+abbrev five : Text → Shape
+five name = (built (five_app name)).top
 
-pub five_read : (ws : List Text) (m : ArgMatches) → has_flag ws ≡ false → Fits serve_app ws m
-    → (a : Text) × (b : Text) × (c : Text) × (d : Text) × (e : Text) × (ws ≡ a ∷ b ∷ c ∷ d ∷ e ∷ [])
-    × (first_value (found_of m) (codes "folder") ≡ Some a) × (first_value (found_of m) (codes "port") ≡ Some b) × (first_value (found_of m) (codes "workers") ≡ Some c)
-    × (first_value (found_of m) (codes "regraders") ≡ Some d) × (first_value (found_of m) (codes "links") ≡ Some e)
-five_read [] m plain fits = absurd (unfit MissingRequiredArgument _ (fault_is serve refl [] plain) fits.faultless)
-five_read (a ∷ []) m plain fits = absurd (unfit MissingRequiredArgument _ (fault_is serve refl (a ∷ []) plain) fits.faultless)
-five_read (a ∷ b ∷ []) m plain fits = absurd (unfit MissingRequiredArgument _ (fault_is serve refl (a ∷ b ∷ []) plain) fits.faultless)
-five_read (a ∷ b ∷ c ∷ []) m plain fits = absurd (unfit MissingRequiredArgument _ (fault_is serve refl (a ∷ b ∷ c ∷ []) plain) fits.faultless)
-five_read (a ∷ b ∷ c ∷ d ∷ []) m plain fits = absurd (unfit MissingRequiredArgument _ (fault_is serve refl (a ∷ b ∷ c ∷ d ∷ []) plain) fits.faultless)
-five_read (a ∷ b ∷ c ∷ d ∷ e ∷ []) m plain fits =
-    let rows = fits.rows ∙ rows_are serve refl (a ∷ b ∷ c ∷ d ∷ e ∷ []) plain in
-    let value = λ (id : Text). first_value-rows (found_of m) id ∙ ap (first_of id) rows in
-    (a, b, c, d, e, refl, value (codes "folder"), value (codes "port"), value (codes "workers"), value (codes "regraders"), value (codes "links"))
-five_read (a ∷ b ∷ c ∷ d ∷ e ∷ f ∷ ws) m plain fits = absurd (unfit UnknownArgument _ (fault_is serve refl (a ∷ b ∷ c ∷ d ∷ e ∷ f ∷ ws) plain) fits.faultless)
+module _ (name : Text) where
+  pub five_read : (ws : List Text) (m : ArgMatches) → has_flag ws ≡ false → Fits (five_app name) ws m
+      → (a : Text) × (b : Text) × (c : Text) × (d : Text) × (e : Text) × (ws ≡ a ∷ b ∷ c ∷ d ∷ e ∷ [])
+      × (first_value (found_of m) (codes "first") ≡ Some a) × (first_value (found_of m) (codes "second") ≡ Some b) × (first_value (found_of m) (codes "third") ≡ Some c)
+      × (first_value (found_of m) (codes "fourth") ≡ Some d) × (first_value (found_of m) (codes "fifth") ≡ Some e)
+  five_read [] m plain fits = absurd (unfit MissingRequiredArgument _ (fault_is (five name) refl [] plain) fits.faultless)
+  five_read (a ∷ []) m plain fits = absurd (unfit MissingRequiredArgument _ (fault_is (five name) refl (a ∷ []) plain) fits.faultless)
+  five_read (a ∷ b ∷ []) m plain fits = absurd (unfit MissingRequiredArgument _ (fault_is (five name) refl (a ∷ b ∷ []) plain) fits.faultless)
+  five_read (a ∷ b ∷ c ∷ []) m plain fits = absurd (unfit MissingRequiredArgument _ (fault_is (five name) refl (a ∷ b ∷ c ∷ []) plain) fits.faultless)
+  five_read (a ∷ b ∷ c ∷ d ∷ []) m plain fits = absurd (unfit MissingRequiredArgument _ (fault_is (five name) refl (a ∷ b ∷ c ∷ d ∷ []) plain) fits.faultless)
+  five_read (a ∷ b ∷ c ∷ d ∷ e ∷ []) m plain fits =
+      let rows = fits.rows ∙ rows_are (five name) refl (a ∷ b ∷ c ∷ d ∷ e ∷ []) plain in
+      let value = λ (id : Text). first_value-rows (found_of m) id ∙ ap (first_of id) rows in
+      (a, b, c, d, e, refl, value (codes "first"), value (codes "second"), value (codes "third"), value (codes "fourth"), value (codes "fifth"))
+  five_read (a ∷ b ∷ c ∷ d ∷ e ∷ f ∷ ws) m plain fits = absurd (unfit UnknownArgument _ (fault_is (five name) refl (a ∷ b ∷ c ∷ d ∷ e ∷ f ∷ ws) plain) fits.faultless)
 
-pub five_refused : (ws : List Text) → has_flag ws ≡ false → IsAtFault serve_app ws → so_many 5 ws ≡ None
-five_refused [] plain at = refl
-five_refused (a ∷ []) plain at = refl
-five_refused (a ∷ b ∷ []) plain at = refl
-five_refused (a ∷ b ∷ c ∷ []) plain at = refl
-five_refused (a ∷ b ∷ c ∷ d ∷ []) plain at = refl
-five_refused (a ∷ b ∷ c ∷ d ∷ e ∷ []) plain at = absurd (at.at_fault (fault_is serve refl (a ∷ b ∷ c ∷ d ∷ e ∷ []) plain))
-five_refused (a ∷ b ∷ c ∷ d ∷ e ∷ f ∷ ws) plain at = other_number 5 (a ∷ b ∷ c ∷ d ∷ e ∷ f ∷ ws) (λ e. absurd (omega arith))
+  pub five_refused : (ws : List Text) → has_flag ws ≡ false → IsAtFault (five_app name) ws → so_many 5 ws ≡ None
+  five_refused [] plain at = refl
+  five_refused (a ∷ []) plain at = refl
+  five_refused (a ∷ b ∷ []) plain at = refl
+  five_refused (a ∷ b ∷ c ∷ []) plain at = refl
+  five_refused (a ∷ b ∷ c ∷ d ∷ []) plain at = refl
+  five_refused (a ∷ b ∷ c ∷ d ∷ e ∷ []) plain at = absurd (at.at_fault (fault_is (five name) refl (a ∷ b ∷ c ∷ d ∷ e ∷ []) plain))
+  five_refused (a ∷ b ∷ c ∷ d ∷ e ∷ f ∷ ws) plain at = other_number 5 (a ∷ b ∷ c ∷ d ∷ e ∷ f ∷ ws) (λ e. absurd (omega arith))
+
+-- so are the words, where each was found
+pub five_found : (ws : List Text) (a b c d e v w x y z : Text) (o p q r s : Option Text) → ws ≡ a ∷ b ∷ c ∷ d ∷ e ∷ []
+    → o ≡ Some a → p ≡ Some b → q ≡ Some c → r ≡ Some d → s ≡ Some e
+    → Some v ≡ o → Some w ≡ p → Some x ≡ q → Some y ≡ r → Some z ≡ s → so_many 5 ws ≡ Some (v ∷ w ∷ x ∷ y ∷ z ∷ [])
+five_found ws a b c d e v w x y z o p q r s is is_a is_b is_c is_d is_e told_v told_w told_x told_y told_z = cc

@@ -3,6 +3,7 @@ use Rattle.std.specs.Prelude.{ℕ, ◌≤◌, ◌&&◌, nat_le, if◌then◌else
 use Rattle.qz_terms.specs.declared.limits.TheConstants.{MOST_SHARDS}
 use Rattle.qz_command.specs.declared.command.Command.{Command}
 use Rattle.qz_command.specs.declared.command.Command.TheVariants as command
+use Rattle.qz_command.specs.declared.command.Serving.{Serving}
 use Rattle.qz_command.specs.Flags.{has_flag}
 use Rattle.qz_decimal.specs.Decimals.{◌>>=◌}
 use Rattle.qz_wire.specs.Brief.{IsBriefToken}
@@ -48,19 +49,25 @@ abbrev pub found_of : List (List ℕ) → Option Command
 found_of (folder ∷ shards ∷ token ∷ []) = found_by folder shards token
 found_of words = None
 
--- at a port, by 1 to 16 workers beside up to 8 regraders, until so many links were taken
-abbrev pub serve_by : List ℕ → List ℕ → List ℕ → List ℕ → List ℕ → Option Command
-serve_by folder port workers regraders links = do
+-- at a port, by 1 to 16 workers beside up to 8 regraders, until each worker took so many links
+abbrev pub serving_by : List ℕ → List ℕ → List ℕ → List ℕ → List ℕ → Option Serving
+serving_by folder port workers regraders links = do
   door ← number_within 1 65535 port
   crew ← number_within 1 16 workers
   judges ← number_within 0 8 regraders
   count ← number_within 1 1000000000 links
   place ← folder_of folder
-  Some (command.Serve place door crew judges count)
+  Some (record { folder = place; port = door; workers = crew; regraders = judges; links = count })
+
+abbrev pub serving_of : List (List ℕ) → Option Serving
+serving_of (folder ∷ port ∷ workers ∷ regraders ∷ links ∷ []) = serving_by folder port workers regraders links
+serving_of words = None
 
 abbrev pub serve_of : List (List ℕ) → Option Command
-serve_of (folder ∷ port ∷ workers ∷ regraders ∷ links ∷ []) = serve_by folder port workers regraders links
-serve_of words = None
+serve_of words = option_map command.Serve (serving_of words)
+
+abbrev pub audit_of : List (List ℕ) → Option Command
+audit_of words = option_map command.Audit (serving_of words)
 
 -- a school of 1 to 2,000 students
 abbrev pub bulk_by : List ℕ → Option Command
@@ -82,6 +89,19 @@ abbrev pub stats_of : List (List ℕ) → Option Command
 stats_of (folder ∷ quiz ∷ workers ∷ []) = stats_by folder quiz workers
 stats_of words = None
 
+-- at a port, until so many links were taken, 1 to 1,000 at once
+abbrev pub poll_by : List ℕ → List ℕ → List ℕ → List ℕ → Option Command
+poll_by folder port links visits = do
+  door ← number_within 1 65535 port
+  count ← number_within 1 1000000000 links
+  most ← number_within 1 1000 visits
+  place ← folder_of folder
+  Some (command.Poll place door count most)
+
+abbrev pub poll_of : List (List ℕ) → Option Command
+poll_of (folder ∷ port ∷ links ∷ visits ∷ []) = poll_by folder port links visits
+poll_of words = None
+
 -- ---- the command that all the words are
 
 abbrev pub command_by : List ℕ → List (List ℕ) → Option Command
@@ -92,7 +112,9 @@ command_by first rest =
     else (if bytes_eq first (codes "found") then found_of rest
     else (if bytes_eq first (codes "serve") then serve_of rest
     else (if bytes_eq first (codes "bulk") then bulk_of rest
-    else (if bytes_eq first (codes "stats") then stats_of rest else None))))))
+    else (if bytes_eq first (codes "stats") then stats_of rest
+    else (if bytes_eq first (codes "audit") then audit_of rest
+    else (if bytes_eq first (codes "poll") then poll_of rest else None))))))))
 
 -- no word of a command begins with a dash
 abbrev pub command_of : List (List ℕ) → Option Command
@@ -104,13 +126,20 @@ command_of (first ∷ rest) = if has_flag (first ∷ rest) then None else comman
 abbrev pub IsFolder : List ℕ → Type 0
 IsFolder folder = (1 ≤ length folder) × (length folder ≤ 4096)
 
+abbrev pub IsServing : Serving → Type 0
+IsServing s =
+    IsFolder s.folder × ((1 ≤ s.port) × (s.port ≤ 65535)) × ((1 ≤ s.workers) × (s.workers ≤ 16))
+    × (s.regraders ≤ 8) × ((1 ≤ s.links) × (s.links ≤ 1000000000))
+
 abbrev pub IsInRange : Command → Type 0
 IsInRange (command.Script folder) = IsFolder folder
 IsInRange (command.Found folder shards token) =
     IsFolder folder × ((1 ≤ shards) × (shards ≤ MOST_SHARDS)) × IsBriefToken token
-IsInRange (command.Serve folder port workers regraders links) =
-    IsFolder folder × ((1 ≤ port) × (port ≤ 65535)) × ((1 ≤ workers) × (workers ≤ 16))
-    × (regraders ≤ 8) × ((1 ≤ links) × (links ≤ 1000000000))
+IsInRange (command.Serve s) = IsServing s
 IsInRange (command.Bulk count) = (1 ≤ count) × (count ≤ 2000)
 IsInRange (command.Stats folder quiz workers) = IsFolder folder × ((1 ≤ workers) × (workers ≤ 16))
+IsInRange (command.Audit s) = IsServing s
+IsInRange (command.Poll folder port links visits) =
+    IsFolder folder × ((1 ≤ port) × (port ≤ 65535)) × ((1 ≤ links) × (links ≤ 1000000000))
+    × ((1 ≤ visits) × (visits ≤ 1000))
 IsInRange c = Unit {0}

@@ -1,16 +1,31 @@
 //! The command that the words of the command line name.
 
 ghost use Rattle.clap.specs.Walk.{texts};
-ghost use Rattle.qz_command.specs.Commands.{IsInRange, bulk_by, bulk_of, command_by, command_of, found_by, found_of, gift_by, gift_of, replay_of, script_by, script_of, serve_by, serve_of, stats_by, stats_of};
+ghost use Rattle.qz_command.specs.Commands.{IsInRange, IsServing, command_by, command_of};
+ghost use Rattle.qz_command.specs.Commands.{audit_of, bulk_by, bulk_of, found_by, found_of};
+ghost use Rattle.qz_command.specs.Commands.{gift_by, gift_of, poll_by, poll_of, replay_of};
+ghost use Rattle.qz_command.specs.Commands.{script_by, script_of, serve_of, serving_by, serving_of};
+ghost use Rattle.qz_command.specs.Commands.{stats_by, stats_of};
 ghost use Rattle.qz_command.specs.Flags.{has_flag, is_flag};
 ghost use Rattle.qz_command.specs.Readings.{Reads};
 ghost use Rattle.std.specs.Prelude.{◌≡◌, IfOk, false};
 
 use crate::WordsFault;
-use crate::leaves::{one_word, three_words, words_of_replay, words_of_serve};
+use crate::leaves::{five_words, four_words, one_word, three_words, words_of_replay};
 use crate::values::{folder_in, number_in, token_text};
 use qz_text::Text;
 use std::alloc::{AllocError, Global};
+
+/// Links are served over the school in a folder, at a port from 1 to 65,535, by 1 to 16 workers beside 0 to 8 regraders, until each
+/// worker took so many, from 1 to 1,000,000,000.
+#[derive(Drop)]
+pub struct Serving {
+    pub folder: Text,
+    pub port: u16,
+    pub workers: u8,
+    pub regraders: u8,
+    pub links: u32,
+}
 
 /// A command of the program.
 #[derive(Drop)]
@@ -31,15 +46,8 @@ pub enum Command {
         shards: u8,
         token: Text,
     },
-    /// Links are served over the school in a folder, at a port from 1 to 65,535, by 1 to 16 workers beside 0 to 8 regraders, until
-    /// so many links were taken, from 1 to 1,000,000,000.
-    Serve {
-        folder: Text,
-        port: u16,
-        workers: u8,
-        regraders: u8,
-        links: u32,
-    },
+    /// Links are served.
+    Serve(Serving),
     /// A school of so many students is made in memory, from 1 to 2,000.
     Bulk {
         count: u32,
@@ -49,6 +57,16 @@ pub enum Command {
         folder: Text,
         quiz: u32,
         workers: u8,
+    },
+    /// Links are served, and what is asked is noted, so that each new record is found to be somebody's.
+    Audit(Serving),
+    /// Links are served by one thread over the school in a folder, at a port from 1 to 65,535, until so many were taken, from 1 to
+    /// 1,000,000,000, and so many at once, from 1 to 1,000.
+    Poll {
+        folder: Text,
+        port: u16,
+        links: u32,
+        visits: u16,
     },
 }
 
@@ -111,6 +129,8 @@ fn command_by(alloc: Global, first: &str, rest: &[&str]) -> Result<Command, Word
         "serve" => serve(alloc, rest),
         "bulk" => bulk(alloc, rest),
         "stats" => stats(alloc, rest),
+        "audit" => audit(alloc, rest),
+        "poll" => poll(alloc, rest),
         _ => Err(WordsFault::BadWords),
     }
 }
@@ -184,39 +204,48 @@ fn found_by(alloc: Global, folder: &str, shards: &str, token: &str) -> Result<Co
     })
 }
 
-fn serve(alloc: Global, words: &[&str]) -> Result<Command, WordsFault>
+/// What the words behind the name of a command that serves say.
+fn read_serving(alloc: Global, name: &'static str, words: &[&str]) -> Result<Serving, WordsFault>
     requires { has_flag (texts words.now) ≡ false }
-    ensures value { Reads (λ c. c) result (serve_of (texts words.now)) }
-    ensures range { IfOk result IsInRange }
+    ensures value { Reads (λ s. s) result (serving_of (texts words.now)) }
+    ensures range { IfOk result IsServing }
 {
-    let (folder, port, workers, regraders, links) = words_of_serve(alloc, words)?;
-    serve_by(alloc, folder, port, workers, regraders, links)
+    let (folder, port, workers, regraders, links) = five_words(alloc, name, words)?;
+    serving_by(alloc, folder, port, workers, regraders, links)
 }
 
-fn serve_by(
+fn serving_by(
     alloc: Global,
     folder: &str,
     port: &str,
     workers: &str,
     regraders: &str,
     links: &str,
-) -> Result<Command, WordsFault>
-    ensures value { Reads (λ c. c) result
-        (serve_by folder.now port.now workers.now regraders.now links.now) }
-    ensures range { IfOk result IsInRange }
+) -> Result<Serving, WordsFault>
+    ensures value { Reads (λ s. s) result
+        (serving_by folder.now port.now workers.now regraders.now links.now) }
+    ensures range { IfOk result IsServing }
 {
     let port = number_in(port, 1, 65_535)?;
     let workers = number_in(workers, 1, 16)?;
     let regraders = number_in(regraders, 0, 8)?;
     let links = number_in(links, 1, 1_000_000_000)?;
     let folder = folder_in(alloc, folder)?;
-    Ok(Command::Serve {
+    Ok(Serving {
         folder,
         port: port as u16,
         workers: workers as u8,
         regraders: regraders as u8,
         links,
     })
+}
+
+fn serve(alloc: Global, words: &[&str]) -> Result<Command, WordsFault>
+    requires { has_flag (texts words.now) ≡ false }
+    ensures value { Reads (λ c. c) result (serve_of (texts words.now)) }
+    ensures range { IfOk result IsInRange }
+{
+    Ok(Command::Serve(read_serving(alloc, "serve", words)?))
 }
 
 fn bulk(alloc: Global, words: &[&str]) -> Result<Command, WordsFault>
@@ -256,5 +285,44 @@ fn stats_by(alloc: Global, folder: &str, quiz: &str, workers: &str) -> Result<Co
         folder,
         quiz,
         workers: workers as u8,
+    })
+}
+
+fn audit(alloc: Global, words: &[&str]) -> Result<Command, WordsFault>
+    requires { has_flag (texts words.now) ≡ false }
+    ensures value { Reads (λ c. c) result (audit_of (texts words.now)) }
+    ensures range { IfOk result IsInRange }
+{
+    Ok(Command::Audit(read_serving(alloc, "audit", words)?))
+}
+
+fn poll(alloc: Global, words: &[&str]) -> Result<Command, WordsFault>
+    requires { has_flag (texts words.now) ≡ false }
+    ensures value { Reads (λ c. c) result (poll_of (texts words.now)) }
+    ensures range { IfOk result IsInRange }
+{
+    let (folder, port, links, visits) = four_words(alloc, "poll", words)?;
+    poll_by(alloc, folder, port, links, visits)
+}
+
+fn poll_by(
+    alloc: Global,
+    folder: &str,
+    port: &str,
+    links: &str,
+    visits: &str,
+) -> Result<Command, WordsFault>
+    ensures value { Reads (λ c. c) result (poll_by folder.now port.now links.now visits.now) }
+    ensures range { IfOk result IsInRange }
+{
+    let port = number_in(port, 1, 65_535)?;
+    let links = number_in(links, 1, 1_000_000_000)?;
+    let visits = number_in(visits, 1, 1000)?;
+    let folder = folder_in(alloc, folder)?;
+    Ok(Command::Poll {
+        folder,
+        port: port as u16,
+        links,
+        visits: visits as u16,
     })
 }

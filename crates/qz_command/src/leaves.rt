@@ -113,9 +113,31 @@ pub fn three_words<'a>(
     }
 }
 
-/// A folder, a port, and the numbers of workers, regraders and links.
-pub fn words_of_serve<'a>(
+/// Four words.
+pub fn four_words<'a>(
     alloc: Global,
+    name: &'static str,
+    words: &'a [&'a str],
+) -> Result<(&'a str, &'a str, &'a str, &'a str), WordsFault>
+    requires { has_flag (texts words.now) ≡ false }
+    ensures { Reads (λ r. r.0.now ∷ r.1.now ∷ r.2.now ∷ r.3.now ∷ []) result
+        (so_many 4 (texts words.entry.now)) }
+{
+    match parsed(alloc, name, &["first", "second", "third", "fourth"], words) {
+        Ok(matches) => Ok((
+            value(&matches, "first"),
+            value(&matches, "second"),
+            value(&matches, "third"),
+            value(&matches, "fourth"),
+        )),
+        Err(fault) => Err(fault),
+    }
+}
+
+/// Five words.
+pub fn five_words<'a>(
+    alloc: Global,
+    name: &'static str,
     words: &'a [&'a str],
 ) -> Result<(&'a str, &'a str, &'a str, &'a str, &'a str), WordsFault>
     requires { has_flag (texts words.now) ≡ false }
@@ -124,16 +146,16 @@ pub fn words_of_serve<'a>(
 {
     match parsed(
         alloc,
-        "serve",
-        &["folder", "port", "workers", "regraders", "links"],
+        name,
+        &["first", "second", "third", "fourth", "fifth"],
         words,
     ) {
         Ok(matches) => Ok((
-            value(&matches, "folder"),
-            value(&matches, "port"),
-            value(&matches, "workers"),
-            value(&matches, "regraders"),
-            value(&matches, "links"),
+            value(&matches, "first"),
+            value(&matches, "second"),
+            value(&matches, "third"),
+            value(&matches, "fourth"),
+            value(&matches, "fifth"),
         )),
         Err(fault) => Err(fault),
     }

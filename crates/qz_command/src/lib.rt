@@ -6,5 +6,5 @@ mod fault;
 mod leaves;
 mod values;
 
-pub use command::{Command, command_of};
+pub use command::{Command, Serving, command_of};
 pub use fault::WordsFault;

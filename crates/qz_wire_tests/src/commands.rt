@@ -1,7 +1,20 @@
-use qz_command::{Command, WordsFault, command_of};
+use qz_command::{Command, Serving, WordsFault, command_of};
 use qz_text::{NoMemory, Text};
 use std::alloc::Global;
 use std::test::Fail;
+
+/// What the words of a command that serves say.
+fn told_of_serving(alloc: Global, how: &str, serving: &Serving) -> Result<String, NoMemory> {
+    let Serving {
+        folder,
+        port,
+        workers,
+        regraders,
+        links,
+    } = serving;
+    let folder = folder.as_str();
+    Ok(format!(in alloc; "{folder} {how} at {port} by {workers} and {regraders} until {links}")?)
+}
 
 /// What the command that these words are says of itself, or that they are none.
 fn told(alloc: Global, words: &[Text]) -> Result<String, NoMemory> {
@@ -21,17 +34,18 @@ fn told(alloc: Global, words: &[Text]) -> Result<String, NoMemory> {
             folder.as_str(),
             token.as_str()
         )?,
+        Ok(Command::Serve(serving)) => told_of_serving(alloc, "served", &serving)?,
+        Ok(Command::Audit(serving)) => told_of_serving(alloc, "audited", &serving)?,
         Ok(
-            Command::Serve {
+            Command::Poll {
                 folder,
                 port,
-                workers,
-                regraders,
                 links,
+                visits,
             },
         ) => {
             let folder = folder.as_str();
-            format!(in alloc; "{folder} at {port} by {workers} and {regraders} until {links}")?
+            format!(in alloc; "{folder} at {port} until {links}, {visits} at once")?
         }
         Ok(Command::Bulk { count }) => format!(in alloc; "bulk of {count}")?,
         Ok(
@@ -66,11 +80,16 @@ fn each_command_is_told(rt: HostRuntime) -> Result<(), Fail> {
         ("script a-b", "script in a-b"),
         ("found help 1 t", "1 shards in help by t"),
         ("found /x 64 Ann_B-7", "64 shards in /x by Ann_B-7"),
-        ("serve memory 1 1 0 1", "memory at 1 by 1 and 0 until 1"),
+        (
+            "serve memory 1 1 0 1",
+            "memory served at 1 by 1 and 0 until 1",
+        ),
         (
             "serve s 65535 16 8 1000000000",
-            "s at 65535 by 16 and 8 until 1000000000",
+            "s served at 65535 by 16 and 8 until 1000000000",
         ),
+        ("audit s 1 1 0 1", "s audited at 1 by 1 and 0 until 1"),
+        ("poll s 1 1 1000", "s at 1 until 1, 1000 at once"),
         ("bulk 1", "bulk of 1"),
         ("bulk 2000", "bulk of 2000"),
         ("stats s 0 1", "quiz 0 in s by 1"),
@@ -98,6 +117,8 @@ fn other_words_are_no_command(rt: HostRuntime) -> Result<(), Fail> {
         "serve a 1 17 0 1",
         "serve a 1 1 9 1",
         "serve a 1 1 0 1000000001",
+        "audit a 1 1 0",
+        "poll a 1 1 1001",
         "bulk 2001",
         "stats a 1",
         "stats a 1 0",
