@@ -8,22 +8,25 @@ use Rattle.qz_found.specs.FoundEndings.{Shelved}
 use Rattle.qz_ending.specs.Endings.{Outside}
 use Rattle.qz_script.specs.Scripts.{ServesAll, script_limit}
 use Rattle.qz_script_schools.specs.Folders.{ServesFolder}
-use Rattle.quizd.specs.Commands.{CommandDoesAll, RunsAll, is_memory}
+use Rattle.quizd.specs.Commands.{Beside, CommandDoesAll, RunsAll, is_memory}
 
 script-wanting : (b : Bool) (at after : Shelved) (old new : Outside) → MatchBool b (ServesAll script_limit old new 8) (ServesFolder script_limit at after old new 8)
 script-wanting true at after old new = record { done = λ text left short source sink. inr refl }
 script-wanting false at after old new = record { done = λ text left short source sink shelf. inr (inr refl) }
 
-wanting-does : (none_fails : Type 0) (at after : Shelved) (c : Option Command) (old new : Outside) → CommandDoesAll none_fails at after c old new 8
-wanting-does none_fails at after None old new = tt
-wanting-does none_fails at after (Some command.Replay) old new = record { done = λ text output left short is source sink. inr refl }
-wanting-does none_fails at after (Some command.GiftCheck) old new = record { done = λ text bank left short is source sink. inr refl }
-wanting-does none_fails at after (Some command.GiftFormat) old new = record { done = λ text bank left short is source sink. inr refl }
-wanting-does none_fails at after (Some (command.Script folder)) old new = script-wanting (is_memory folder) at after old new
-wanting-does none_fails at after (Some (command.Found folder shards token)) old new = record { done = λ bytes reads is shelf sink. inr refl }
-wanting-does none_fails at after (Some (command.Serve folder port workers regraders links)) old new = record { done = λ sink shelf quiet. inr (inr refl) }
-wanting-does none_fails at after (Some (command.Bulk count)) old new = λ quiet. inr refl
-wanting-does none_fails at after (Some (command.Stats folder quiz workers)) old new = record { done = λ sink shelf. inr (inr refl) }
+module _ {R C F P L : Type 0} (none_fails : Type 0) (at after : Beside R C F P L) where
+  wanting-does : (c : Option Command) (old new : Outside) → CommandDoesAll none_fails at after c old new 8
+  wanting-does None old new = tt
+  wanting-does (Some command.Replay) old new = record { done = λ text output left short is source sink. inr refl }
+  wanting-does (Some command.GiftCheck) old new = record { done = λ text bank left short is source sink. inr refl }
+  wanting-does (Some command.GiftFormat) old new = record { done = λ text bank left short is source sink. inr refl }
+  wanting-does (Some (command.Script folder)) old new = script-wanting (is_memory folder) at.told after.told old new
+  wanting-does (Some (command.Found folder shards token)) old new = record { done = λ bytes reads is shelf sink. inr refl }
+  wanting-does (Some (command.Serve c)) old new = record { done = λ sink shelf quiet. inr (inr refl) }
+  wanting-does (Some (command.Audit c)) old new = record { done = λ sink shelf quiet. inr (inr (inl refl)) }
+  wanting-does (Some (command.Poll folder port links visits)) old new = record { done = λ sink shelf door. inr (inr refl) }
+  wanting-does (Some (command.Bulk count)) old new = λ quiet. inr refl
+  wanting-does (Some (command.Stats folder quiz workers)) old new = record { done = λ sink shelf. inr (inr refl) }
 
-pub wanting_runs : (none_fails : Type 0) (at after : Shelved) (words : List (List ℕ)) (old new : Outside) (status : ℕ) → status ≡ 8 → RunsAll none_fails at after words old new status
-wanting_runs none_fails at after words old new status is = subst (λ (s : ℕ). CommandDoesAll none_fails at after (command_of words) old new s) (sym is) (wanting-does none_fails at after (command_of words) old new)
+  pub wanting_runs : (words : List (List ℕ)) (old new : Outside) (status : ℕ) → status ≡ 8 → RunsAll none_fails at after words old new status
+  wanting_runs words old new status is = subst (λ (s : ℕ). CommandDoesAll none_fails at after (command_of words) old new s) (sym is) (wanting-does (command_of words) old new)
