@@ -259,8 +259,10 @@ def until_it_listens(server, port):
     raise Otherwise(f"{server.args[0]} ended with status {server.returncode} instead of serving")
 
 
-def serving(quizd, folder, port, workers, regraders=0):
-    return running([quizd, "serve", folder, str(port), str(workers), str(regraders), "1000000000"], port)
+def serving(quizd, folder, port, workers, regraders=0, command="serve"):
+    """A command that serves links: by so many workers, or where it polls by so many visits."""
+    words = ["1000000000", workers] if command == "poll" else [workers, regraders, "1000000000"]
+    return running([quizd, command, folder, str(port), *map(str, words)], port)
 
 
 @contextlib.contextmanager

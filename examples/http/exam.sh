@@ -1,43 +1,40 @@
 #!/usr/bin/env bash
 # Sets up a school over HTTP, takes its quiz, and compares each answer with exam.out. Then a slow client, one that goes away in the
-# middle, and requests that are sent before their answers are read. Wants curl and python3. The port may be given as a word.
+# middle, and requests that are sent before their answers are read. All of it by each command that serves links. Wants curl and python3.
+# The port may be given as a word.
 set -u
 here=$(cd "$(dirname "$0")" && pwd)
 port=${1:-8089}
 work=$(mktemp -d)
 failed=0
+server=
 trap 'kill "$server" 2>/dev/null; rm -rf "$work"' EXIT
-requests=$(grep -c . "$here/exam.txt")
 # One link for each request, and four for the clients behind them.
-"$here/../../quizd" ${UNPROVED:+--unproved} found "$work/school" 1 root >/dev/null || exit 1
-"$here/../../quizd" ${UNPROVED:+--unproved} serve "$work/school" "$port" 1 0 $((requests + 4)) >"$work/served" 2>"$work/errors" &
-server=$!
-for _ in $(seq 1200); do
-    (exec 3<>"/dev/tcp/127.0.0.1/$port") 2>/dev/null && break
-    sleep 0.1
-done
+links=$(($(grep -c . "$here/exam.txt") + 4))
+quizd=("$here/../../quizd" ${UNPROVED:+--unproved})
 
 # says NAME: tells how a comparison ended, by the status of the command before
 says() {
     if [ $? = 0 ]; then echo "ok $1"; else echo "not ok $1"; failed=1; fi
 }
 
-while read -r token method path body; do
-    words=(-s -X "$method" -w '\n%{http_code} %{content_type}' -o "$work/body")
-    [ "$token" = - ] || words+=(-H "Authorization: Bearer $token")
-    [ -z "$body" ] || words+=(--data-binary "$body")
-    told=$(curl "${words[@]}" "http://127.0.0.1:$port$path")
-    printf '%s ' "$(tail -n 1 <<<"$told")"
-    cat "$work/body" 2>/dev/null
-    printf '\n'
-    rm -f "$work/body"
-done <"$here/exam.txt" >"$work/out"
-cmp -s "$work/out" "$here/exam.out"
-says "an exam by curl"
-[ -s "$work/errors" ] && cat "$work/errors"
+# asked: what is answered to each request of the exam, by curl
+asked() {
+    while read -r token method path body; do
+        words=(-s -X "$method" -w '\n%{http_code} %{content_type}' -o "$work/body")
+        [ "$token" = - ] || words+=(-H "Authorization: Bearer $token")
+        [ -z "$body" ] || words+=(--data-binary "$body")
+        told=$(curl "${words[@]}" "http://127.0.0.1:$port$path")
+        printf '%s ' "$(tail -n 1 <<<"$told")"
+        cat "$work/body" 2>/dev/null
+        printf '\n'
+        rm -f "$work/body"
+    done <"$here/exam.txt"
+}
 
-# The link that only looked whether the server listens was the first of the four.
-python3 - "$port" <<'END'
+# others: clients of other sorts. The link that only looked whether the server listens was the first of the four.
+others() {
+    python3 - "$port" <<'END'
 import socket, sys, time
 port = int(sys.argv[1])
 body = b'{"do":"grade","quiz":1,"user":2}'
@@ -78,8 +75,33 @@ with socket.create_connection(("127.0.0.1", port)) as many:
     good &= tells("a hundred requests at once", answers(many, 100) == [said] * 100)
 sys.exit(0 if good else 1)
 END
-says "clients of other sorts"
-wait "$server"
-[ $? = 0 ] && [ "$(cat "$work/served")" = "served $((requests + 4))" ]
-says "each link was served, and the program ended"
+}
+
+# exam SAID COMMAND WORD..: the exam over a school that a command serves at the port, with these words behind it, and what it says at the end
+exam() {
+    said=$1
+    command=$2
+    shift 2
+    rm -rf "$work/school"
+    "${quizd[@]}" found "$work/school" 1 root >/dev/null || exit 1
+    "${quizd[@]}" "$command" "$work/school" "$port" "$@" >"$work/served" 2>"$work/errors" &
+    server=$!
+    for _ in $(seq 1200); do
+        (exec 3<>"/dev/tcp/127.0.0.1/$port") 2>/dev/null && break
+        sleep 0.1
+    done
+    asked >"$work/out"
+    cmp -s "$work/out" "$here/exam.out"
+    says "$command: an exam by curl"
+    [ -s "$work/errors" ] && cat "$work/errors"
+    others
+    says "$command: clients of other sorts"
+    wait "$server"
+    [ $? = 0 ] && printf "$said" | cmp -s - "$work/served"
+    says "$command: each link was served, and the program ended"
+}
+
+exam "served $links\n" serve 1 0 "$links"
+exam "served $links\ngathered 10\n" audit 1 0 "$links"
+exam "served $links\n" poll "$links" 4
 exit $failed
