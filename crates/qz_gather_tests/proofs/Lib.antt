@@ -1,2 +1,0 @@
-mod Lost
-mod Putting

@@ -1,5 +1,0 @@
-use Rattle.qz_gather_tests.proofs.Putting.{none_out_put}
-use Rattle.qz_gather_tests.proofs.schools.fail.Goals as goal
-
-pub returns : goal.returns
-returns c = none_out_put c.args.folder.now c.args.name.now _ c.args.shelf.now.slots c.put.new.self.slots c.in_ok-put.ensures.puts c.requires
