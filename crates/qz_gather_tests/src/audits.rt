@@ -1,0 +1,113 @@
+//! What an audit says.
+
+ghost use Rattle.std.specs.Prelude.{◌≤◌};
+ghost use Rattle.qz_disks.specs.Shelves.{NoneOutIn};
+ghost use Rattle.qz_disks.specs.Slots.{memory_files};
+
+use crate::schools::{Asked, door_for, found};
+use qz_audit::audit_folder;
+use qz_disks::MemoryShelf;
+use qz_links::MemoryClock;
+use qz_outside::{MemorySink, MemorySource};
+use qz_script_schools::script_folder;
+use qz_stations::Crew;
+use qz_text::{Bytes, Listed, NoMemory};
+use std::alloc::Global;
+use std::sync::Wait;
+use std::test::Fail;
+use std::thread::Threads;
+
+/// Two students, a question of which true is right, and a quiz of it. The first student begins it, and answers true.
+const BEGUN: &str = "\
+100 root a1 user ann student ann
+100 root a2 user bob student bob
+100 root a3 import Sky\\s{T}
+100 root a4 quiz Q deferredfeedback
+100 root a5 slot 1 1 2
+100 root a6 ready 1
+110 ann k1 start 1
+120 ann k2 save 2.1 1 0 pick:1
+";
+
+/// The student finishes.
+const FINISH: Asked<'static> = ("ann", "{'do':'finish','key':'k3','attempt':'2.1'}");
+
+/// What an audit of the school of a folder says, and its status. One worker serves a link, and so many regrade, one at most.
+fn audited<W: Threads + Wait + Sync>(
+    rt: &W,
+    alloc: Global,
+    folder: &[u8],
+    regraders: u8,
+    asked: &[Asked],
+    shelf: &mut MemoryShelf,
+) -> Result<(u8, String), NoMemory>
+    requires none_out { NoneOutIn folder.now (memory_files shelf.old.slots) }
+    requires few { regraders ≤ 1 }
+{
+    let mut sink = MemorySink::new(alloc, 256, Listed::empty(alloc), 256)?;
+    let mut doors = door_for(alloc, asked)?;
+    let mut clocks = Vec::new(alloc);
+    clocks.push(MemoryClock::new(Listed::empty(alloc)))?;
+    let crew = Crew {
+        workers: 1,
+        links: 1,
+        regraders,
+    };
+    let status = audit_folder(
+        rt, alloc, folder, crew, &mut sink, &mut doors, clocks, shelf,
+    );
+    Ok((status, String::from_utf8_lossy(alloc, sink.bytes())?))
+}
+
+/// Asks the school of a folder these lines.
+fn script(
+    alloc: Global,
+    folder: &[u8],
+    lines: &str,
+    shelf: &mut MemoryShelf,
+) -> Result<(), NoMemory>
+    requires { NoneOutIn folder.now (memory_files shelf.old.slots) }
+    ensures { NoneOutIn folder.now (memory_files shelf.new.slots) }
+{
+    let lines = Bytes::of(alloc, lines.as_bytes())?;
+    let mut source = MemorySource::new(lines, Listed::empty(alloc), 65_536);
+    let mut sink = MemorySink::new(alloc, 65_536, Listed::empty(alloc), 65_536)?;
+    script_folder(alloc, folder, &mut source, &mut sink, shelf);
+    Ok(())
+}
+
+/// The same of the school that was asked these lines.
+fn audited_behind<W: Threads + Wait + Sync>(
+    rt: &W,
+    alloc: Global,
+    lines: &str,
+    regraders: u8,
+    asked: &[Asked],
+) -> Result<(u8, String), NoMemory>
+    requires { regraders ≤ 1 }
+{
+    let mut shelf = MemoryShelf::new(alloc, Listed::empty(alloc));
+    found(alloc, b"school", &mut shelf)?;
+    script(alloc, b"school", lines, &mut shelf)?;
+    audited(rt, alloc, b"school", regraders, asked, &mut shelf)
+}
+
+#[test]
+fn a_link_is_audited(rt: HostRuntime) -> Result<(), Fail> {
+    let alloc = rt.alloc();
+    let (status, said) = audited_behind(&rt, alloc, BEGUN, 0, &[FINISH])?;
+    assert_eq!(rt; (status, said.as_str()), (0, "served 1\ngathered 1\n"));
+    Ok(())
+}
+
+/// A regrade of the one attempt is asked, whose slot is bound anew, and then the job is done.
+#[test]
+fn the_work_of_one_who_regrades_is_audited(rt: HostRuntime) -> Result<(), Fail> {
+    let alloc = rt.alloc();
+    let mut lines = String::from_str(alloc, BEGUN)?;
+    lines.push_str("130 ann k3 finish 2.1\n")?;
+    let regrade = ("root", "{'do':'regrade','key':'r1','quiz':1}");
+    let (status, said) = audited_behind(&rt, alloc, &lines, 1, &[regrade])?;
+    assert_eq!(rt; (status, said.as_str()), (0, "served 1\ngathered 3\n"));
+    Ok(())
+}

@@ -1,0 +1,68 @@
+//! Schools in memory, and doors at which they are asked.
+
+ghost use Rattle.std.specs.Prelude.{◌≡◌, length, IfOk};
+ghost use Rattle.qz_disks.specs.Shelves.{NoneOutIn};
+ghost use Rattle.qz_disks.specs.Slots.{memory_files};
+
+use qz_disks::MemoryShelf;
+use qz_found::found_folder;
+use qz_links::{MemoryClock, MemoryDoor, MemoryLink};
+use qz_outside::{MemorySink, MemorySource};
+use qz_text::{Bytes, Listed, NoMemory, Text};
+use std::alloc::Global;
+
+/// A token, and the body of a request with ' in the place of ".
+pub(crate) type Asked<'a> = (&'a str, &'a str);
+
+/// Founds a school of one shard in a folder.
+pub(crate) fn found(alloc: Global, folder: &[u8], shelf: &mut MemoryShelf) -> Result<(), NoMemory>
+    requires { NoneOutIn folder.now (memory_files shelf.old.slots) }
+    ensures { NoneOutIn folder.now (memory_files shelf.new.slots) }
+{
+    let token = Text::of(alloc, "root")?;
+    let mut sink = MemorySink::new(alloc, 64, Listed::empty(alloc), 64)?;
+    found_folder(alloc, folder, 1, &token, &mut sink, shelf);
+    Ok(())
+}
+
+/// The bytes of requests, one after the other.
+fn bytes_of(alloc: Global, asked: &[Asked]) -> Result<Bytes, NoMemory> {
+    let mut text = String::new(alloc);
+    for (token, body) in asked {
+        let body = body.replace(alloc, "'", "\"")?;
+        let count = body.len();
+        let head = format!(in alloc;
+            "POST /api/ask HTTP/1.1\r\nHost: localhost\r\nAuthorization: Bearer {token}\r\nContent-Length: {count}\r\n\r\n"
+        )?;
+        text.push_str(&head)?;
+        text.push_str(&body)?;
+    }
+    Bytes::of(alloc, text.as_bytes())
+}
+
+/// A clock that tells one moment for each request but the last two, and for these one at which the time of every attempt is over.
+fn clock_for(alloc: Global, asked: &[Asked]) -> Result<MemoryClock, NoMemory> {
+    let mut moments = Listed::empty(alloc);
+    for _ in 2..asked.len() {
+        moments.items.push(1000)?;
+    }
+    moments.items.push(9000)?;
+    Ok(MemoryClock::new(moments))
+}
+
+/// A door at which one link comes, whose peer asks this.
+pub(crate) fn door_for(
+    alloc: Global,
+    asked: &[Asked],
+) -> Result<Vec<(MemoryDoor<MemoryLink>, MemoryClock)>, NoMemory>
+    ensures { IfOk result (λ doors. length doors.items ≡ 1) }
+{
+    let source = MemorySource::new(bytes_of(alloc, asked)?, Listed::empty(alloc), 65_536);
+    let sink = MemorySink::new(alloc, 65_536, Listed::empty(alloc), 65_536)?;
+    let mut links = Listed::empty(alloc);
+    links.items.push(MemoryLink::new(source, sink))?;
+    let door = MemoryDoor::new(alloc, links, Listed::empty(alloc))?;
+    let mut doors = Vec::new(alloc);
+    doors.push((door, clock_for(alloc, asked)?))?;
+    Ok(doors)
+}
