@@ -2,7 +2,7 @@
 use Rattle.std.proofs.Common.{◌≡◌, ℕ, ◌+◌, List, Option, IfSome, true, false, Bool, inr, refl, sym, ap, subst, ◌∙◌, arith}
 use Rattle.std.proofs.lemmas.Bool.{false≢true}
 use Rattle.std.proofs.lemmas.Slice.Eq.{bytes_eq-Decides}
-use Rattle.qz_disks.specs.Shelves.{Place, RisesBy, place}
+use Rattle.qz_disks.specs.Shelves.{Place, RisesBy}
 use Rattle.qz_sqlbases.specs.Databases.{ChangesAt, HandsOut, Lists, SameLists, Standing, told_by}
 use Rattle.qz_sqlfolders.specs.Folders.{IsOpenedAs, IsSettled, KeepsElsewhere, Stays, Telling, catalog_place, part_place, standing_of}
 use Rattle.qz_sqlfolders.specs.Names.{catalog_name, part_name}

@@ -5,8 +5,9 @@ use Rattle.qz_disks.specs.Shelves.{Place, place}
 use Rattle.qz_sqlbases.specs.Databases.{Lists, Standing}
 use Rattle.qz_sqlfolders.specs.declared.opening.Opened.{Opened}
 use Rattle.qz_sqlfolders.specs.Names.{catalog_name, part_name}
-use Rattle.qz_sqlkeep.specs.Keeping.{Keeping, kept_in}
+use Rattle.qz_sqlkeep.specs.Keeping.{Keeping, Stands, kept_in}
 use Rattle.sqlite.specs.Held.{state}
+use Rattle.sqlite.specs.State.{HasCleanDisk}
 use Rattle.sqlite_trees.specs.declared.store.Store.{Ghosts}
 
 -- ---- what keepers tell
@@ -27,6 +28,11 @@ standing_of t keeper = record { payloads = t.kept keeper; doubt = t.doubt keeper
 -- a list as it stands tells the same
 abbrev pub standing : Telling Standing
 standing = record { kept = λ s. s.payloads; doubt = λ s. s.doubt }
+
+-- what is seen of bases: the lists in their databases, and how often they have failed
+pub record Based : Type 0 where
+  pub lists : Lists
+  pub faults : ℕ
 
 -- ---- the databases
 
@@ -67,6 +73,15 @@ pub record IsOpenedAs {K : Type 0} (t : Telling K) (faults : K → ℕ) (stood :
 pub record AreOpened {K : Type 0} (t : Telling K) (faults : K → ℕ) (folder : List ℕ) (lists : Lists) (opened : Opened K) : Type 0 where
   pub catalog : IsOpenedAs t faults (lists.list (catalog_place folder)) opened.keepers.catalog opened.catalog
   pub part : IsOpenedAs t faults (lists.list (part_place folder)) opened.keepers.part opened.part
+
+-- the database of a keeper is the tables of these payloads, while nobody else writes it and the disk returns what was written
+abbrev pub HasTablesOf : {S : Type 0} → Ghosts S → Keeping S → List (List ℕ) → Type 0
+HasTablesOf store keeper payloads = HasCleanDisk (state store keeper.conn) → Stands payloads (state store keeper.conn).now
+
+-- so are both, of the payloads that were found
+pub record AreTablesFound {S : Type 0} (store : Ghosts S) (opened : Opened (Keeping S)) : Type 0 where
+  pub catalog : HasTablesOf store opened.keepers.catalog opened.catalog
+  pub part : HasTablesOf store opened.keepers.part opened.part
 
 -- where a database tells its list, the payloads that were found are these, or these with the one in doubt
 abbrev pub IsFoundIn : Standing → List (List ℕ) → Type 0

@@ -7,6 +7,8 @@ ghost use Rattle.qz_folders.specs.Opening.{IsCaused};
 ghost use Rattle.qz_sqlfolders.specs.Folders.{
   AreOpened,
   AreOut,
+  AreTablesFound,
+  HasTablesOf,
   IsOpenedAs,
   IsUnopened,
   KeepsElsewhere,
@@ -48,6 +50,7 @@ pub fn open<B: Bases>(
     requires { AreOut false folder.now (B.lists bases.old) }
     ensures opened { IfOk result (AreOpened (sql_telling B.Store.Base.tells B.Store.Store)
         (λ k. k.faults) folder.now (B.lists bases.old)) }
+    ensures tables { IfOk result (AreTablesFound B.Store.Store) }
     ensures out { OnOk result (AreOut true folder.now (B.lists bases.new)) }
     ensures steady { OnOk result (B.faults bases.new ≡ B.faults bases.old) }
     ensures back { OnErr result (AreOut false folder.now (B.lists bases.new)) }
@@ -76,6 +79,8 @@ fn open_behind<B: Bases>(
     ensures part { IfOk result (λ made. IsOpenedAs
         (sql_telling B.Store.Base.tells B.Store.Store) (λ k. k.faults)
         ((B.lists bases.old).list (part_place folder.now)) made.keepers.part made.part) }
+    ensures part_tables { IfOk result
+        (λ made. HasTablesOf B.Store.Store made.keepers.part made.part) }
     ensures out { OnOk result (AreOut true folder.now (B.lists bases.new)) }
     ensures steady { OnOk result (B.faults bases.new ≡ B.faults bases.old) }
     ensures back { OnErr result (AreOut false folder.now (B.lists bases.new)) }

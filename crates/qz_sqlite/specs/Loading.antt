@@ -13,9 +13,10 @@ use Rattle.qz_sqlite.specs.Founding.{IsGivenBack}
 use Rattle.qz_sqlite.specs.Keepers.{IsReadFrom}
 use Rattle.qz_sqlite.specs.Reading.{AreRefused, with_founding}
 
--- The school of what was found in the databases of a folder. The keepers that were handed out hadn't failed.
-pub record IsLoadedFrom {K : Type 0} (t : Telling K) (faults : K → ℕ) (token folder : List ℕ) (lists : Lists) (s : School K) : Type 0 where
+-- The school of what was found in the databases of a folder, and this holds of it. The keepers that were handed out hadn't failed.
+pub record IsLoadedFrom {K : Type 0} (t : Telling K) (faults : K → ℕ) (found : Opened K → Type 0) (token folder : List ℕ) (lists : Lists) (s : School K) : Type 0 where
   pub opened : Opened K
+  pub are_found : found opened
   pub are_opened : AreOpened t faults folder lists opened
   pub is_read : IsReadFrom t token opened.catalog opened.part opened.keepers s
 

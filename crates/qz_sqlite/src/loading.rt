@@ -5,7 +5,7 @@ ghost use Rattle.qz_disks.specs.Shelves.{RisesBy};
 ghost use Rattle.qz_folders.specs.Opening.{IsCaused};
 ghost use Rattle.qz_loading.specs.declared.fault.LoadFault.TheVariants.{Fault};
 ghost use Rattle.qz_school.specs.Solos.{faults_of};
-ghost use Rattle.qz_sqlfolders.specs.Folders.{AreOut, KeepsElsewhere, sql_telling};
+ghost use Rattle.qz_sqlfolders.specs.Folders.{AreOut, AreTablesFound, KeepsElsewhere, sql_telling};
 ghost use Rattle.qz_sqlite.specs.Loading.{AreStoredIn, IsLoadedFrom, IsLoadFault, ListsStay};
 ghost use Rattle.qz_sqlite.specs.Telling.{shelf_fault_of};
 ghost use Rattle.qz_terms.specs.declared.limits.TheConstants.{LONGEST_KEY};
@@ -47,7 +47,8 @@ pub fn load<B: Bases>(
     requires free { AreOut false folder.now (B.lists bases.old) }
     requires short { length token.now ≤ LONGEST_KEY }
     ensures loaded { IfOk result (IsLoadedFrom (sql_telling B.Store.Base.tells B.Store.Store)
-        (λ k. k.faults) token.now folder.now (B.lists bases.old)) }
+        (λ k. k.faults) (AreTablesFound B.Store.Store)
+        token.now folder.now (B.lists bases.old)) }
     ensures out { OnOk result (AreOut true folder.now (B.lists bases.new)) }
     ensures steady { OnOk result (B.faults bases.new ≡ B.faults bases.old) }
     ensures back { OnErr result (AreOut false folder.now (B.lists bases.new)) }

@@ -1,13 +1,14 @@
 -- Lines that are read attempt by attempt, and how the command ends that writes them.
 use Rattle.std.proofs.KnownBytes.{Keeps-refl}
-use Rattle.std.proofs.Common.{Bool, ◌≡◌, ◌⊎◌, ℕ, ◌+◌, ◌<◌, List, [], ◌∷◌, ◌++◌, length, take, flat_map, get_or, Option, Some, None, IsTrue, IfSome, inl, inr, refl, sym, ap, subst, ◌∙◌}
+use Rattle.std.proofs.Common.{Bool, ◌≡◌, ℕ, ◌+◌, ◌<◌, List, [], ◌∷◌, ◌++◌, length, take, flat_map, get_or, Some, sym, ap, subst, ◌∙◌}
 use Rattle.std.proofs.lemmas.List.{append-nil, take_more}
 use Rattle.std.proofs.lemmas.List.Concat.{flat_map-append}
 use Rattle.qz_ending.specs.declared.stop.Stop.{Stop}
 use Rattle.qz_ending.specs.declared.stop.Stop.TheVariants as stop
 use Rattle.qz_found.specs.FoundEndings.{Sunk}
 use Rattle.qz_grading.specs.declared.refusal.AttemptId.{AttemptId}
-use Rattle.qz_sqlopen.specs.Open.{Based, IsToldIn, IsUnread, OpenBy, line_in, lines_in, open_line, open_lines}
+use Rattle.qz_sqlfolders.specs.Folders.{Based}
+use Rattle.qz_sqlopen.specs.Open.{IsToldIn, IsUnread, OpenBy, line_in, lines_in, open_line, open_lines}
 use Rattle.qz_sqlkeep.specs.Keeping.{IsReadingOf, Stands}
 use Rattle.qz_sqlkeep.specs.Tables.{tables_of}
 use Rattle.qz_sqltables.specs.Rows.{Tables, places_of, waiting}

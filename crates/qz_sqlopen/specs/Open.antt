@@ -11,8 +11,8 @@ use Rattle.qz_found.specs.FoundEndings.{Sunk}
 use Rattle.qz_grading.specs.declared.refusal.AttemptId.{AttemptId}
 use Rattle.qz_outside.specs.Causes.{HasRisen}
 use Rattle.qz_outside.specs.Sources.{AppendsFront}
-use Rattle.qz_sqlbases.specs.Databases.{ChangesAt, Lists}
-use Rattle.qz_sqlfolders.specs.Folders.{IsFoundIn, Stays, part_place}
+use Rattle.qz_sqlbases.specs.Databases.{ChangesAt}
+use Rattle.qz_sqlfolders.specs.Folders.{Based, IsFoundIn, Stays, part_place}
 use Rattle.qz_sqlkeep.specs.Keeping.{IsReadingOf, Keeping}
 use Rattle.qz_sqltables.specs.Rows.{Tables, places_of, waiting}
 use Rattle.qz_sqltables.specs.Schema.{HasTables}
@@ -43,11 +43,6 @@ pub record IsToldIn {A : Type 0} (reading : Tables → A) (db : Database) (found
   pub each : (t : Tables) → HasTables t db → found ≡ reading t
 
 -- ---- how the command ends
-
--- what is seen of bases: the lists in their databases, and how often they have failed
-pub record Based : Type 0 where
-  pub lists : Lists
-  pub faults : ℕ
 
 -- The lines were read by a keeper over the shard's database, from these payloads. Where the store tells what it holds, and in a file while
 -- nobody else writes it and the disk returns what was written, they are those of the tables of the payloads.

@@ -2,7 +2,7 @@ use Rattle.qz_sqlite.proofs.Given.{found-in, lists-stay, load-fault}
 use Rattle.qz_sqlite.proofs.loading.load.Goals as goal
 
 pub returns-in-Ok-read_school-clause-loaded : goal.returns-in-Ok-read_school-clause-loaded
-returns-in-Ok-read_school-clause-loaded g c = record { opened = c.in-Ok.opened; are_opened = c.in-Ok.ensures.opened; is_read = rw c.as_slice.ensures at c.in-Ok-read_school.ensures.read }
+returns-in-Ok-read_school-clause-loaded g c = record { opened = c.in-Ok.opened; are_found = c.in-Ok.ensures.tables; are_opened = c.in-Ok.ensures.opened; is_read = rw c.as_slice.ensures at c.in-Ok-read_school.ensures.read }
 
 pub returns-in-Ok-read_school-clause-cause : goal.returns-in-Ok-read_school-clause-cause
 returns-in-Ok-read_school-clause-cause g c = record { later = c.open.ensures.cause.later; failed = λ is. absurd cc }

@@ -1,4 +1,4 @@
-use Rattle.std.proofs.Common.{Some, refl}
+use Rattle.std.proofs.Common.{Some}
 use Rattle.qz_ending.specs.declared.stop.Stop.TheVariants as stop
 use Rattle.qz_sqlopen.proofs.Reading.{ends_unread}
 use Rattle.qz_sqlopen.proofs.waiting.sqlopen.Goals as goal
