@@ -55,6 +55,15 @@ fn told(alloc: Global, words: &[Text]) -> Result<String, NoMemory> {
                 workers,
             },
         ) => format!(in alloc; "quiz {quiz} in {} by {workers}", folder.as_str())?,
+        Ok(Command::Sql { folder, token }) => format!(in alloc;
+            "databases in {} by {}",
+            folder.as_str(),
+            token.as_str()
+        )?,
+        Ok(Command::SqlOpen { folder, quiz }) => format!(in alloc;
+            "waiting at {quiz} in {}",
+            folder.as_str()
+        )?,
         Err(WordsFault::BadWords) => String::from_str(alloc, "none")?,
         Err(WordsFault::Memory) => return Err(NoMemory),
     })
@@ -94,6 +103,9 @@ fn each_command_is_told(rt: HostRuntime) -> Result<(), Fail> {
         ("bulk 2000", "bulk of 2000"),
         ("stats s 0 1", "quiz 0 in s by 1"),
         ("stats s 4294967295 16", "quiz 4294967295 in s by 16"),
+        ("sql s Ann_B-7", "databases in s by Ann_B-7"),
+        ("sqlopen s 0", "waiting at 0 in s"),
+        ("sqlopen /s 4294967295", "waiting at 4294967295 in /s"),
     ] {
         let said = told_of_line(alloc, line)?;
         assert!(rt; said.as_str() == want, "{line}");
@@ -124,6 +136,12 @@ fn other_words_are_no_command(rt: HostRuntime) -> Result<(), Fail> {
         "stats a 1 0",
         "stats a 1 17",
         "stats a 4294967296 1",
+        "sql a",
+        "sql a t t",
+        "sql a t.t",
+        "sqlopen a",
+        "sqlopen a 1 1",
+        "sqlopen a 4294967296",
     ] {
         let said = told_of_line(alloc, line)?;
         assert!(rt; said.as_str() == "none", "{line}");
