@@ -123,7 +123,8 @@ impl<'a> Bases for FolderBases<'a> {
         }
     }
 
-    // Closes the file, which gives its lock up. What was appended is on the medium before.
+    // Closes the file, which gives its lock up: its log is copied into it, so that the log doesn't grow from run to run.
+    // What was appended is on the medium before.
     fn take_back<K: Returned<FileStore<File>>>(&mut self, folder: &[u8], name: &[u8], returned: K)
         requires { (folder_lists self.old.slots).is_out (place folder.now name.now) ≡ true }
         ensures lists { TakesBack (place folder.now name.now)
@@ -136,7 +137,7 @@ impl<'a> Bases for FolderBases<'a> {
     {
         let keeper = returned.into_keeper();
         self.faults = self.faults.saturating_add(keeper.faults());
-        let doubt = keeper.into_doubt();
+        let doubt = keeper.close();
         let _ = replace(&mut self.slots, folder, name, Some(doubt));
     }
 }
