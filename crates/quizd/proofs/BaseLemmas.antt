@@ -1,8 +1,8 @@
 -- No database of bases is out.
 use Rattle.std.proofs.Common.{◌≡◌, ⊎_elim, ℕ, false, List, sym, ◌∙◌, subst}
 use Rattle.qz_disks.specs.Shelves.{Place}
+use Rattle.qz_disks.proofs.SlotLemmas.{apart_or_same}
 use Rattle.qz_sqlbases.specs.Databases.{ChangesAt, Lists}
-use Rattle.qz_sqlbases.proofs.SlotLemmas.{apart_or_same}
 use Rattle.qz_sqlfolders.specs.Folders.{AreOut, KeepsElsewhere, catalog_place, part_place}
 use Rattle.quizd.specs.Commands.{NoneOut}
 

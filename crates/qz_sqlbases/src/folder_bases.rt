@@ -8,11 +8,12 @@ ghost use Rattle.sqlite.specs.Files.{file_state};
 ghost use Rattle.sqlite.specs.State.{HasCleanDisk};
 ghost use Rattle.qz_sqlkeep.specs.Keeping.{kept_in, Stands};
 ghost use Rattle.qz_sqlbases.specs.Databases.{standing_as, EndsHandingOut, SameLists, TakesBack};
-ghost use Rattle.qz_sqlbases.specs.Slots.{folder_lists, stands_at};
+ghost use Rattle.qz_disks.specs.Slots.{stands_at};
+ghost use Rattle.qz_sqlbases.specs.Slots.{folder_lists};
 
-use crate::slots::{Slot, add, has, look, replace};
 use crate::{Bases, Returned};
 use qz_disks::ShelfErr;
+use qz_disks::slots::{Slot, add, has, look, replace};
 use qz_sqlkeep::SqlKeeper;
 use qz_text::{Bytes, Listed, NoMemory};
 use sqlite::{Connection, Error, ErrorCode, File, FileStore};

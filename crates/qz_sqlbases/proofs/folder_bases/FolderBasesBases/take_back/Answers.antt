@@ -1,9 +1,8 @@
 use Rattle.std.proofs.Common.{length, sym, ◌∙◌, ap}
 use Rattle.std.proofs.lemmas.List.{with_items_is}
 use Rattle.qz_disks.specs.Shelves.{place}
-use Rattle.qz_sqlbases.specs.Slots.{stands_at}
-use Rattle.qz_sqlbases.proofs.Listed.{folder_back}
-use Rattle.qz_sqlbases.proofs.SlotLemmas.{there_while_out}
+use Rattle.qz_disks.specs.Slots.{stands_at}
+use Rattle.qz_sqlbases.proofs.Listed.{folder_back, there_while_out}
 use Rattle.qz_sqlbases.proofs.folder_bases.FolderBasesBases.take_back.Goals as goal
 
 pub returns-clause-lists : goal.returns-clause-lists
