@@ -16,57 +16,58 @@ fn told_of_serving(alloc: Global, how: &str, serving: &Serving) -> Result<String
     Ok(format!(in alloc; "{folder} {how} at {port} by {workers} and {regraders} until {links}")?)
 }
 
-/// What the command that these words are says of itself, or that they are none.
-fn told(alloc: Global, words: &[Text]) -> Result<String, NoMemory> {
-    Ok(match command_of(alloc, words) {
-        Ok(Command::Replay) => String::from_str(alloc, "replay")?,
-        Ok(Command::GiftCheck) => String::from_str(alloc, "check")?,
-        Ok(Command::GiftFormat) => String::from_str(alloc, "format")?,
-        Ok(Command::Script { folder }) => format!(in alloc; "script in {}", folder.as_str())?,
-        Ok(
-            Command::Found {
-                folder,
-                shards,
-                token,
-            },
-        ) => format!(in alloc;
-            "{shards} shards in {} by {}",
-            folder.as_str(),
-            token.as_str()
-        )?,
-        Ok(Command::Serve(serving)) => told_of_serving(alloc, "served", &serving)?,
-        Ok(Command::Audit(serving)) => told_of_serving(alloc, "audited", &serving)?,
-        Ok(
-            Command::Poll {
-                folder,
-                port,
-                links,
-                visits,
-            },
-        ) => {
+/// What a command says of itself.
+fn told_of_command(alloc: Global, command: Command) -> Result<String, NoMemory> {
+    Ok(match command {
+        Command::Replay => String::from_str(alloc, "replay")?,
+        Command::GiftCheck => String::from_str(alloc, "check")?,
+        Command::GiftFormat => String::from_str(alloc, "format")?,
+        Command::Script { folder } => format!(in alloc; "script in {}", folder.as_str())?,
+        Command::Found {
+            folder,
+            shards,
+            token,
+        } => {
+            let (folder, token) = (folder.as_str(), token.as_str());
+            format!(in alloc; "{shards} shards in {folder} by {token}")?
+        }
+        Command::Serve(serving) => told_of_serving(alloc, "served", &serving)?,
+        Command::Audit(serving) => told_of_serving(alloc, "audited", &serving)?,
+        Command::Poll {
+            folder,
+            port,
+            links,
+            visits,
+        } => {
             let folder = folder.as_str();
             format!(in alloc; "{folder} at {port} until {links}, {visits} at once")?
         }
-        Ok(Command::Bulk { count }) => format!(in alloc; "bulk of {count}")?,
-        Ok(
-            Command::Stats {
-                folder,
-                quiz,
-                workers,
-            },
-        ) => format!(in alloc; "quiz {quiz} in {} by {workers}", folder.as_str())?,
-        Ok(Command::Sql { folder, token }) => format!(in alloc;
-            "databases in {} by {}",
-            folder.as_str(),
-            token.as_str()
-        )?,
-        Ok(Command::SqlOpen { folder, quiz }) => format!(in alloc;
-            "waiting at {quiz} in {}",
-            folder.as_str()
-        )?,
-        Err(WordsFault::BadWords) => String::from_str(alloc, "none")?,
-        Err(WordsFault::Memory) => return Err(NoMemory),
+        Command::Bulk { count } => format!(in alloc; "bulk of {count}")?,
+        Command::Stats {
+            folder,
+            quiz,
+            workers,
+        } => format!(in alloc; "quiz {quiz} in {} by {workers}", folder.as_str())?,
+        Command::Sql { folder, token } => {
+            format!(in alloc;
+                "{} asked, or founded by {}",
+                folder.as_str(),
+                token.as_str()
+            )?
+        }
+        Command::SqlOpen { folder, quiz } => {
+            format!(in alloc; "open at {quiz} in {}", folder.as_str())?
+        }
     })
+}
+
+/// What the command that these words are says of itself, or that they are none.
+fn told(alloc: Global, words: &[Text]) -> Result<String, NoMemory> {
+    match command_of(alloc, words) {
+        Ok(command) => told_of_command(alloc, command),
+        Err(WordsFault::BadWords) => Ok(String::from_str(alloc, "none")?),
+        Err(WordsFault::Memory) => Err(NoMemory),
+    }
 }
 
 /// The same of the words of a line, which have one space between each two.
@@ -103,9 +104,9 @@ fn each_command_is_told(rt: HostRuntime) -> Result<(), Fail> {
         ("bulk 2000", "bulk of 2000"),
         ("stats s 0 1", "quiz 0 in s by 1"),
         ("stats s 4294967295 16", "quiz 4294967295 in s by 16"),
-        ("sql s Ann_B-7", "databases in s by Ann_B-7"),
-        ("sqlopen s 0", "waiting at 0 in s"),
-        ("sqlopen /s 4294967295", "waiting at 4294967295 in /s"),
+        ("sql memory Ann_B-7", "memory asked, or founded by Ann_B-7"),
+        ("sqlopen s 0", "open at 0 in s"),
+        ("sqlopen s 4294967295", "open at 4294967295 in s"),
     ] {
         let said = told_of_line(alloc, line)?;
         assert!(rt; said.as_str() == want, "{line}");
@@ -137,10 +138,14 @@ fn other_words_are_no_command(rt: HostRuntime) -> Result<(), Fail> {
         "stats a 1 17",
         "stats a 4294967296 1",
         "sql a",
-        "sql a t t",
+        "sql a t x",
+        "sql  t",
         "sql a t.t",
+        "sql a 12345678901234567890123456789012345678901234567890123456789012345",
         "sqlopen a",
-        "sqlopen a 1 1",
+        "sqlopen a 1 x",
+        "sqlopen  1",
+        "sqlopen a 01",
         "sqlopen a 4294967296",
     ] {
         let said = told_of_line(alloc, line)?;
