@@ -22,7 +22,7 @@ other-folder folder count at apart = record {
   no_part = record { each = λ k within is. apart (ap (λ (p : Place). p.folder) is) };
 }
 
-none-out-by : (folder : List ℕ) (old new : Files) (at : Place) (b : Bool) → bytes_eq at.folder folder ≡ b → NoneOut old → NoneOutIn folder new → ((at.folder ≡ folder → ⊥) → new.is_out at ≡ old.is_out at) → new.is_out at ≡ false
+none-out-by : (folder : List ℕ) (old new : Files) (at : Place) (b : Bool) → bytes_eq at.folder folder ≡ b → NoneOut old.is_out → NoneOutIn folder new → ((at.folder ≡ folder → ⊥) → new.is_out at ≡ old.is_out at) → new.is_out at ≡ false
 none-out-by folder old new at true same was inside apart =
     let is : at.folder ≡ folder = (bytes_eq-Decides at.folder folder).0 same in
     subst (λ (p : Place). new.is_out p ≡ false) (same-folder folder at is) (inside.each at.name)
@@ -30,17 +30,17 @@ none-out-by folder old new at false same was inside apart =
     let other : at.folder ≡ folder → ⊥ = λ is. true≢false (sym ((bytes_eq-Decides at.folder folder).1 is) ∙ same) in
     apart other ∙ was.each at
 
-elsewhere_none_out : (folder : List ℕ) (count : ℕ) (old new : Files) → NoneOut old → NoneOutIn folder new → KeepsElsewhere folder count old new → NoneOut new
+elsewhere_none_out : (folder : List ℕ) (count : ℕ) (old new : Files) → NoneOut old.is_out → NoneOutIn folder new → KeepsElsewhere folder count old new → NoneOut new.is_out
 elsewhere_none_out folder count old new was inside apart = record { each = λ at. none-out-by folder old new at (bytes_eq at.folder folder) refl was inside (λ other. apart.is_out at (other-folder folder count at other)) }
 
-pub one_none_out : (folder name : List ℕ) (old new : Files) → NoneOut old → NoneOutIn folder new → ChangesAt (place folder name) old new → NoneOut new
+pub one_none_out : (folder name : List ℕ) (old new : Files) → NoneOut old.is_out → NoneOutIn folder new → ChangesAt (place folder name) old new → NoneOut new.is_out
 one_none_out folder name old new was inside others = record { each = λ at. none-out-by folder old new at (bytes_eq at.folder folder) refl was inside (λ other. others.is_out at (λ is. other (ap (λ (p : Place). p.folder) is))) }
 
 pub folder_none_out : {D : Type 0} (disks : Disks D) (folder : List ℕ) (serves : School (Ledger D) → School (Ledger D) → Option Stop → Type 0) (kept : Type 0) (old new : Shelved) (before now : Sunk) (s : Option Stop)
-    → NoneOut old.files → FolderEnds disks folder serves kept old new before now s → NoneOut new.files
+    → NoneOut old.files.is_out → FolderEnds disks folder serves kept old new before now s → NoneOut new.files.is_out
 folder_none_out disks folder serves kept old new before now s was e = by s e.by
   where
-    by : (t : Option Stop) → ServedFolder disks folder (λ a b. serves a b t) old new ⊎ Unserved folder kept old new before now t → NoneOut new.files
+    by : (t : Option Stop) → ServedFolder disks folder (λ a b. serves a b t) old new ⊎ Unserved folder kept old new before now t → NoneOut new.files.is_out
     by t (inl done) = elsewhere_none_out folder (length done.loaded.parts) old.files new.files was e.none_out done.back.others
     by None (inr not) = absurd not
     by (Some t) (inr not) = record { each = λ at. (unloaded-for folder old new before now t not.0).unloaded.stay.is_out at ∙ was.each at }

@@ -1,3 +1,4 @@
+pub mod BaseLemmas
 pub mod FolderLemmas
 pub mod VisitLemmas
 pub mod WantingLemmas

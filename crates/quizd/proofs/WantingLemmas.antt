@@ -14,7 +14,7 @@ script-wanting : (b : Bool) (at after : Shelved) (old new : Outside) → MatchBo
 script-wanting true at after old new = record { done = λ text left short source sink. inr refl }
 script-wanting false at after old new = record { done = λ text left short source sink shelf. inr (inr refl) }
 
-module _ {R C F P L : Type 0} (none_fails : Type 0) (at after : Beside R C F P L) where
+module _ {R C F P L B : Type 0} (none_fails : Type 0) (at after : Beside R C F P L B) where
   wanting-does : (c : Option Command) (old new : Outside) → CommandDoesAll none_fails at after c old new 8
   wanting-does None old new = tt
   wanting-does (Some command.Replay) old new = record { done = λ text output left short is source sink. inr refl }
@@ -27,6 +27,8 @@ module _ {R C F P L : Type 0} (none_fails : Type 0) (at after : Beside R C F P L
   wanting-does (Some (command.Poll folder port links visits)) old new = record { done = λ sink shelf door. inr (inr refl) }
   wanting-does (Some (command.Bulk count)) old new = λ quiet. inr refl
   wanting-does (Some (command.Stats folder quiz workers)) old new = record { done = λ sink shelf. inr (inr refl) }
+  wanting-does (Some (command.Sql folder token)) old new = record { done = λ text left short source sink bases. inr (inr refl) }
+  wanting-does (Some (command.SqlOpen folder quiz)) old new = record { done = λ sink bases. inr refl }
 
   pub wanting_runs : (words : List (List ℕ)) (old new : Outside) (status : ℕ) → status ≡ 8 → RunsAll none_fails at after words old new status
   wanting_runs words old new status is = subst (λ (s : ℕ). CommandDoesAll none_fails at after (command_of words) old new s) (sym is) (wanting-does (command_of words) old new)

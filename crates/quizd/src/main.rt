@@ -19,6 +19,7 @@ use qz_links::Door;
 use qz_outside::{StdSink, StdSource};
 use qz_ready::ReadyDoor;
 use qz_ready_doors::{Unwatched, Watch};
+use qz_sqlbases::FolderBases;
 use qz_text::{NoMemory, Text};
 pub use run::run;
 use std::alloc::{AllocGlobal, Global};
@@ -56,7 +57,9 @@ fn clocks_for(command: &Command) -> usize
         | Command::Script { .. }
         | Command::Found { .. }
         | Command::Bulk { .. }
-        | Command::Stats { .. } => 0,
+        | Command::Stats { .. }
+        | Command::Sql { .. }
+        | Command::SqlOpen { .. } => 0,
     }
 }
 
@@ -84,6 +87,7 @@ where
     let mut source = StdSource::new(host.reader());
     let mut sink = StdSink::new(io::writer(&host));
     let mut shelf = FolderShelf::new(alloc, &host);
+    let mut bases = FolderBases::new(&host);
     run(
         rt,
         alloc,
@@ -95,6 +99,7 @@ where
         &mut shelf,
         ready,
         watch,
+        &mut bases,
     )
 }
 
@@ -193,7 +198,9 @@ fn run_command<W: Threads + Wait + RandomSource + AllocGlobal + Sync>(
         }
         Command::Found { folder, .. }
         | Command::Script { folder }
-        | Command::Stats { folder, .. } => {
+        | Command::Stats { folder, .. }
+        | Command::Sql { folder, .. }
+        | Command::SqlOpen { folder, .. } => {
             let status = run_alone(host, rt, words);
             tell_folder(&host, folder, status);
             status

@@ -25,6 +25,9 @@ use qz_ready_doors::Watch;
 use qz_replay::replay;
 use qz_script_schools::{script, script_folder};
 use qz_serving::serve_folder;
+use qz_sqlbases::Bases;
+use qz_sqlopen::sqlopen;
+use qz_sqlscript::sql;
 use qz_stations::Crew;
 use qz_stats_school::stats;
 use qz_text::Text;
@@ -37,12 +40,13 @@ const USAGE: &str =
     "usage: quizd replay | gift check | gift fmt | script FOLDER | found FOLDER SHARDS TOKEN | serve FOLDER PORT WORKERS REGRADERS LINKS | bulk N\n";
 
 /// Runs the command that the words name, over a source, a sink, sixteen doors with a clock each, as many clocks more as it uses, a shelf of
-/// which no file is out, and a door whose links never wait, with a watch over it. Answers its exit status.
+/// which no file is out, a door whose links never wait, with a watch over it, and bases of which no database is out. Answers its exit status.
 ///
 /// The commands are `replay`, `gift check`, `gift fmt`, `script FOLDER`, `found FOLDER SHARDS TOKEN`, `bulk N`,
 /// `stats FOLDER QUIZ WORKERS`, which only reads; `serve FOLDER PORT WORKERS REGRADERS LINKS` and `audit` with the same words, which serve the
-/// first doors, one a worker, while others regrade; and `poll FOLDER PORT LINKS VISITS`, which serves the door whose links never wait. A folder's
-/// school is loaded, and given back with all that was accepted; for a script `memory` stands for a school in memory, just founded.
+/// first doors, one a worker, while others regrade; `poll FOLDER PORT LINKS VISITS`, which serves the door whose links never wait; and, over
+/// the databases of a folder, `sql FOLDER TOKEN`, a script, and `sqlopen FOLDER QUIZ`, which only reads. A folder's school is loaded, and given
+/// back with all that was accepted; for `script` `memory` stands for a school in memory, just founded.
 /// Words that are no command are status 2: nothing is read, and the usage line is written. Where the sink fails under the usage line the status
 /// is 5. Where memory is wanting for the words it is 8, and nothing is done.
 pub fn run<
@@ -54,6 +58,7 @@ pub fn run<
     F: Shelf,
     P: ReadyDoor<Link: Drop>,
     V: Watch,
+    B: Bases,
 >(
     rt: &W,
     alloc: Global,
@@ -65,13 +70,15 @@ pub fn run<
     shelf: &mut F,
     ready: &mut P,
     watch: &mut V,
+    bases: &mut B,
 ) -> u8
 where
     F::Disk: Send + Sync,
     R::Link: Send,
     requires doors { length doors.old.items ≡ 16 }
     requires clocks { length clocks.items ≡ clocks_for (command_of words.now) }
-    requires none_out { NoneOut (F.files shelf.old) }
+    requires none_out { NoneOut (F.files shelf.old).is_out }
+    requires bases { NoneOut (B.lists bases.old).is_out }
     ensures ended { Ended
         (RunEnds (record { moment = F.Disk.moment; left_at = F.Disk.left_at; sound = F.Disk.sound; faults = F.Disk.faults })
         (record {
@@ -79,18 +86,24 @@ where
           serving = serving_by C.tells (peer_by R.Link.left R.Link.holds R.Link.faults)
               (entrance_by R.left R.returned R.returns R.out R.faults);
           peer = peer_of P.Link.ReadyLink;
+          store_tells = B.Store.Base.tells;
+          store = B.Store.Store;
         }) clocks.items
         (record {
           doors = doors.old.items;
           shelf = shelf.old;
           told = record { files = F.files shelf.old; faults = F.faults shelf.old };
           ready = record { door = ready.old; entrance = halls.entrance_by P.left P.returned P.returns P.out P.faults ready.old };
+          bases = bases.old;
+          based = record { lists = B.lists bases.old; faults = B.faults bases.old };
         })
         (record {
           doors = doors.new.items;
           shelf = shelf.new;
           told = record { files = F.files shelf.new; faults = F.faults shelf.new };
           ready = record { door = ready.new; entrance = halls.entrance_by P.left P.returned P.returns P.out P.faults ready.new };
+          bases = bases.new;
+          based = record { lists = B.lists bases.new; faults = B.faults bases.new };
         })
         words.now
         (record { left = S.left source.old; source_faults = S.faults source.old; holds = O.holds sink.old; sink_faults = O.faults sink.old })
@@ -102,19 +115,24 @@ where
           shelf = shelf.old;
           told = record { files = F.files shelf.old; faults = F.faults shelf.old };
           ready = record { door = ready.old; entrance = halls.entrance_by P.left P.returned P.returns P.out P.faults ready.old };
+          bases = bases.old;
+          based = record { lists = B.lists bases.old; faults = B.faults bases.old };
         })
         (record {
           doors = doors.new.items;
           shelf = shelf.new;
           told = record { files = F.files shelf.new; faults = F.faults shelf.new };
           ready = record { door = ready.new; entrance = halls.entrance_by P.left P.returned P.returns P.out P.faults ready.new };
+          bases = bases.new;
+          based = record { lists = B.lists bases.new; faults = B.faults bases.new };
         })
         words.now
         (record { left = S.left source.old; source_faults = S.faults source.old; holds = O.holds sink.old; sink_faults = O.faults sink.old })
         (record { left = S.left source.new; source_faults = S.faults source.new; holds = O.holds sink.new; sink_faults = O.faults sink.new })
         result }
     ensures doors { length doors.new.items ≡ 16 }
-    ensures none_out { NoneOut (F.files shelf.new) }
+    ensures none_out { NoneOut (F.files shelf.new).is_out }
+    ensures bases { NoneOut (B.lists bases.new).is_out }
 {
     match command_of(alloc, words) {
         Ok(Command::Replay) => replay(alloc, source, sink),
@@ -208,6 +226,12 @@ where
                 workers,
             },
         ) => stats(rt, alloc, folder.as_bytes(), quiz, workers, sink, shelf),
+        Ok(Command::Sql { folder, token }) => {
+            sql(alloc, folder.as_bytes(), &token, source, sink, bases)
+        }
+        Ok(Command::SqlOpen { folder, quiz }) => {
+            sqlopen(alloc, folder.as_bytes(), quiz, sink, bases)
+        }
         Err(WordsFault::BadWords) => show_usage(sink).status(),
         Err(WordsFault::Memory) => Stop::Memory.status(),
     }
@@ -221,7 +245,7 @@ fn run_script<S: Source, O: Sink, F: Shelf>(
     sink: &mut O,
     shelf: &mut F,
 ) -> u8
-    requires { NoneOut (F.files shelf.old) }
+    requires { NoneOut (F.files shelf.old).is_out }
     ensures ended { Ended
         (ScriptEndsIn (record { moment = F.Disk.moment; left_at = F.Disk.left_at; sound = F.Disk.sound; faults = F.Disk.faults })
         folder.now (shelf.new ≡ shelf.old)
@@ -236,7 +260,7 @@ fn run_script<S: Source, O: Sink, F: Shelf>(
         (record { left = S.left source.old; source_faults = S.faults source.old; holds = O.holds sink.old; sink_faults = O.faults sink.old })
         (record { left = S.left source.new; source_faults = S.faults source.new; holds = O.holds sink.new; sink_faults = O.faults sink.new })
         result }
-    ensures none_out { NoneOut (F.files shelf.new) }
+    ensures none_out { NoneOut (F.files shelf.new).is_out }
 {
     if is_memory(folder) {
         script(alloc, source, sink)

@@ -64,6 +64,32 @@ module _ (name : Text) where
   one_refused (a ∷ []) plain at = absurd (at.at_fault (fault_is (one name) refl (a ∷ []) plain))
   one_refused (a ∷ b ∷ ws) plain at = other_number 1 (a ∷ b ∷ ws) (λ e. absurd (omega arith))
 
+-- ---- two words
+
+abbrev pub two_app : Text → App
+two_app name = words_app name (codes "first" ∷ codes "second" ∷ [])
+
+abbrev two : Text → Shape
+two name = (built (two_app name)).top
+
+module _ (name : Text) where
+  pub two_read : (ws : List Text) (m : ArgMatches) → has_flag ws ≡ false → Fits (two_app name) ws m
+      → (a : Text) × (b : Text) × (ws ≡ a ∷ b ∷ [])
+      × (first_value (found_of m) (codes "first") ≡ Some a) × (first_value (found_of m) (codes "second") ≡ Some b)
+  two_read [] m plain fits = absurd (unfit MissingRequiredArgument _ (fault_is (two name) refl [] plain) fits.faultless)
+  two_read (a ∷ []) m plain fits = absurd (unfit MissingRequiredArgument _ (fault_is (two name) refl (a ∷ []) plain) fits.faultless)
+  two_read (a ∷ b ∷ []) m plain fits =
+      let rows = fits.rows ∙ rows_are (two name) refl (a ∷ b ∷ []) plain in
+      let value = λ (id : Text). first_value-rows (found_of m) id ∙ ap (first_of id) rows in
+      (a, b, refl, value (codes "first"), value (codes "second"))
+  two_read (a ∷ b ∷ c ∷ ws) m plain fits = absurd (unfit UnknownArgument _ (fault_is (two name) refl (a ∷ b ∷ c ∷ ws) plain) fits.faultless)
+
+  pub two_refused : (ws : List Text) → has_flag ws ≡ false → IsAtFault (two_app name) ws → so_many 2 ws ≡ None
+  two_refused [] plain at = refl
+  two_refused (a ∷ []) plain at = refl
+  two_refused (a ∷ b ∷ []) plain at = absurd (at.at_fault (fault_is (two name) refl (a ∷ b ∷ []) plain))
+  two_refused (a ∷ b ∷ c ∷ ws) plain at = other_number 2 (a ∷ b ∷ c ∷ ws) (λ e. absurd (omega arith))
+
 -- ---- three words
 
 abbrev pub three_app : Text → App

@@ -102,6 +102,28 @@ abbrev pub poll_of : List (List ℕ) → Option Command
 poll_of (folder ∷ port ∷ links ∷ visits ∷ []) = poll_by folder port links visits
 poll_of words = None
 
+-- a folder, and the token of the manager where its databases hold no school yet
+abbrev pub sql_by : List ℕ → List ℕ → Option Command
+sql_by folder token = do
+  place ← folder_of folder
+  name ← token_of token
+  Some (command.Sql place name)
+
+abbrev pub sql_of : List (List ℕ) → Option Command
+sql_of (folder ∷ token ∷ []) = sql_by folder token
+sql_of words = None
+
+-- a quiz with any number
+abbrev pub sqlopen_by : List ℕ → List ℕ → Option Command
+sqlopen_by folder quiz = do
+  number ← number_within 0 4294967295 quiz
+  place ← folder_of folder
+  Some (command.SqlOpen place number)
+
+abbrev pub sqlopen_of : List (List ℕ) → Option Command
+sqlopen_of (folder ∷ quiz ∷ []) = sqlopen_by folder quiz
+sqlopen_of words = None
+
 -- ---- the command that all the words are
 
 abbrev pub command_by : List ℕ → List (List ℕ) → Option Command
@@ -114,7 +136,9 @@ command_by first rest =
     else (if bytes_eq first (codes "bulk") then bulk_of rest
     else (if bytes_eq first (codes "stats") then stats_of rest
     else (if bytes_eq first (codes "audit") then audit_of rest
-    else (if bytes_eq first (codes "poll") then poll_of rest else None))))))))
+    else (if bytes_eq first (codes "poll") then poll_of rest
+    else (if bytes_eq first (codes "sql") then sql_of rest
+    else (if bytes_eq first (codes "sqlopen") then sqlopen_of rest else None))))))))))
 
 -- no word of a command begins with a dash
 abbrev pub command_of : List (List ℕ) → Option Command
@@ -142,4 +166,6 @@ IsInRange (command.Audit s) = IsServing s
 IsInRange (command.Poll folder port links visits) =
     IsFolder folder × ((1 ≤ port) × (port ≤ 65535)) × ((1 ≤ links) × (links ≤ 1000000000))
     × ((1 ≤ visits) × (visits ≤ 1000))
+IsInRange (command.Sql folder token) = IsFolder folder × IsBriefToken token
+IsInRange (command.SqlOpen folder quiz) = IsFolder folder
 IsInRange c = Unit {0}

@@ -5,13 +5,13 @@ ghost use Rattle.qz_command.specs.Commands.{IsInRange, IsServing, command_by, co
 ghost use Rattle.qz_command.specs.Commands.{audit_of, bulk_by, bulk_of, found_by, found_of};
 ghost use Rattle.qz_command.specs.Commands.{gift_by, gift_of, poll_by, poll_of, replay_of};
 ghost use Rattle.qz_command.specs.Commands.{script_by, script_of, serve_of, serving_by, serving_of};
-ghost use Rattle.qz_command.specs.Commands.{stats_by, stats_of};
+ghost use Rattle.qz_command.specs.Commands.{sql_by, sql_of, sqlopen_by, sqlopen_of, stats_by, stats_of};
 ghost use Rattle.qz_command.specs.Flags.{has_flag, is_flag};
 ghost use Rattle.qz_command.specs.Readings.{Reads};
 ghost use Rattle.std.specs.Prelude.{◌≡◌, IfOk, false};
 
 use crate::WordsFault;
-use crate::leaves::{five_words, four_words, one_word, three_words, words_of_replay};
+use crate::leaves::{five_words, four_words, one_word, three_words, two_words, words_of_replay};
 use crate::values::{folder_in, number_in, token_text};
 use qz_text::Text;
 use std::alloc::{AllocError, Global};
@@ -67,6 +67,17 @@ pub enum Command {
         port: u16,
         links: u32,
         visits: u16,
+    },
+    /// The requests of a script are answered over the school in a folder's two databases. Where they hold none it is founded, with one shard
+    /// and a manager who has this token, of 1 to 64 bytes.
+    Sql {
+        folder: Text,
+        token: Text,
+    },
+    /// The attempts at a quiz that wait are read from the shard's database in a folder.
+    SqlOpen {
+        folder: Text,
+        quiz: u32,
     },
 }
 
@@ -131,6 +142,8 @@ fn command_by(alloc: Global, first: &str, rest: &[&str]) -> Result<Command, Word
         "stats" => stats(alloc, rest),
         "audit" => audit(alloc, rest),
         "poll" => poll(alloc, rest),
+        "sql" => sql(alloc, rest),
+        "sqlopen" => sqlopen(alloc, rest),
         _ => Err(WordsFault::BadWords),
     }
 }
@@ -325,4 +338,40 @@ fn poll_by(
         links,
         visits: visits as u16,
     })
+}
+
+fn sql(alloc: Global, words: &[&str]) -> Result<Command, WordsFault>
+    requires { has_flag (texts words.now) ≡ false }
+    ensures value { Reads (λ c. c) result (sql_of (texts words.now)) }
+    ensures range { IfOk result IsInRange }
+{
+    let (folder, token) = two_words(alloc, "sql", words)?;
+    sql_by(alloc, folder, token)
+}
+
+fn sql_by(alloc: Global, folder: &str, token: &str) -> Result<Command, WordsFault>
+    ensures value { Reads (λ c. c) result (sql_by folder.now token.now) }
+    ensures range { IfOk result IsInRange }
+{
+    let folder = folder_in(alloc, folder)?;
+    let token = token_text(alloc, token)?;
+    Ok(Command::Sql { folder, token })
+}
+
+fn sqlopen(alloc: Global, words: &[&str]) -> Result<Command, WordsFault>
+    requires { has_flag (texts words.now) ≡ false }
+    ensures value { Reads (λ c. c) result (sqlopen_of (texts words.now)) }
+    ensures range { IfOk result IsInRange }
+{
+    let (folder, quiz) = two_words(alloc, "sqlopen", words)?;
+    sqlopen_by(alloc, folder, quiz)
+}
+
+fn sqlopen_by(alloc: Global, folder: &str, quiz: &str) -> Result<Command, WordsFault>
+    ensures value { Reads (λ c. c) result (sqlopen_by folder.now quiz.now) }
+    ensures range { IfOk result IsInRange }
+{
+    let quiz = number_in(quiz, 0, u32::MAX)?;
+    let folder = folder_in(alloc, folder)?;
+    Ok(Command::SqlOpen { folder, quiz })
 }

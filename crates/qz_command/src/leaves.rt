@@ -93,6 +93,21 @@ pub fn one_word<'a>(
     }
 }
 
+/// Two words.
+pub fn two_words<'a>(
+    alloc: Global,
+    name: &'static str,
+    words: &'a [&'a str],
+) -> Result<(&'a str, &'a str), WordsFault>
+    requires { has_flag (texts words.now) ≡ false }
+    ensures { Reads (λ r. r.0.now ∷ r.1.now ∷ []) result (so_many 2 (texts words.entry.now)) }
+{
+    match parsed(alloc, name, &["first", "second"], words) {
+        Ok(matches) => Ok((value(&matches, "first"), value(&matches, "second"))),
+        Err(fault) => Err(fault),
+    }
+}
+
 /// Three words.
 pub fn three_words<'a>(
     alloc: Global,

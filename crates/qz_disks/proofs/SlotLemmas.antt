@@ -103,7 +103,7 @@ puts_added slots slot none =
     }
 
 -- two places are one or two
-apart_or_same : (at other : Place) → (at ≡ other) ⊎ (at ≢ other)
+pub apart_or_same : (at other : Place) → (at ≡ other) ⊎ (at ≢ other)
 apart_or_same at other =
     let same = Decides-and _ _ (bytes_eq-Decides at.folder other.folder) (bytes_eq-Decides at.name other.name) in ⊎_elim
     (λ yes. inl (ap (λ (f : List ℕ). place f at.name) (same.0 yes).0 ∙ ap (λ (n : List ℕ). place other.folder n) (same.0 yes).1))

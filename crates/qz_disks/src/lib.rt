@@ -1,5 +1,5 @@
 //! Disks and keepers: what a journal writes to, with what a crash may leave of it, and what keeps a list of payloads;
-//! a disk and a shelf in memory, and both over files of std.
+//! a disk and a shelf in memory, and both over files of std; and slots by folder and name.
 #![tactic(auto)]
 
 mod disk;
@@ -9,7 +9,7 @@ mod keeper;
 mod memory_disk;
 mod memory_shelf;
 mod shelf;
-mod slots;
+pub mod slots;
 
 pub use disk::Disk;
 pub use file_disk::FileDisk;

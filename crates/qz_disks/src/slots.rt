@@ -1,4 +1,4 @@
-//! What a shelf knows of its files.
+//! What shelves and other stores by folder and name know of what stands at their places.
 
 ghost use Rattle.std.specs.Prelude.{◌≡◌, ◌++◌, ◌∷◌, [], Some, None, IfOk, position, is_some, true, vec_len, vec_capacity, ◌<◌};
 ghost use Rattle.std.specs.Option.{option_copied};
@@ -9,22 +9,17 @@ use qz_text::{Bytes, NoMemory};
 use std::alloc::Global;
 use std::mem;
 
-/// What a shelf knows of the file at a place.
+/// What is known of what stands at a place.
 #[derive(Drop)]
-pub(crate) struct Slot<T> {
-    pub(crate) folder: Bytes,
-    pub(crate) name: Bytes,
-    pub(crate) holds: T,
+pub struct Slot<T> {
+    pub folder: Bytes,
+    pub name: Bytes,
+    pub holds: T,
 }
 
 impl<T: Drop> Slot<T> {
     /// A slot of this place.
-    pub(crate) fn of(
-        alloc: Global,
-        folder: &[u8],
-        name: &[u8],
-        holds: T,
-    ) -> Result<Slot<T>, NoMemory>
+    pub fn of(alloc: Global, folder: &[u8], name: &[u8], holds: T) -> Result<Slot<T>, NoMemory>
         ensures { IfOk result (λ slot. slot ≡ record { folder = folder.now; name = name.now; holds = holds }) }
     {
         Ok(Slot {
@@ -44,7 +39,7 @@ impl<T> Slot<T> {
 }
 
 /// What stands in the slot of a place, where there is one.
-pub(crate) fn look<'a, T>(slots: &'a [Slot<T>], folder: &[u8], name: &[u8]) -> Option<&'a T>
+pub fn look<'a, T>(slots: &'a [Slot<T>], folder: &[u8], name: &[u8]) -> Option<&'a T>
     ensures { option_copied result ≡ stands_at (place folder.now name.now) slots.now }
 {
     slots
@@ -54,7 +49,7 @@ pub(crate) fn look<'a, T>(slots: &'a [Slot<T>], folder: &[u8], name: &[u8]) -> O
 }
 
 /// Whether a place has a slot.
-pub(crate) fn has<T>(slots: &[Slot<T>], folder: &[u8], name: &[u8]) -> bool
+pub fn has<T>(slots: &[Slot<T>], folder: &[u8], name: &[u8]) -> bool
     ensures { result ≡ is_some (stands_at (place folder.now name.now) slots.now) }
 {
     look(slots, folder, name).is_some()
@@ -68,7 +63,7 @@ fn find<T>(slots: &[Slot<T>], folder: &[u8], name: &[u8]) -> Option<usize>
 }
 
 /// Puts something into the slot of a place, and gives what stood there.
-pub(crate) fn replace<T>(slots: &mut [Slot<T>], folder: &[u8], name: &[u8], value: T) -> T
+pub fn replace<T>(slots: &mut [Slot<T>], folder: &[u8], name: &[u8], value: T) -> T
     requires { is_some (stands_at (place folder.now name.now) slots.old) ≡ true }
     ensures gives { stands_at (place folder.now name.now) slots.old ≡ Some result }
     ensures puts { Puts (place folder.now name.now) value slots.old slots.new }
@@ -80,7 +75,7 @@ pub(crate) fn replace<T>(slots: &mut [Slot<T>], folder: &[u8], name: &[u8], valu
 }
 
 /// Adds the slot of a place that had none, for which there is room.
-pub(crate) fn add<T>(slots: &mut Vec<Slot<T>>, slot: Slot<T>)
+pub fn add<T>(slots: &mut Vec<Slot<T>>, slot: Slot<T>)
     requires absent { stands_at (place slot.folder slot.name) slots.old.items ≡ None }
     requires room { vec_len slots.old < vec_capacity slots.old }
     ensures { Puts (place slot.folder slot.name) slot.holds slots.old.items slots.new.items }

@@ -8,9 +8,10 @@ use Rattle.qz_disks.specs.Shelves.{Place}
 use Rattle.qz_sqlkeep.specs.Keeping.{Stands}
 use Rattle.qz_sqlkeep.proofs.Keeping.{payloads_are}
 use Rattle.qz_sqlbases.specs.Databases.{ChangesAt, HandsOut, SameLists, TakesBack, standing_as}
-use Rattle.qz_sqlbases.specs.Slots.{Kept, Puts, doubt_in, folder_lists, is_taken, list_in, list_of, memory_lists, stands_at}
-use Rattle.qz_sqlbases.specs.declared.slots.Slot.{Slot}
-use Rattle.qz_sqlbases.proofs.SlotLemmas.{apart_or_same}
+use Rattle.qz_disks.specs.Slots.{Puts, stands_at}
+use Rattle.qz_disks.specs.declared.slots.Slot.{Slot}
+use Rattle.qz_disks.proofs.SlotLemmas.{apart_or_same}
+use Rattle.qz_sqlbases.specs.Slots.{Kept, doubt_in, folder_lists, is_taken, list_in, list_of, memory_lists}
 
 pub not_there : {T : Type 0} (o : Option T) → is_some o ≡ false → o ≡ None
 not_there None absent = refl
@@ -80,3 +81,8 @@ untold_at at slots = untold_by (stands_at at slots)
 
 pub folder_back : (at : Place) (old new : List (Slot (Option (Option (List ℕ))))) (doubt : Option (List ℕ)) → Puts at (Some doubt) old new → TakesBack at (folder_lists old) (folder_lists new) (standing_as None doubt)
 folder_back at old new doubt puts = record { stands = ap doubt_in puts.there; here = ap is_taken puts.there; others = others_noted at (Some doubt) old new puts }
+
+-- a database that is out has a slot
+pub there_while_out : {T : Type 0} (o : Option (Option T)) → is_taken o ≡ true → is_some o ≡ true
+there_while_out None out = absurd cc
+there_while_out (Some held) out = refl

@@ -1,26 +1,14 @@
--- The slots in which bases keep what they know of their databases, and what bases in memory and over folders hold.
-use Rattle.std.specs.Prelude.{◌≡◌, ◌≢◌, ℕ, Bool, true, false, ◌&&◌, List, [], Option, Some, None, find, option_map, bytes_eq, refl}
+-- What bases in memory and over folders hold in the slots of their databases.
+use Rattle.std.specs.Prelude.{ℕ, Bool, true, false, List, [], Option, Some, None, refl}
 use Rattle.std.specs.Coded.{Coded, code_by, coded×, coded_ℕ, coded_list, coded_option}
-use Rattle.qz_disks.specs.Shelves.{Place}
+use Rattle.qz_disks.specs.Slots.{stands_at}
+use Rattle.qz_disks.specs.declared.slots.Slot.{Slot}
 use Rattle.qz_sqlkeep.specs.Keeping.{Keeping, keeping_code, kept_in}
 use Rattle.sqlite.specs.Held.{state}
 use Rattle.sqlite.specs.Steps.{over_memory}
 use Rattle.sqlite_trees.specs.contracts.memory.MemStore as mem
 use Rattle.sqlite_trees.specs.declared.memory.MemStore.{MemStore}
 use Rattle.qz_sqlbases.specs.Databases.{Lists, Standing, standing_as}
-use Rattle.qz_sqlbases.specs.declared.slots.Slot.{Slot}
-
-abbrev pub is_at : {T : Type 0} → Place → Slot T → Bool
-is_at at slot = bytes_eq slot.folder at.folder && bytes_eq slot.name at.name
-
--- what stands in the slot of a place, where there is one
-abbrev pub stands_at : {T : Type 0} → Place → List (Slot T) → Option T
-stands_at at slots = option_map (λ slot. slot.holds) (find (is_at at) slots)
-
--- something was put into the slot of a place, and the others stay
-pub record Puts {T : Type 0} (changed : Place) (value : T) (old new : List (Slot T)) : Type 0 where
-  pub there : stands_at changed new ≡ Some value
-  pub others : (at : Place) → at ≢ changed → stands_at at new ≡ stands_at at old
 
 -- ---- bases in memory
 

@@ -8,11 +8,12 @@ ghost use Rattle.sqlite.specs.Files.{file_state};
 ghost use Rattle.sqlite.specs.State.{HasCleanDisk};
 ghost use Rattle.qz_sqlkeep.specs.Keeping.{kept_in, Stands};
 ghost use Rattle.qz_sqlbases.specs.Databases.{standing_as, EndsHandingOut, SameLists, TakesBack};
-ghost use Rattle.qz_sqlbases.specs.Slots.{folder_lists, stands_at};
+ghost use Rattle.qz_disks.specs.Slots.{stands_at};
+ghost use Rattle.qz_sqlbases.specs.Slots.{folder_lists};
 
-use crate::slots::{Slot, add, has, look, replace};
 use crate::{Bases, Returned};
 use qz_disks::ShelfErr;
+use qz_disks::slots::{Slot, add, has, look, replace};
 use qz_sqlkeep::SqlKeeper;
 use qz_text::{Bytes, Listed, NoMemory};
 use sqlite::{Connection, Error, ErrorCode, File, FileStore};
@@ -123,7 +124,8 @@ impl<'a> Bases for FolderBases<'a> {
         }
     }
 
-    // Closes the file, which gives its lock up. What was appended is on the medium before.
+    // Closes the file, which gives its lock up: its log is copied into it, so that the log doesn't grow from run to run.
+    // What was appended is on the medium before.
     fn take_back<K: Returned<FileStore<File>>>(&mut self, folder: &[u8], name: &[u8], returned: K)
         requires { (folder_lists self.old.slots).is_out (place folder.now name.now) ≡ true }
         ensures lists { TakesBack (place folder.now name.now)
@@ -136,7 +138,7 @@ impl<'a> Bases for FolderBases<'a> {
     {
         let keeper = returned.into_keeper();
         self.faults = self.faults.saturating_add(keeper.faults());
-        let doubt = keeper.into_doubt();
+        let doubt = keeper.close();
         let _ = replace(&mut self.slots, folder, name, Some(doubt));
     }
 }

@@ -4,7 +4,6 @@
 mod bases;
 mod folder_bases;
 mod memory_bases;
-mod slots;
 
 pub use bases::{Bases, Returned};
 pub use folder_bases::FolderBases;

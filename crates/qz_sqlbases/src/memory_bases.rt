@@ -9,10 +9,11 @@ ghost use Rattle.sqlite.specs.State.{HasCleanDisk};
 ghost use Rattle.sqlite.specs.Steps.{over_memory};
 ghost use Rattle.qz_sqlkeep.specs.Keeping.{kept_in, Stands};
 ghost use Rattle.qz_sqlbases.specs.Databases.{standing_as, EndsHandingOut, HandsOut, SameLists, TakesBack};
-ghost use Rattle.qz_sqlbases.specs.Slots.{memory_lists, stands_at, Puts};
+ghost use Rattle.qz_disks.specs.Slots.{stands_at, Puts};
+ghost use Rattle.qz_sqlbases.specs.Slots.{memory_lists};
 
-use crate::slots::{Slot, add, has, look, replace};
 use crate::{Bases, Returned};
+use qz_disks::slots::{Slot, add, has, look, replace};
 use qz_disks::{KeepErr, Keeper, ShelfErr};
 use qz_outside::Calls;
 use qz_sqlkeep::SqlKeeper;

@@ -21,7 +21,8 @@ use qz_disks::{KeepErr, Keeper};
 use qz_grading::AttemptId;
 use qz_sqltables::{make_tables, read_payloads, read_places, read_waiting};
 use qz_text::{Bytes, Listed};
-use sqlite::{Connection, Error, MemStore};
+use sqlite::{Connection, Error, FileStore, MemStore};
+use sqlite_disk::Disk;
 use std::alloc::Global;
 use std::marker::Model;
 
@@ -151,12 +152,18 @@ impl<S: Base + Drop> SqlKeeper<S> {
         let payloads = fill(alloc, &mut conn)?;
         Ok((SqlKeeper::new(conn), payloads))
     }
+}
 
-    /// Closes the database, and gives the payload in doubt.
-    pub fn into_doubt(self) -> Option<Bytes>
+impl<D: Disk + Drop> SqlKeeper<FileStore<D>> {
+    /// Closes the database, with its log copied into it, and gives the payload in doubt.
+    ///
+    /// A log that can't be copied stays beside the file, and is read at the next opening.
+    pub fn close(self) -> Option<Bytes>
         ensures { result ≡ self.doubt }
     {
-        self.doubt
+        let SqlKeeper { conn, doubt, .. } = self;
+        let _ = conn.close();
+        doubt
     }
 }
 

@@ -1,7 +1,7 @@
 use Rattle.std.proofs.Common.{length, sym, subst, ◌∙◌, ap}
 use Rattle.std.proofs.lemmas.List.{with_items_is}
 use Rattle.qz_disks.specs.Shelves.{place}
-use Rattle.qz_sqlbases.specs.Slots.{Puts}
+use Rattle.qz_disks.specs.Slots.{Puts}
 use Rattle.qz_sqlbases.proofs.Listed.{made_out, not_there}
 use Rattle.qz_sqlbases.proofs.memory_bases.MemoryBasesBases.keeper.Goals as goal
 
