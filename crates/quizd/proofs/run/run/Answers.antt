@@ -143,10 +143,10 @@ returns-in-Ok-Stats-clause-none_out g c =
     folder_none_out _ _ _ _ _ _ _ _ e.stop c.requires.none_out e.cause
 
 pub sql-requires-clause-free : goal.sql-requires-clause-free
-sql-requires-clause-free g c κs within = neither_out _ _ c.requires.bases
+sql-requires-clause-free g c = neither_out _ _ c.requires.bases
 
 pub sql-requires-clause-short : goal.sql-requires-clause-short
-sql-requires-clause-short g c κs within =
+sql-requires-clause-short g c =
     let s = c.in-Ok-Sql in
     let one : s.field-0 ≡ command.Sql s.folder s.token = search rules in
     short_token _ _ (rw one at s.ensures.range)
@@ -170,7 +170,7 @@ returns-in-Ok-Sql-clause-bases g c =
     both_none_out c.in-Ok-Sql.folder _ _ c.requires.bases e.cause.none_out e.cause.others
 
 pub sqlopen-requires : goal.sqlopen-requires
-sqlopen-requires g c κs within = c.requires.bases.each (part_place _)
+sqlopen-requires g c = c.requires.bases.each (part_place _)
 
 pub returns-in-Ok-SqlOpen-clause-ended : goal.returns-in-Ok-SqlOpen-clause-ended
 returns-in-Ok-SqlOpen-clause-ended g c =
