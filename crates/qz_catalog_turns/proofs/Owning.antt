@@ -28,7 +28,7 @@ use Rattle.qz_catalog_turns.specs.declared.replied.OwnRecord.{OwnRecord}
 use Rattle.qz_catalog_turns.specs.declared.replied.OwnRecord.TheVariants as own
 use Rattle.qz_catalog_turns.specs.declared.replied.Replied.{Replied}
 use Rattle.qz_catalog_turns.specs.Owning.{CallReplies, DidReply, Leaves, OneReply, ReplyEnds, TurnReplies, absent, in_doubt, own_of, stands}
-use Rattle.qz_catalog_turns.specs.Turning.{held_of, tale_of}
+use Rattle.qz_catalog_turns.specs.Turning.{AddsTurn, held_of, tale_of}
 
 -- ---- one record more, or none
 
@@ -203,16 +203,16 @@ tales-reply P refused Answers found seen first last told left found_is seen_is r
     subst (λ (t : Tale Record). CallReplies P refused Answers t seen told left) (sym found_is) (subst (λ (t : Tale Record). CallReplies P refused Answers first t told left) (sym seen_is) r)
 
 pub turn-replies : {A K : Type 0} (P : List Record → Type 0) (refused : Refusal → A) (Answers : List Record → A → List Record → Type 0) (old new : Standing Record K) (told : A) (left : OwnRecord) → CallReplies P refused Answers new.found new.seen told left
-    → Follows old.seen new.found → Follows new.found new.seen → new.numbers ≡ old.numbers → new.lock ≡ old.lock → TurnReplies P refused Answers old new told left
-turn-replies P refused Answers old new told left r begins grows numbers lock = record {
-  turn = record { begins = begins; grows = grows; calls = r.calls; numbers = numbers; lock = lock };
+    → Follows old.seen new.found → Follows new.found new.seen → new.numbers ≡ old.numbers → new.lock ≡ old.lock → AddsTurn old new → TurnReplies P refused Answers old new told left
+turn-replies P refused Answers old new told left r begins grows numbers lock turns = record {
+  turn = record { begins = begins; grows = grows; calls = r.calls; numbers = numbers; lock = lock; turns = turns };
   leaves = r.leaves;
 }
 
 -- what an errand did is told of its turn
 pub replied-turn : {K : Type 0} (faults : K → ℕ) (Answers : List Record → Reply → List Record → Type 0) (before after : Keeping K) (old new : Standing Record (Unit {0})) (o : Option Replied) (told : Replied) → DidReply faults Answers before after o → o ≡ Some told
-    → new.found ≡ tale_of before.held (faults before.keeper) → new.seen ≡ tale_of after.held (faults after.keeper) → Follows old.seen new.found → Follows new.found new.seen → new.numbers ≡ old.numbers → new.lock ≡ old.lock
+    → new.found ≡ tale_of before.held (faults before.keeper) → new.seen ≡ tale_of after.held (faults after.keeper) → Follows old.seen new.found → Follows new.found new.seen → new.numbers ≡ old.numbers → new.lock ≡ old.lock → AddsTurn old new
     → TurnReplies IsLegalCatalog reply.Refused Answers old new told.reply told.own
-replied-turn faults Answers before after old new o told d is found seen begins grows numbers lock =
+replied-turn faults Answers before after old new o told d is found seen begins grows numbers lock turns =
     turn-replies IsLegalCatalog reply.Refused Answers old new told.reply told.own
-    (tales-reply IsLegalCatalog reply.Refused Answers new.found new.seen (tale_of before.held (faults before.keeper)) (tale_of after.held (faults after.keeper)) told.reply told.own found seen (told-replies faults Answers before after o told d is)) begins grows numbers lock
+    (tales-reply IsLegalCatalog reply.Refused Answers new.found new.seen (tale_of before.held (faults before.keeper)) (tale_of after.held (faults after.keeper)) told.reply told.own found seen (told-replies faults Answers before after o told d is)) begins grows numbers lock turns

@@ -3,7 +3,7 @@ use Rattle.std.proofs.Common.{◌≡◌, ℕ, List, Option, Some, refl, ap, sym,
 use mathlib.Core.List.{IsPrefix}
 use Rattle.qz_catalog_turns.specs.declared.replied.Replied.{Replied}
 use Rattle.qz_catalog_turns.specs.Owning.{CallReplies, OneReply, TurnReplies}
-use Rattle.qz_catalog_turns.specs.Turning.{tale_of}
+use Rattle.qz_catalog_turns.specs.Turning.{AddsTurn, tale_of}
 use Rattle.qz_catalog_turns.proofs.Owning.{Puts, call-replies, one-told}
 use Rattle.qz_keeper.specs.Lists.{EachMayStand, OneCall}
 use Rattle.qz_keeper.specs.Recording.{HasFailed}
@@ -95,10 +95,10 @@ work-did sound faults caller job moment before after told r same found left = re
 
 pub worked-turn : {K : Type 0} (faults : K → ℕ) (moment caller : ℕ) (job : Job) (place : Placed) (before after : Behind K) (old new : Standing Record Placed) (o : Option Replied) (told : Replied) → IsTied place before
     → DidWork faults moment caller job before.shard after.shard o → o ≡ Some told → new.found ≡ tale_of before.shard.held (faults before.shard.keeper) → new.seen ≡ tale_of after.shard.held (faults after.shard.keeper)
-    → Follows old.seen new.found → Follows new.found new.seen → new.numbers ≡ old.numbers → new.lock ≡ old.lock
+    → Follows old.seen new.found → Follows new.found new.seen → new.numbers ≡ old.numbers → new.lock ≡ old.lock → AddsTurn old new
     → TurnReplies (IsLegal place.index place.count) reply.Refused (λ h t g. IsWorked h moment caller job t g) old new told.reply told.own
-worked-turn faults moment caller job place before after old new o told tied w is found seen begins grows numbers lock =
+worked-turn faults moment caller job place before after old new o told tied w is found seen begins grows numbers lock turns =
     let first = tale_of before.shard.held (faults before.shard.keeper) in
     let last = tale_of after.shard.held (faults after.shard.keeper) in
     let comes = subst (λ (x : Replied). CallReplies (IsLegal before.shard.index before.shard.count) reply.Refused (λ h t g. IsWorked h moment caller job t g) first last x.reply x.own) (one-told o w.replied told w.told_is is) w.comes in
-    turn-of reply.Refused (λ h t g. IsWorked h moment caller job t g) place before first last old new told.reply told.own tied comes found seen begins grows numbers lock
+    turn-of reply.Refused (λ h t g. IsWorked h moment caller job t g) place before first last old new told.reply told.own tied comes found seen begins grows numbers lock turns

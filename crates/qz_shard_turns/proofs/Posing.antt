@@ -5,7 +5,7 @@ use Rattle.qz_catalog.specs.Holdings.{lean}
 use Rattle.qz_catalog_turns.specs.declared.replied.OwnRecord.{OwnRecord}
 use Rattle.qz_catalog_turns.specs.declared.replied.Replied.{Replied}
 use Rattle.qz_catalog_turns.specs.Owning.{CallReplies, OneReply, ReplyEnds, TurnReplies}
-use Rattle.qz_catalog_turns.specs.Turning.{tale_of}
+use Rattle.qz_catalog_turns.specs.Turning.{AddsTurn, tale_of}
 use Rattle.qz_catalog_turns.proofs.Owning.{Puts, call-replies, mended-reply, one-told, puts-as, reply-means, tales-reply, turn-replies, with-one}
 use Rattle.qz_grading.specs.declared.refusal.Refusal.{Refusal}
 use Rattle.qz_keeper.specs.Lists.{EachMayStand, IsSettled, OneCall}
@@ -174,23 +174,23 @@ tied-calls refused Answers place before first last told left tied r =
 
 -- what came of it is told of the turn
 pub turn-of : {A K : Type 0} (refused : Refusal → A) (Answers : List Record → A → List Record → Type 0) (place : Placed) (before : Behind K) (first last : Tale Record) (old new : Standing Record Placed) (told : A) (left : OwnRecord) → IsTied place before
-    → CallReplies (IsLegal before.shard.index before.shard.count) refused Answers first last told left → new.found ≡ first → new.seen ≡ last → Follows old.seen new.found → Follows new.found new.seen → new.numbers ≡ old.numbers → new.lock ≡ old.lock
+    → CallReplies (IsLegal before.shard.index before.shard.count) refused Answers first last told left → new.found ≡ first → new.seen ≡ last → Follows old.seen new.found → Follows new.found new.seen → new.numbers ≡ old.numbers → new.lock ≡ old.lock → AddsTurn old new
     → TurnReplies (IsLegal place.index place.count) refused Answers old new told left
-turn-of refused Answers place before first last old new told left tied r found seen begins grows numbers lock =
-    turn-replies (IsLegal place.index place.count) refused Answers old new told left (tales-reply (IsLegal place.index place.count) refused Answers new.found new.seen first last told left found seen (tied-calls refused Answers place before first last told left tied r)) begins grows numbers lock
+turn-of refused Answers place before first last old new told left tied r found seen begins grows numbers lock turns =
+    turn-replies (IsLegal place.index place.count) refused Answers old new told left (tales-reply (IsLegal place.index place.count) refused Answers new.found new.seen first last told left found seen (tied-calls refused Answers place before first last told left tied r)) begins grows numbers lock turns
 
 turn-told : {K : Type 0} (faults : K → ℕ) (c : List Record) (moment : ℕ) (user : User) (plan : Plan) (ask : Ask) (place : Placed) (before after : Behind K) (old new : Standing Record Placed) (result : Result Replied Older) → IsTied place before
     → Comes faults c moment user plan ask before.shard after.shard result → new.found ≡ tale_of before.shard.held (faults before.shard.keeper) → new.seen ≡ tale_of after.shard.held (faults after.shard.keeper)
-    → Follows old.seen new.found → Follows new.found new.seen → new.numbers ≡ old.numbers → new.lock ≡ old.lock
+    → Follows old.seen new.found → Follows new.found new.seen → new.numbers ≡ old.numbers → new.lock ≡ old.lock → AddsTurn old new
     → IfOk result (λ told. TurnReplies (IsLegal place.index place.count) reply.Refused (ShardAnswers c moment user ask) old new told.reply told.own)
-turn-told faults c moment user plan ask place before after old new (Ok told) tied r found seen begins grows numbers lock =
-    turn-of reply.Refused (ShardAnswers c moment user ask) place before (tale_of before.shard.held (faults before.shard.keeper)) (tale_of after.shard.held (faults after.shard.keeper)) old new told.reply told.own tied r found seen begins grows numbers lock
-turn-told faults c moment user plan ask place before after old new (Err o) tied r found seen begins grows numbers lock = tt
+turn-told faults c moment user plan ask place before after old new (Ok told) tied r found seen begins grows numbers lock turns =
+    turn-of reply.Refused (ShardAnswers c moment user ask) place before (tale_of before.shard.held (faults before.shard.keeper)) (tale_of after.shard.held (faults after.shard.keeper)) old new told.reply told.own tied r found seen begins grows numbers lock turns
+turn-told faults c moment user plan ask place before after old new (Err o) tied r found seen begins grows numbers lock turns = tt
 
 pub answered-turn : {K : Type 0} (faults : K → ℕ) (c d : List Record) (moment : ℕ) (user : User) (plan : Plan) (ask : Ask) (place : Placed) (before after : Behind K) (old new : Standing Record Placed) (o : Option (Result Replied Older)) (result : Result Replied Older) → c ≡ d → IsTied place before
     → WasAnswered faults c moment user plan ask before after o → o ≡ Some result → new.found ≡ tale_of before.shard.held (faults before.shard.keeper) → new.seen ≡ tale_of after.shard.held (faults after.shard.keeper)
-    → Follows old.seen new.found → Follows new.found new.seen → new.numbers ≡ old.numbers → new.lock ≡ old.lock
+    → Follows old.seen new.found → Follows new.found new.seen → new.numbers ≡ old.numbers → new.lock ≡ old.lock → AddsTurn old new
     → IfOk result (λ told. TurnReplies (IsLegal place.index place.count) reply.Refused (ShardAnswers d moment user ask) old new told.reply told.own)
-answered-turn faults c d moment user plan ask place before after old new o result same tied w is found seen begins grows numbers lock =
+answered-turn faults c d moment user plan ask place before after old new o result same tied w is found seen begins grows numbers lock turns =
     let comes = subst (λ (r : Result Replied Older). Comes faults c moment user plan ask before.shard after.shard r) (one-told o w.result result w.told_is is) w.comes in
-    turn-told faults d moment user plan ask place before after old new result tied (subst (λ (l : List Record). Comes faults l moment user plan ask before.shard after.shard result) same comes) found seen begins grows numbers lock
+    turn-told faults d moment user plan ask place before after old new result tied (subst (λ (l : List Record). Comes faults l moment user plan ask before.shard after.shard result) same comes) found seen begins grows numbers lock turns

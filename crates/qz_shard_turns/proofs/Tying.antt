@@ -3,7 +3,9 @@ use Rattle.std.proofs.Common.{◌≡◌, ◌⊎◌, ⊎_elim, ℕ, ◌≤◌, Bo
 use Rattle.std.specs.Prelude.{if◌then◌else◌, nat_lt}
 use Rattle.std.proofs.lemmas.Bool.{ltb-false}
 use Rattle.std.proofs.lemmas.List.{nil_from_length}
+use Rattle.std.proofs.lemmas.List.Elements.{All-nil}
 use mathlib.Core.List.{IsPrefix}
+use Rattle.qz_catalog_turns.specs.Turning.{IsLook}
 use Rattle.qz_grading.specs.declared.refusal.Refusal.{Refusal}
 use Rattle.qz_keeper.specs.Lists.{EachMayStand, Looks, OneCall}
 use Rattle.qz_shard.specs.Keeping as part
@@ -12,11 +14,12 @@ use Rattle.qz_school.proofs.Agreeing.{all-longer}
 use Rattle.qz_terms.specs.declared.record.Record.{Record}
 use Rattle.qz_terms.specs.Legal.{AllAgree, IsLegalCatalog}
 use Rattle.qz_turn.specs.declared.view.Tale.{Tale}
+use Rattle.qz_turn.specs.declared.view.Turn.{Turn}
 use Rattle.qz_turn.specs.Passes.{Standing}
 use Rattle.qz_turn.specs.Tales.{Follows}
-use Rattle.qz_turn.proofs.Prefixes.{prefix_self}
+use Rattle.qz_turn.proofs.Prefixes.{follows_self, prefix_self}
 use Rattle.qz_turn.specs.Turns.{Joins, note_of}
-use Rattle.qz_shard_turns.specs.Tying.{Behind, IsTied, Placed, SeesMore, WasFound}
+use Rattle.qz_shard_turns.specs.Tying.{Behind, HasLooked, IsTied, Placed, SeesMore, WasFound}
 
 -- ---- the shard
 
@@ -93,9 +96,26 @@ joined-more before other after j none = record {
   lock = j.lock;
 }
 
+-- ---- turns that put no record
+
+-- none was taken
+pub looked-still : {K : Type 0} (old new : Standing Record K) → SeesMore old new → new.turns ≡ old.turns → HasLooked old new
+looked-still old new sees same = record {
+  sees = sees;
+  looks = record { turns = []; added = same ∙ sym (append-nil old.turns); looks = All-nil IsLook };
+}
+
+pub looked-self : {K : Type 0} (p : Standing Record K) → HasLooked p p
+looked-self p = looked-still p p (record { begins = follows_self p.seen; numbers = refl; lock = refl }) refl
+
+-- a pass that took none was joined into another
+pub looked-joined : {K : Type 0} (before other after : Standing Record K) → Joins before other after → other.numbers ≡ [] → other.turns ≡ [] → HasLooked before after
+looked-joined before other after j none idle =
+    looked-still before after (joined-more before other after j none) (j.turns ∙ ap (λ (l : List (Turn Record)). before.turns ++ l) idle ∙ append-nil before.turns)
+
 -- ---- a turn
 
-one-some : {A : Type 0} (o : Option A) (a b : A) → o ≡ Some a → o ≡ Some b → a ≡ b
+pub one-some : {A : Type 0} (o : Option A) (a b : A) → o ≡ Some a → o ≡ Some b → a ≡ b
 one-some o a b one other = cc
 
 -- what an errand was given has seen what the shard's records agree with

@@ -4,7 +4,7 @@ use mathlib.Core.List.{IsPrefix}
 use Rattle.qz_catalog.specs.Holdings.{lean}
 use Rattle.qz_catalog_turns.specs.declared.replied.Replied.{Replied}
 use Rattle.qz_catalog_turns.specs.Owning.{CallReplies}
-use Rattle.qz_catalog_turns.specs.Turning.{held_of, tale_of}
+use Rattle.qz_catalog_turns.specs.Turning.{AddsTurn, held_of, tale_of}
 use Rattle.qz_school.specs.Agreement.{HasQuizReady, is_start}
 use Rattle.qz_serial.specs.Calls.{ShardAnswers}
 use Rattle.qz_shard.specs.declared.shard.Older.{Older}
@@ -90,3 +90,4 @@ pub record TurnIsOlder {K : Type 0} (plan : Plan) (x : Request) (old new : Stand
   pub older : part.IsOlder plan x (held_of new.found) (held_of new.seen) floor
   pub numbers : new.numbers ≡ old.numbers
   pub lock : new.lock ≡ old.lock
+  pub turns : AddsTurn old new

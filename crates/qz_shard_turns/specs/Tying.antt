@@ -1,6 +1,6 @@
 -- A shard behind its lock, tied to the catalogue behind another.
 use Rattle.std.specs.Prelude.{◌≡◌, ℕ, List, Option, Some, Result, Err}
-use Rattle.qz_catalog_turns.specs.Turning.{Calls, tale_of}
+use Rattle.qz_catalog_turns.specs.Turning.{Calls, Looked, tale_of}
 use Rattle.qz_grading.specs.declared.refusal.Refusal.{Refusal}
 use Rattle.qz_keeper.specs.Lists.{EachMayStand, Looks}
 use Rattle.qz_shard.specs.Keeping as part
@@ -40,6 +40,11 @@ pub record SeesMore {K : Type 0} (old new : Standing Record K) : Type 0 where
   pub begins : Follows old.seen new.seen
   pub numbers : new.numbers ≡ old.numbers
   pub lock : new.lock ≡ old.lock
+
+-- and none of its turns since then put a record
+pub record HasLooked {K : Type 0} (old new : Standing Record K) : Type 0 where
+  pub sees : SeesMore old new
+  pub looks : Looked old new
 
 -- a shard's lock is tied to the catalogue's
 pub record IsTiedTo (parts : Lock Placed) (records : Lock (Unit {0})) : Type 0 where

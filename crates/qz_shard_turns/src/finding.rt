@@ -6,7 +6,7 @@ ghost use Rattle.qz_shard.specs.Keeping.{TellsQuiz};
 ghost use Rattle.qz_terms.specs.Legal.{AllAgree, IsLegal};
 ghost use Rattle.qz_turn.specs.Turns.{UnderKey};
 ghost use Rattle.qz_catalog_turns.specs.Turning.{TurnCalls};
-ghost use Rattle.qz_shard_turns.specs.Tying.{IsTiedTo, SeesMore};
+ghost use Rattle.qz_shard_turns.specs.Tying.{HasLooked, IsTiedTo};
 
 use crate::part::Part;
 use qz_catalog_turns::Records;
@@ -47,7 +47,7 @@ impl<'r, K: Keeper> Errand<Part<K>> for Finding<'r, K> {
 
 /// The quiz of an attempt. Where there is no such attempt it is `Unknown`.
 ///
-/// Where it is told, the pass of the catalogue has then seen a list with which the shard's records agree, so that the quiz is in it. Else
+/// Where it is told, the pass of the catalogue, which takes no turn, has then seen a list with which the shard's records agree, so that the quiz is in it. Else
 /// that pass stays as it is.
 pub fn quiz_of<K: Keeper, R: Wait>(
     records: &Turns<Records<K>>,
@@ -64,7 +64,7 @@ pub fn quiz_of<K: Keeper, R: Wait>(
     requires tie { IsTiedTo parts.now.lock records.now.lock }
     ensures turn { UnderKey parts.now.lock (λ place. TurnCalls (IsLegal place.index place.count)
         (λ r. Err r) (Looks (TellsQuiz attempt)) pass.old pass.new result) }
-    ensures seen { SeesMore seen.old seen.new }
+    ensures seen { HasLooked seen.old seen.new }
     ensures agree { IfOk result (λ _. AllAgree seen.new.seen.list pass.new.seen.list) }
     ensures unseen { IfErr result (λ _. seen.new ≡ seen.old) }
 {

@@ -19,24 +19,26 @@ pub record Deals {I K S : Type 0} (id : TableId) (v : View I K) (count number : 
   pub numbers : m.0.numbers ≡ range_with_len number (count - number)
   pub found : m.0.found ≡ v.seen
   pub seen : m.0.seen ≡ v.seen
+  pub fresh : m.0.turns ≡ []
   pub passes_are : passes ≡ map (dealt_pass id v) (below number)
 
 module _ {I K S : Type 0} (id : TableId) (count : ℕ) where
   pub deals_none : (m : Me S (View I K)) (passes : List (Standing I K)) → MayDeal count m → passes ≡ [] → Deals id m.0 count 0 m passes
-  deals_none m passes may none = record { rests = may.rests; bare = may.bare; key = refl; numbers = may.numbers ∙ ap (range_with_len 0) (omega arith); found = may.found; seen = refl; passes_are = none }
+  deals_none m passes may none = record { rests = may.rests; bare = may.bare; key = refl; numbers = may.numbers ∙ ap (range_with_len 0) (omega arith); found = may.found; seen = refl; fresh = may.fresh; passes_are = none }
 
   pub deals_one : (v : View I K) (number : ℕ) (m m' : Me S (View I K)) (passes : List (Standing I K)) (pass : Standing I K) → Deals id v count number m passes → number < count
       → m' ≡ (dealing m.0, m.1) → pass ≡ standing_at id (dealt_to m.0) → Deals id v count (number + 1) m' (passes ++ pass ∷ [])
   deals_one v number m m' passes pass was left next is =
       let some_left : count - number ≡ suc (count - (number + 1)) = omega arith in
       let run : m.0.numbers ≡ number ∷ range_with_len (number + 1) (count - (number + 1)) = was.numbers ∙ ap (range_with_len number) some_left in
-      let dealt : pass ≡ dealt_pass id v number = is ∙ (λ i. record { lock = record { table = id; key = was.key i }; numbers = take 1 (run i); found = was.found i; seen = was.seen i }) in record {
+      let dealt : pass ≡ dealt_pass id v number = is ∙ (λ i. record { lock = record { table = id; key = was.key i }; numbers = take 1 (run i); found = was.found i; seen = was.seen i; turns = was.fresh i }) in record {
         rests = ap (λ z. z.0.stage) next ∙ was.rests;
         bare = ap (λ z. z.1) next ∙ was.bare;
         key = ap (λ z. z.0.key) next ∙ was.key;
         numbers = ap (λ z. z.0.numbers) next ∙ ap (drop 1) run;
         found = ap (λ z. z.0.found) next ∙ was.found;
         seen = ap (λ z. z.0.seen) next ∙ was.seen;
+        fresh = ap (λ z. z.0.turns) next ∙ was.fresh;
         passes_are = (λ i. was.passes_are i ++ dealt i ∷ []) ∙ sym (map-range_with_len_more (dealt_pass id v) 0 number number (omega arith));
       }
 

@@ -94,4 +94,4 @@ module _ {I K S : Type 0} (tells : S → Tale I) (fits : K → S → Type 0) (ke
 
 -- the first seat of a new table: it has all numbers, and deals them out
 abbrev pub dealer : {I K : Type 0} → K → Tale I → ℕ → View I K
-dealer key tale seats = record { key = Some key; numbers = below seats; stage = Resting; found = tale; seen = tale; beside = blank }
+dealer key tale seats = record { key = Some key; numbers = below seats; stage = Resting; found = tale; seen = tale; turns = []; beside = blank }

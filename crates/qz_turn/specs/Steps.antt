@@ -7,7 +7,7 @@ use Rattle.qz_turn.specs.declared.view.Tale.{Tale}
 use Rattle.qz_turn.specs.declared.view.Stage.TheVariants.{Resting, Waiting, Serving}
 use Rattle.qz_turn.specs.declared.view.View.{View}
 use Rattle.qz_turn.specs.Rule.{below}
-use Rattle.qz_turn.specs.Tales.{Follows, merged, blank, CanGo, KeepsFit}
+use Rattle.qz_turn.specs.Tales.{Follows, merged, blank, turn, CanGo, KeepsFit}
 
 module _ {I K : Type 0} where
   -- the seat has drawn the ticket t
@@ -20,7 +20,7 @@ module _ {I K : Type 0} where
 
   -- it gave the turn on, and the value told the tale
   abbrev pub served : Tale I → View I K → View I K
-  served tale v = record v { stage = Resting; seen = tale }
+  served tale v = record v { stage = Resting; seen = tale; turns = v.turns ++ turn v.found tale ∷ [] }
 
   -- it gave its first number away
   abbrev pub dealing : View I K → View I K
@@ -32,11 +32,11 @@ module _ {I K : Type 0} where
 
   -- a new seat without a number, which has seen the same
   abbrev pub noted : View I K → View I K
-  noted v = record v { numbers = []; stage = Resting; beside = blank }
+  noted v = record v { numbers = []; stage = Resting; turns = []; beside = blank }
 
   -- the seat took in another one, whose tale is to be compared
   abbrev pub joining : View I K → View I K → View I K
-  joining v w = record v { numbers = v.numbers ++ w.numbers; beside = w.seen }
+  joining v w = record v { numbers = v.numbers ++ w.numbers; turns = v.turns ++ w.turns; beside = w.seen }
 
   -- it compared the two tales
   abbrev pub compared : View I K → View I K
@@ -140,15 +140,16 @@ pub record HasServed {I K S E : Type 0} (tells : S → Tale I) (fits : K → S �
   pub before : S
   pub after : S
   pub went : does errand before after done
-  pub rests : m' ≡ (record m.0 { stage = Resting; found = tells before; seen = tells after }, [])
+  pub rests : m' ≡ (record m.0 { stage = Resting; found = tells before; seen = tells after; turns = m.0.turns ++ turn (tells before) (tells after) ∷ [] }, [])
   pub begins : Follows m.0.seen (tells before)
   pub grows : Follows (tells before) (tells after)
   pub fits_before : (key : K) → m.0.key ≡ Some key → fits key before
   pub fits_after : (key : K) → m.0.key ≡ Some key → fits key after
 
--- the seat rests, with the numbers below the count and no slot, and has found what it has seen
+-- the seat rests, with the numbers below the count and no slot, has found what it has seen, and took no turn
 pub record MayDeal {I K S : Type 0} (count : ℕ) (m : Me S (View I K)) : Type 0 where
   pub rests : m.0.stage ≡ Resting
   pub numbers : m.0.numbers ≡ below count
   pub found : m.0.found ≡ m.0.seen
+  pub fresh : m.0.turns ≡ []
   pub bare : m.1 ≡ []

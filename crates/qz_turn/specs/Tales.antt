@@ -2,6 +2,7 @@
 use Rattle.std.specs.Prelude.{◌≤◌, [], length, None, max, if◌then◌else◌, nat_lt}
 use mathlib.Core.List.{IsPrefix}
 use Rattle.qz_turn.specs.declared.view.Tale.{Tale}
+use Rattle.qz_turn.specs.declared.view.Turn.{Turn}
 
 -- the later tale goes on from the earlier one: its list begins with the earlier list, and its count of faults is
 -- no smaller
@@ -12,6 +13,10 @@ pub record Follows {I : Type 0} (earlier later : Tale I) : Type 0 where
 -- nothing was told
 abbrev pub blank : {I : Type 0} → Tale I
 blank = record { list = []; doubt = None; faults = 0 }
+
+-- a turn that found the one and left the other
+abbrev pub turn : {I : Type 0} → Tale I → Tale I → Turn I
+turn found left = record { found = found; left = left }
 
 -- the tale with the longer list, and the first of two that are equally long
 abbrev pub longer : {I : Type 0} → Tale I → Tale I → Tale I

@@ -3,8 +3,9 @@ use Rattle.std.specs.Prelude.{◌≡◌, ℕ, ◌⊎◌, [], ◌∷◌, ◌++◌
 use mathlib.Core.List.{IsPrefix}
 use Rattle.atomic_table.specs.Seated.{TableId}
 use Rattle.qz_turn.specs.declared.view.Tale.{Tale}
+use Rattle.qz_turn.specs.declared.view.Turn.{Turn}
 use Rattle.qz_turn.specs.declared.view.View.{View}
-use Rattle.qz_turn.specs.Tales.{Follows, merged}
+use Rattle.qz_turn.specs.Tales.{Follows, merged, turn}
 use Rattle.qz_turn.specs.Passes.{Lock, Standing}
 use Rattle.qz_turn.specs.Rule.{below}
 
@@ -21,9 +22,9 @@ pub record UnderKey {K : Type 0} (lock : Lock K) (holds : K → Type 0) : Type 0
   pub at : (key : K) → lock.key ≡ Some key → holds key
 
 module _ {I K : Type 0} where
-  -- a new pass: it has one number, and has seen what the value told
+  -- a new pass: it has one number, has seen what the value told, and took no turn
   abbrev pub new_pass : Lock K → Tale I → ℕ → Standing I K
-  new_pass lock tale number = record { lock = lock; numbers = number ∷ []; found = tale; seen = tale }
+  new_pass lock tale number = record { lock = lock; numbers = number ∷ []; found = tale; seen = tale; turns = [] }
 
   -- the pass that is dealt a number by a seat with this view
   abbrev pub dealt_pass : TableId → View I K → ℕ → Standing I K
@@ -31,31 +32,36 @@ module _ {I K : Type 0} where
 
   -- the first pass: it has every number, and has seen what the value told
   abbrev pub first_pass : Lock K → Tale I → ℕ → Standing I K
-  first_pass lock tale seats = record { lock = lock; numbers = below seats; found = tale; seen = tale }
+  first_pass lock tale seats = record { lock = lock; numbers = below seats; found = tale; seen = tale; turns = [] }
 
   -- a pass that has given its first number away
   abbrev pub left_of : Standing I K → Standing I K
-  left_of pass = record { lock = pass.lock; numbers = drop 1 pass.numbers; found = pass.found; seen = pass.seen }
+  left_of pass = record { lock = pass.lock; numbers = drop 1 pass.numbers; found = pass.found; seen = pass.seen; turns = pass.turns }
 
-  -- the pass that has it, which has seen the same
+  -- the pass that has it, which has seen the same, with the turns that led to it
   abbrev pub split_off : Standing I K → Standing I K
-  split_off pass = record { lock = pass.lock; numbers = take 1 pass.numbers; found = pass.found; seen = pass.seen }
+  split_off pass = record { lock = pass.lock; numbers = take 1 pass.numbers; found = pass.found; seen = pass.seen; turns = pass.turns }
 
-  -- a pass without a number, which has seen the same
+  -- a pass without a number, which has seen the same, and took no turn
   abbrev pub note_of : Standing I K → Standing I K
-  note_of pass = record { lock = pass.lock; numbers = []; found = pass.found; seen = pass.seen }
+  note_of pass = record { lock = pass.lock; numbers = []; found = pass.found; seen = pass.seen; turns = [] }
 
-  -- one of the two lists begins the other; the longer list is kept, the greater count of faults, and all numbers
+  -- the last turn that a pass took
+  abbrev pub last_turn : Standing I K → Turn I
+  last_turn pass = turn pass.found pass.seen
+
+  -- one of the two lists begins the other; the longer list is kept, the greater count of faults, all numbers, and all turns
   pub record Joins (before other after : Standing I K) : Type 0 where
     pub one_list : IsPrefix before.seen.list other.seen.list ⊎ IsPrefix other.seen.list before.seen.list
     pub seen : after.seen ≡ merged before.seen other.seen
     pub found : after.found ≡ before.found
     pub numbers : after.numbers ≡ before.numbers ++ other.numbers
+    pub turns : after.turns ≡ before.turns ++ other.turns
     pub lock : after.lock ≡ before.lock
 
 module _ {I K S E : Type 0} (tells : S → Tale I) (fits : K → S → Type 0) (does : E → S → S → E → Type 0) where
   -- A turn: the errand went once, from a value that tells what was found to one that tells what is seen now. What had
-  -- been seen begins what was found, and that begins what is seen now.
+  -- been seen begins what was found, and that begins what is seen now. The turn stands behind those that the pass took.
   pub record HasTurn (before after : Standing I K) (errand done : E) : Type 0 where
     pub value_before : S
     pub value_after : S
@@ -68,3 +74,4 @@ module _ {I K S E : Type 0} (tells : S → Tale I) (fits : K → S → Type 0) (
     pub fits_after : UnderKey before.lock (λ key. fits key value_after)
     pub numbers : after.numbers ≡ before.numbers
     pub lock : after.lock ≡ before.lock
+    pub turns : after.turns ≡ before.turns ++ last_turn after ∷ []

@@ -9,6 +9,12 @@ pub struct Tale<I> {
     pub faults: u64,
 }
 
+/// What one turn did: what the value told as it began, and as it ended.
+pub struct Turn<I> {
+    pub found: Tale<I>,
+    pub left: Tale<I>,
+}
+
 /// A seat waits with a ticket until its turn has come, and serves until it gives the turn on.
 pub enum Stage {
     Resting,
@@ -24,6 +30,8 @@ pub struct View<I, K> {
     /// What the value told as the last turn began, and as it ended.
     pub found: Tale<I>,
     pub seen: Tale<I>,
+    /// Each turn that it took, in order, with those of the seats that were joined in.
+    pub turns: LinkedList<Turn<I>>,
     /// What the seat that was joined in last had seen.
     pub beside: Tale<I>,
 }

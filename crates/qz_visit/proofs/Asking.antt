@@ -38,11 +38,12 @@ use Rattle.qz_terms.specs.SchoolAnswer.{first_refusal, part_of, refusal_among}
 use Rattle.qz_terms.specs.Serial.{Held, Mended, stays}
 use Rattle.qz_turn.specs.declared.view.Tale.{Tale}
 use Rattle.qz_visit.specs.Tokens.{IsKnownTo}
-use Rattle.qz_visit.specs.Visits.{IsFoundBy, Visited, at_part, refusing}
+use Rattle.qz_visit.specs.Visits.{IsFoundBy, TookTurn, Visited, at_part, refusing}
 use Rattle.qz_visit.specs.Ways as way
 use Rattle.qz_visit.specs.Ways.{Answered, CameTo, Part, Seen, refused_with}
 use Rattle.qz_visit.proofs.Owning.{as_seen, call_again, ends_again, ends_mend, found_mended, found_settled, leaves_grow, look_again, with_held}
-use Rattle.qz_visit.proofs.Passing.{Either, asked_mean, by_catalog, count_helds, found_looked, found_rested, found_sees, found_turned, held_there, helds, lists, seats, sees_self, visited_both, visited_records, visited_still}
+use Rattle.qz_visit.proofs.Passing.{Either, asked_mean, by_catalog, count_helds, found_looked, found_rested, held_there, helds, lists, seats, took_sees, took_turned, visited_both, visited_records, visited_still}
+use Rattle.qz_shard_turns.proofs.Tying.{looked-self}
 
 -- ---- what is asked
 
@@ -151,7 +152,7 @@ records_visited so sn ps now ask user told some may k of_catalog t =
     let says = records.IsTold now user ask in
     let whole = call_again failed reply.Refused says (held_of sn.found) (held_of sn.seen) told.reply t.turn.calls.call in
     let call = (calls_mean failed failed reply.Refused says (CatalogAnswers now user ask)).each m (held_of sn.seen) told.reply (λ why. why) (λ h x g is. (is.reply, is.list)) whole in
-    let found = found_mended so sn m (found_turned IsLegalCatalog reply.Refused says so sn told.reply t.turn) t.turn.calls.call.mends (leaves_grow m (held_of sn.seen) told.own t.leaves) in
+    let found = found_mended so sn m (took_turned IsLegalCatalog reply.Refused says so sn told.reply t.turn) t.turn.calls.call.mends (leaves_grow m (held_of sn.seen) told.own t.leaves) in
     visited_records so sn ps (with_held sn m) now ask told found t.leaves
     (records-split so (record sn { found = with_held sn m }) ps now ask user told.reply some may k of_catalog found.begins.begins (split failed reply.Refused (CatalogAnswers now user ask) m (held_of sn.seen) told.reply call))
 
@@ -203,7 +204,7 @@ part-token failed h m hs k now old held new ask user told can known goes at call
 
 -- the shard answered, under what was found of the catalogue
 pub part_visited : (so sn : Seen) (ps : List Part) (k : ℕ) (po pn : Part) (found : Tale Record) (now : ℕ) (ask : Ask) (user : User) (told : Replied) → 0 < length ps → slice_get ps k ≡ Some po → MayBeAsked ask now → IsKnownTo so ask user → GoesTo (length ps) user ask.request k
-    → IsFoundBy so sn found → Leaves (held_of found) (held_of sn.seen) own.Absent → IsSettled (held_of found) (held_of sn.seen) → user_of sn.seen.list ask.caller ≡ Some user → first_refusal sn.seen.list user ask.request ≡ None → IsFoundBy po pn pn.found → Answered sn.seen.list now ask user pn told
+    → IsFoundBy so sn found → Leaves (held_of found) (held_of sn.seen) own.Absent → IsSettled (held_of found) (held_of sn.seen) → user_of sn.seen.list ask.caller ≡ Some user → first_refusal sn.seen.list user ask.request ≡ None → TookTurn po pn → Answered sn.seen.list now ask user pn told
     → Visited (seats so ps) (seats sn (slice_set ps k pn)) now ask (at_part k told)
 part_visited so sn ps k po pn found now ask user told some at may known g first left settled user_found free second is =
     let m = is.call.mended in
@@ -229,7 +230,7 @@ came_visited so sn ps k po pn now ask user told some at may known g (way.answere
     let other : Answered so.seen.list now ask user pn told = subst (λ (s : Seen). Answered s.seen.list now ask user pn told) same is in
     let clear : first_refusal so.seen.list user ask.request ≡ None = subst (λ (s : Seen). first_refusal s.seen.list user ask.request ≡ None) same free in
     subst (λ (s : Seen). Visited (seats so ps) (seats s (slice_set ps k pn)) now ask (at_part k told)) (sym same)
-    (part_visited so so ps k po pn so.seen now ask user told some at may known g (found_rested so so (sees_self so)) (absent (held_of so.seen)) (settled_self (held_of so.seen) known.known.no_doubt) known.known.found clear second other)
+    (part_visited so so ps k po pn so.seen now ask user told some at may known g (found_rested so so (looked-self so)) (absent (held_of so.seen)) (settled_self (held_of so.seen) known.known.no_doubt) known.known.found clear second other)
 came_visited so sn ps k po pn now ask user told some at may known g (way.refused r first settled user_found refuses second is) =
     let failed = Either (as_seen sn) sn pn.seen pn in
     let hs = slice_set (helds ps) k (held_of pn.seen) in
@@ -249,12 +250,12 @@ came_visited so sn ps k po pn now ask user told some at may known g (way.untold 
     (lost-token failed (held_of sn.seen) (held_of sn.seen) hs now ask known.token r (askable (held_of sn.seen) hs (length ps) now ask some (count_set ps k (held_of pn.seen)) may) known.caller_is (lost_again failed (held_of sn.found) (held_of sn.seen) r ends))))
 
 -- a look at the catalogue that didn't tell what was looked for, in a request that goes to shards
-pub unlooked_visited : (so sn : Seen) (ps : List Part) (now : ℕ) (ask : Ask) (user : User) (r : Refusal) → 0 < length ps → MayBeAsked ask now → IsKnownTo so ask user → asks_catalog ask.request ≡ false → IsFoundBy so sn sn.found
+pub unlooked_visited : (so sn : Seen) (ps : List Part) (now : ℕ) (ask : Ask) (user : User) (r : Refusal) → 0 < length ps → MayBeAsked ask now → IsKnownTo so ask user → asks_catalog ask.request ≡ false → TookTurn so sn
     → (IsSettled (held_of sn.found) (held_of sn.seen) × (refusal_among sn.seen.list (length ps) user ask.request ≡ Some r)) ⊎ LookEnds (HasRisen sn.found.faults sn.seen.faults) (λ r. Err r) (λ (_ : List Record) (_ : Result (Unit {0}) Refusal). ⊥) (held_of sn.found) (held_of sn.seen) (Err r)
     → Visited (seats so ps) (seats sn ps) now ask (refusing r)
 unlooked_visited so sn ps now ask user r some may k other first (inl both) =
     let failed = HasRisen sn.found.faults sn.seen.faults in
-    let found = user_on so.seen.list sn.seen.list ask.caller user (found_sees so sn sn.found first).begins.begins k.known.found in
+    let found = user_on so.seen.list sn.seen.list ask.caller user (took_sees so sn first).begins.begins k.known.found in
     visited_records so sn ps (as_seen sn) now ask (refused_with r) (found_settled so sn first both.0.mends) (absent (held_of sn.seen))
     ((tokens_law failed).refused (lists (held_of sn.seen) (helds ps)) (held_of sn.seen) now ask user r (askable (held_of sn.seen) (helds ps) (length ps) now ask some (count_helds ps) may)
     (record { token = k.token; caller_is = k.caller_is; settled = settled_self (held_of sn.seen) both.0.no_doubt; found = found }) other (subst (λ (n : ℕ). refusal_among sn.seen.list n user ask.request ≡ Some r) (sym (count_helds ps)) both.1))

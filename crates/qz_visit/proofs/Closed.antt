@@ -230,9 +230,9 @@ other_lock ls before others now left o l own so lock =
 -- a pass that another was joined into
 pub joined_keeps : (before other after : Seen) → Joins before other after → KeepsAll before after
 joined_keeps before other after j =
-    let bare : Seen = record { lock = other.lock; numbers = []; found = other.found; seen = other.seen } in
-    let same : Seen = record { lock = after.lock; numbers = before.numbers; found = after.found; seen = after.seen } in
-    let joins : Joins before bare same = record { one_list = j.one_list; seen = j.seen; found = j.found; numbers = sym (append-nil before.numbers); lock = j.lock } in
+    let bare : Seen = record { lock = other.lock; numbers = []; found = other.found; seen = other.seen; turns = other.turns } in
+    let same : Seen = record { lock = after.lock; numbers = before.numbers; found = after.found; seen = after.seen; turns = after.turns } in
+    let joins : Joins before bare same = record { one_list = j.one_list; seen = j.seen; found = j.found; numbers = sym (append-nil before.numbers); turns = j.turns; lock = j.lock } in
     record {
       begins = (joined-more before bare same joins refl).begins;
       every = λ n has. record { number = λ k within. subst (λ (l : List ℕ). Contains l k) (sym j.numbers) (Contains-append_left before.numbers other.numbers k (has.number k within)) };

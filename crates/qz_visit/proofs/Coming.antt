@@ -15,8 +15,8 @@ use Rattle.qz_serial.proofs.Workers.{err-is}
 use Rattle.qz_shard.specs.Holdings.{Holding}
 use Rattle.qz_shard.specs.Keeping.{TellsQuiz}
 use Rattle.qz_shard.specs.Works.{IsWorked}
-use Rattle.qz_shard_turns.specs.Tying.{SeesMore}
-use Rattle.qz_shard_turns.proofs.Tying.{agree-on}
+use Rattle.qz_shard_turns.specs.Tying.{HasLooked, SeesMore}
+use Rattle.qz_shard_turns.proofs.Tying.{agree-on, looked-self}
 use Rattle.qz_school.specs.Planning.{NamesQuiz, grades, starts}
 use Rattle.qz_school.proofs.Planning.{absent_means, named_free, plan_there, quiz_free, refused_quiz}
 use Rattle.qz_school.proofs.Missing.{job_absent, job_present}
@@ -33,12 +33,12 @@ use Rattle.qz_terms.specs.Cause.{forbidden, missing_quiz, missing_user}
 use Rattle.qz_terms.specs.History as history
 use Rattle.qz_terms.specs.Legal.{AllAgree, is_here}
 use Rattle.qz_terms.specs.SchoolAnswer.{part_of}
-use Rattle.qz_visit.specs.Visits.{IsFoundBy}
+use Rattle.qz_visit.specs.Visits.{IsFoundBy, TookTurn}
 use Rattle.qz_visit.specs.Ways as way
 use Rattle.qz_visit.specs.Ways.{Answered, CameTo, Comes, IsKnownBy, Part, Planned, Seen, Stepped, Tried, refused_with}
 use Rattle.qz_visit.proofs.Asking.{untold_split, user_on}
 use Rattle.qz_visit.proofs.Owning.{ends_mend, look_is_call}
-use Rattle.qz_visit.proofs.Passing.{found_after, found_rested, found_sees, found_turned, put_none, sees_self}
+use Rattle.qz_visit.proofs.Passing.{found_after, found_rested, put_none, took_after, took_sees, took_turned}
 
 -- a user who was seen is seen still
 seen-user : (so sn : Seen) (ask : Ask) (user : User) → SeesMore so sn → catalog.user_of so.seen.list ask.caller ≡ Some user → catalog.user_of sn.seen.list ask.caller ≡ Some user
@@ -61,7 +61,7 @@ look-answered c pn now ask user refused Says told said ends means same =
 -- ---- under the plan of a quiz that the request names
 
 planless-quiz : (so sn : Seen) (po pn : Part) (now : ℕ) (ask : Ask) (user : User) (quiz owner : ℕ) (whole : Bool) (r : Refusal) → catalog.user_of sn.seen.list ask.caller ≡ Some user → forbidden user ask.request ≡ None → NamesQuiz user ask.request quiz owner whole
-    → IsFoundBy so sn sn.found → IsFoundBy po pn pn.seen
+    → TookTurn so sn → IsFoundBy po pn pn.seen
     → (IsSettled (held_of sn.found) (held_of sn.seen) × (first_some (missing_quiz sn.seen.list quiz ∷ missing_user sn.seen.list owner ∷ []) ≡ Some r)) ⊎ LookEnds (HasRisen sn.found.faults sn.seen.faults) (λ r. Err r) (λ (_ : List Record) (_ : Result (Unit {0}) Refusal). ⊥) (held_of sn.found) (held_of sn.seen) (Err r)
     → CameTo so sn po pn now ask user (refused_with r)
 planless-quiz so sn po pn now ask user quiz owner whole r found may names first second (inl both) =
@@ -71,10 +71,10 @@ planless-quiz so sn po pn now ask user quiz owner whole r found may names first 
 pub quiz_came : (so sn : Seen) (po pn : Part) (now : ℕ) (ask : Ask) (user : User) (quiz owner : ℕ) (whole : Bool) (told : Replied) → IsKnownBy so ask user → forbidden user ask.request ≡ None → NamesQuiz user ask.request quiz owner whole
     → Planned so sn po pn now ask user quiz owner whole told → CameTo so sn po pn now ask user told
 quiz_came so sn po pn now ask user quiz owner whole told known may names (way.under p first mended plan second is) =
-    let found = seen-user so sn ask user (found_sees so sn sn.found first) known.found in
+    let found = seen-user so sn ask user (took_sees so sn first) known.found in
     way.answered first mended found (quiz_free sn.seen.list ask.caller user ask.request quiz owner whole found may names plan.there) second is
 quiz_came so sn po pn now ask user quiz owner whole told known may names (way.planless r first untold second clear is) =
-    let found = seen-user so sn ask user (found_sees so sn sn.found first) known.found in
+    let found = seen-user so sn ask user (took_sees so sn first) known.found in
     subst (CameTo so sn po pn now ask user) (sym is)
     (planless-quiz so sn po pn now ask user quiz owner whole r found may names first second (untold_split (HasRisen sn.found.faults sn.seen.faults) (TellsPlan quiz owner whole) (held_of sn.found) (held_of sn.seen) r untold))
 
@@ -100,15 +100,15 @@ no_missing sm sn pm attempt q r sees agree of_quiz first =
     absurd cc
 
 attempt-planned : (so sm sn : Seen) (po pm pn : Part) (now : ℕ) (ask : Ask) (user : User) (attempt : AttemptId) (q : ℕ) (told : Replied) → catalog.user_of so.seen.list ask.caller ≡ Some user → forbidden user ask.request ≡ None → attempt_named ask.request ≡ Some attempt
-    → SeesMore so sm → SeesMore po pm → history.quiz pm.seen.list attempt ≡ Some q → AllAgree sm.seen.list pm.seen.list → Planned sm sn pm pn now ask user q attempt.user false told → CameTo so sn po pn now ask user told
+    → HasLooked so sm → HasLooked po pm → history.quiz pm.seen.list attempt ≡ Some q → AllAgree sm.seen.list pm.seen.list → Planned sm sn pm pn now ask user q attempt.user false told → CameTo so sn po pn now ask user told
 attempt-planned so sm sn po pm pn now ask user attempt q told known may named sees looks of_quiz agree (way.under p first mended plan second is) =
-    let whole = found_after so sm sn sn.found sees first in
-    way.answered whole mended (seen-user so sn ask user (found_sees so sn sn.found whole) known) (named_free sn.seen.list (over pn.seen.list) user ask.request attempt may named) (found_after po pm pn pn.found looks second) is
+    let whole = took_after so sm sn sees first in
+    way.answered whole mended (seen-user so sn ask user (took_sees so sn whole) known) (named_free sn.seen.list (over pn.seen.list) user ask.request attempt may named) (took_after po pm pn looks second) is
 attempt-planned so sm sn po pm pn now ask user attempt q told known may named sees looks of_quiz agree (way.planless r first untold second clear is) =
     subst (CameTo so sn po pn now ask user) (sym is)
     (elim (untold_split (HasRisen sn.found.faults sn.seen.faults) (TellsPlan q attempt.user false) (held_of sn.found) (held_of sn.seen) r untold) [
-      | inl both ↦ no_missing sm sn pm attempt q r (found_sees sm sn sn.found first) agree of_quiz both.1
-      | inr ends ↦ way.untold r (found_after so sm sn sn.found sees first) ends (found_after po pm pn pn.seen looks second) refl
+      | inl both ↦ no_missing sm sn pm attempt q r (took_sees sm sn first) agree of_quiz both.1
+      | inr ends ↦ way.untold r (took_after so sm sn sees first) ends (found_after po pm pn pn.seen looks second) refl
     ])
 
 pub attempt_came : (so sn : Seen) (po pn : Part) (now : ℕ) (ask : Ask) (user : User) (attempt : AttemptId) (told : Replied) → catalog.user_of so.seen.list ask.caller ≡ Some user → forbidden user ask.request ≡ None → attempt_named ask.request ≡ Some attempt
@@ -127,7 +127,7 @@ live_came P so po pn now ask user shard attempt told is may t =
     let says = λ (h : List Record) (t : Reply). t ≡ live_answer h attempt in
     let free : forbidden user (request.Live shard attempt) ≡ None = rw is at may in
     let ends = look_ends failed reply.Refused says (held_of pn.found) (held_of pn.seen) told t.calls.call in
-    way.answered_alone refl (rw (is, free) refl) (found_turned P reply.Refused (Looks says) po pn told t)
+    way.answered_alone refl (rw (is, free) refl) (took_turned P reply.Refused (Looks says) po pn told t)
     (look-answered so.seen.list pn now ask user reply.Refused says told told ends (λ said. (said ∙ rw (is, free) refl, rw (is, free) refl)) (λ r same. same))
 
 -- ---- a step of a job
@@ -155,15 +155,15 @@ pub step_came : (so sn : Seen) (po pn : Part) (now : ℕ) (ask : Ask) (user : Us
 step_came so sn po pn now ask user number shard told known may is (way.taken job first mended there second call leaves) =
     let free : forbidden user (request.Work number shard) ≡ None = rw is at may in
     let present = job_present sn.seen.list number shard job there.job_is in
-    way.answered first mended (seen-user so sn ask user (found_sees so sn sn.found first) known.found) (rw (is, free, present) refl) second (step-answer sn.seen.list pn now ask user number shard job told is may there.job_is call leaves)
+    way.answered first mended (seen-user so sn ask user (took_sees so sn first) known.found) (rw (is, free, present) refl) second (step-answer sn.seen.list pn now ask user number shard job told is may there.job_is call leaves)
 step_came so sn po pn now ask user number shard told known may is (way.jobless r first untold legal same said) =
     let free : forbidden user (request.Work number shard) ≡ None = rw is at may in
-    let rested = subst (λ (p : Part). IsFoundBy po p p.seen) (sym same) (found_rested po po (sees_self po)) in
+    let rested = subst (λ (p : Part). IsFoundBy po p p.seen) (sym same) (found_rested po po (looked-self po)) in
     subst (CameTo so sn po pn now ask user) (sym said)
     (elim (untold_split (HasRisen sn.found.faults sn.seen.faults) (TellsJob number) (held_of sn.found) (held_of sn.seen) r untold) [
       | inl both ↦
           let missing = job_absent sn.seen.list number shard legal both.1.1 in
-          way.refused r first both.0 (seen-user so sn ask user (found_sees so sn sn.found first) known.found) (rw both.1.0 (rw (is, free, missing) refl)) rested refl
+          way.refused r first both.0 (seen-user so sn ask user (took_sees so sn first) known.found) (rw both.1.0 (rw (is, free, missing) refl)) rested refl
       | inr ends ↦ way.untold r first ends rested refl
     ])
 

@@ -1,5 +1,5 @@
 -- How many records were seen of each list, without a request's own.
-use Rattle.std.proofs.Common.{◌≡◌, ◌⊎◌, inl, inr, ℕ, ◌+◌, ◌<◌, ◌≤◌, true, false, List, [], ◌∷◌, Option, Some, None, length, refl, sym, ap, ◌∙◌, subst, arith}
+use Rattle.std.proofs.Common.{◌≡◌, ◌⊎◌, inl, inr, ℕ, ◌+◌, ◌<◌, ◌≤◌, true, false, List, [], ◌∷◌, Option, Some, None, IfSome, length, refl, sym, ap, ◌∙◌, subst, arith}
 use Rattle.std.specs.Prelude.{slice_get, slice_set}
 use Rattle.std.proofs.lemmas.List.{length-append, length-map, length-set}
 use Rattle.std.proofs.lemmas.Option.{slice_get_within}
@@ -13,7 +13,7 @@ use Rattle.qz_terms.specs.Serial.{Held, is_catalog, is_part}
 use Rattle.qz_turn.specs.declared.view.Tale.{Tale}
 use Rattle.qz_visit.specs.declared.last.Last.{Last}
 use Rattle.qz_visit.specs.declared.last.Said.{Said}
-use Rattle.qz_visit.specs.Visits.{AreLeft, Asked, IsUnasked, Owns, Seats, Visited, own_if, own_kept, seen_by, seen_in, without_own}
+use Rattle.qz_visit.specs.Visits.{AreLeft, Asked, AsksInTurn, IsUnasked, Owns, Seats, Visited, own_if, own_kept, seen_by, seen_in, without_own}
 use Rattle.qz_visit.specs.Ways.{Part}
 use Rattle.qz_visit.proofs.Reporting.{count_found, count_told}
 
@@ -66,15 +66,17 @@ left-count _ _ _ (stands l r) = let long = length-append l (r ∷ []) in omega (
 left-count _ _ _ (in_doubt l r) = refl
 
 pub asked_by : (old new : Seats) (last : Last) (now : ℕ) (ask : Ask) (said : Said) → Visited old new now ask said → last.list ≡ said.list → own_kept last.put last.doubt ≡ said.own
-    → last.catalog ≡ without_own (own_if (is_catalog said.list) said.own) (length new.records.seen.list) → AreLeft said.own said.list (seen_by new.parts) last.parts → Asked old new last now ask said.reply
-asked_by old new last now ask said v list_is own_is catalog parts = record {
+    → last.catalog ≡ without_own (own_if (is_catalog said.list) said.own) (length new.records.seen.list) → AreLeft said.own said.list (seen_by new.parts) last.parts → AsksInTurn old.records new.records ask → Asked old new last now ask said.reply
+asked_by old new last now ask said v list_is own_is catalog parts in_turn = record {
   visited = record {
     found = v.found;
     records = v.records;
     parts = v.parts;
     once = v.once;
     owns = subst (λ (p : Option ℕ). Owns v.found (seen_in new) p (own_kept last.put last.doubt)) (sym list_is) (subst (λ (o : OwnRecord). Owns v.found (seen_in new) said.list o) (sym own_is) v.owns);
+    named = subst (λ (p : Option ℕ). IfSome p (λ k. k < length old.parts)) (sym list_is) v.named;
   };
+  in_turn = in_turn;
   catalog = catalog ∙ left-count _ _ _ v.owns.records;
   parts = record {
     many = parts.many ∙ length-map new.parts (λ (p : Part). p.seen) ∙ sym many;

@@ -1,5 +1,5 @@
 -- What a request leaves of its own between the lists that it found, once they were mended, and those that its passes see.
-use Rattle.std.proofs.Common.{◌≡◌, inl, ℕ, Bool, true, false, List, [], ◌∷◌, Some, refl, sym, ◌∙◌, subst, eq-eqb}
+use Rattle.std.proofs.Common.{◌≡◌, inr, ℕ, Bool, true, false, List, [], ◌∷◌, Some, refl, sym, ◌∙◌, subst, eq-eqb}
 use Rattle.std.specs.Prelude.{◌==◌, slice_get, slice_set}
 use Rattle.std.proofs.lemmas.Bool.{eqb-true}
 use mathlib.Core.List.{IsPrefix}
@@ -18,7 +18,7 @@ use Rattle.qz_terms.specs.Serial.{Held, Mended, stays}
 use Rattle.qz_turn.specs.declared.view.Tale.{Tale}
 use Rattle.qz_turn.specs.Passes.{Standing}
 use Rattle.qz_turn.proofs.Prefixes.{prefix_self, prefix_trans}
-use Rattle.qz_visit.specs.Visits.{IsFoundBy, own_if}
+use Rattle.qz_visit.specs.Visits.{IsFoundBy, TookTurn, own_if}
 
 -- ---- looks, from the mended list on
 
@@ -69,18 +69,18 @@ leaves_grow _ _ _ (absent h) = prefix_self h.list
 leaves_grow _ _ _ (stands l r) = (r ∷ [], refl)
 leaves_grow _ _ _ (in_doubt l r) = prefix_self l
 
-pub found_mended : {K : Type 0} (old new : Standing Record K) (m : Held) → IsFoundBy old new new.found → Mended (held_of new.found) m → IsPrefix m.list new.seen.list → IsFoundBy old new (with_held new m)
+pub found_mended : {K : Type 0} (old new : Standing Record K) (m : Held) → TookTurn old new → Mended (held_of new.found) m → IsPrefix m.list new.seen.list → IsFoundBy old new (with_held new m)
 found_mended old new m is mends grows =
     let grown = mended_grows (held_of new.found) m mends in
     record {
       begins = record { begins = prefix_trans old.seen.list new.found.list m.list is.begins.begins (grown.rest, sym grown.grown); faults = is.begins.faults };
       grows = record { begins = grows; faults = is.grows.faults };
-      last = inl (mends, refl);
+      turned = inr (is, (mends, refl));
       numbers = is.numbers;
       lock = is.lock;
     }
 
-pub found_settled : {K : Type 0} (old new : Standing Record K) → IsFoundBy old new new.found → Mended (held_of new.found) (held_of new.seen) → IsFoundBy old new (as_seen new)
+pub found_settled : {K : Type 0} (old new : Standing Record K) → TookTurn old new → Mended (held_of new.found) (held_of new.seen) → IsFoundBy old new (as_seen new)
 found_settled old new is mends = found_mended old new (held_of new.seen) is mends (prefix_self new.seen.list)
 
 -- ---- at each shard

@@ -1,28 +1,35 @@
 -- What requests do to passes, and the lists that these tell.
-use Rattle.std.proofs.Common.{◌≡◌, ◌⊎◌, inl, inr, ℕ, zero, suc, List, [], ◌∷◌, Some, None, length, map, refl, sym, ap, ◌∙◌, subst}
+use Rattle.std.proofs.Common.{◌≡◌, ◌⊎◌, inl, inr, ℕ, zero, suc, List, [], ◌∷◌, ◌++◌, Some, None, length, map, refl, sym, ap, ◌∙◌, subst, append_assoc}
 use Rattle.std.specs.Prelude.{slice_get, slice_set}
+use Rattle.std.proofs.lemmas.List.Elements.{All-append, All-nil, All-push}
 use Rattle.std.proofs.lemmas.List.{length-map, map-set}
-use Rattle.std.proofs.lemmas.Option.{slice_get-map}
+use Rattle.std.proofs.lemmas.Option.{slice_get-map, slice_get_within}
 use Rattle.qz_catalog_turns.specs.declared.replied.OwnRecord.TheVariants as own
 use Rattle.qz_catalog_turns.specs.declared.replied.Replied.{Replied}
 use Rattle.qz_catalog_turns.specs.Owning.{Leaves, absent}
-use Rattle.qz_catalog_turns.specs.Turning.{TurnCalls, held_of}
+use Rattle.qz_catalog_turns.specs.Turning.{IsLook, Looked, TurnCalls, held_of}
 use Rattle.qz_grading.specs.declared.refusal.Refusal.{Refusal}
 use Rattle.qz_keeper.specs.Lists.{Looks}
 use Rattle.qz_outside.specs.Causes.{HasRisen}
 use Rattle.qz_serial.specs.Once.{AskedOnce}
 use Rattle.qz_serial.proofs.Composing.{look_ends}
 use Rattle.qz_serial.proofs.Seats.{set_get}
-use Rattle.qz_shard_turns.specs.Tying.{SeesMore}
+use Rattle.qz_shard_turns.specs.Posing.{TurnIsOlder}
+use Rattle.qz_shard_turns.specs.Tying.{HasLooked, SeesMore}
+use Rattle.qz_shard_turns.proofs.Tying.{looked-self}
 use Rattle.qz_terms.specs.declared.ask.Ask.{Ask}
+use Rattle.qz_terms.specs.declared.plan.Plan.{Plan}
 use Rattle.qz_terms.specs.declared.record.Record.{Record}
 use Rattle.qz_terms.specs.declared.reply.Reply.{Reply}
-use Rattle.qz_terms.specs.Serial.{Held, Lists, stays}
+use Rattle.qz_terms.specs.declared.request.Request.{Request}
+use Rattle.qz_terms.specs.Serial.{Held, Lists, Mended}
 use Rattle.qz_turn.specs.declared.view.Tale.{Tale}
+use Rattle.qz_turn.specs.declared.view.Turn.{Turn}
 use Rattle.qz_turn.specs.Passes.{Standing}
+use Rattle.qz_turn.specs.Turns.{last_turn}
 use Rattle.qz_turn.proofs.Prefixes.{follows_self, follows_trans}
 use Rattle.qz_visit.specs.declared.last.Said.{Said}
-use Rattle.qz_visit.specs.Visits.{AreFoundBy, IsFoundBy, Rose, Seats, Tellings, Visited, at_part, lists_told, more, none, of_catalog, of_shard, seen_by}
+use Rattle.qz_visit.specs.Visits.{AreFoundBy, IsFoundBy, IsMendedTo, Rose, Seats, Tellings, TookTurn, Visited, at_part, lists_told, more, none, of_catalog, of_shard, seen_by}
 use Rattle.qz_visit.specs.Ways.{Part, Seen}
 use Rattle.qz_visit.proofs.Owning.{as_seen, ends_mend, found_settled, leaves_none, leaves_there}
 
@@ -38,42 +45,105 @@ sees_on a b c one other = record {
   lock = other.lock ∙ one.lock;
 }
 
-pub found_rested : {K : Type 0} (old new : Standing Record K) → SeesMore old new → IsFoundBy old new new.seen
-found_rested old new sees = record { begins = sees.begins; grows = follows_self new.seen; last = inr refl; numbers = sees.numbers; lock = sees.lock }
+-- ---- turns that put no record
 
-pub found_after : {K : Type 0} (a b c : Standing Record K) (t : Tale Record) → SeesMore a b → IsFoundBy b c t → IsFoundBy a c t
-found_after a b c t sees is = record {
-  begins = follows_trans a.seen b.seen t sees.begins is.begins;
-  grows = is.grows;
-  last = is.last;
-  numbers = is.numbers ∙ sees.numbers;
-  lock = is.lock ∙ sees.lock;
+pub looked_on : {K : Type 0} (a b c : Standing Record K) → HasLooked a b → HasLooked b c → HasLooked a c
+looked_on a b c one other = record {
+  sees = sees_on a b c one.sees other.sees;
+  looks = record {
+    turns = one.looks.turns ++ other.looks.turns;
+    added = other.looks.added ∙ ap (λ (l : List (Turn Record)). l ++ other.looks.turns) one.looks.added ∙ append_assoc a.turns one.looks.turns other.looks.turns;
+    looks = All-append IsLook one.looks.turns other.looks.turns one.looks.looks other.looks.looks;
+  };
 }
+
+-- ---- a turn, behind such
+
+pub took_after : {K : Type 0} (a b c : Standing Record K) → HasLooked a b → TookTurn b c → TookTurn a c
+took_after a b c l t =
+    let turned = last_turn c ∷ [] in
+    let long : c.turns ≡ (a.turns ++ l.looks.turns) ++ (t.earlier ++ turned) = t.added ∙ ap (λ (x : List (Turn Record)). x ++ (t.earlier ++ turned)) l.looks.added in
+    record {
+      begins = follows_trans a.seen b.seen c.found l.sees.begins t.begins;
+      grows = t.grows;
+      earlier = l.looks.turns ++ t.earlier;
+      looks = All-append IsLook l.looks.turns t.earlier l.looks.looks t.looks;
+      added = long ∙ append_assoc a.turns l.looks.turns (t.earlier ++ turned) ∙ ap (λ (x : List (Turn Record)). a.turns ++ x) (sym (append_assoc l.looks.turns t.earlier turned));
+      numbers = t.numbers ∙ l.sees.numbers;
+      lock = t.lock ∙ l.sees.lock;
+    }
+
+pub took_sees : {K : Type 0} (a b : Standing Record K) → TookTurn a b → SeesMore a b
+took_sees a b t = record { begins = follows_trans a.seen b.found b.seen t.begins t.grows; numbers = t.numbers; lock = t.lock }
+
+pub took_turned : {A K : Type 0} (P : List Record → Type 0) (refused : Refusal → A) (Answers : List Record → A → List Record → Type 0) (old new : Standing Record K) (told : A) → TurnCalls P refused Answers old new told → TookTurn old new
+took_turned P refused Answers old new told t = record { begins = t.begins; grows = t.grows; earlier = []; looks = All-nil IsLook; added = t.turns; numbers = t.numbers; lock = t.lock }
+
+-- what was found was mended, and stays
+pub took_looked : {K : Type 0} (a b : Standing Record K) → TookTurn a b → Mended (held_of b.found) (held_of b.seen) → HasLooked a b
+took_looked a b t mends = record {
+  sees = took_sees a b t;
+  looks = record { turns = t.earlier ++ last_turn b ∷ []; added = t.added; looks = All-push IsLook t.earlier (last_turn b) t.looks mends };
+}
+
+pub turn_mends : {A K : Type 0} (P : List Record → Type 0) (refused : Refusal → A) (Says : List Record → A → Type 0) (old new : Standing Record K) (told : A) → TurnCalls P refused (Looks Says) old new told → Mended (held_of new.found) (held_of new.seen)
+turn_mends P refused Says old new told t =
+    let failed = HasRisen new.found.faults new.seen.faults in
+    ends_mend failed refused Says (held_of new.found) (held_of new.seen) told (look_ends failed refused Says (held_of new.found) (held_of new.seen) told t.calls.call)
+
+pub turn_looked : {A K : Type 0} (P : List Record → Type 0) (refused : Refusal → A) (Says : List Record → A → Type 0) (old new : Standing Record K) (told : A) → TurnCalls P refused (Looks Says) old new told → HasLooked old new
+turn_looked P refused Says old new told t = took_looked old new (took_turned P refused (Looks Says) old new told t) (turn_mends P refused Says old new told t)
+
+-- a plan was older than a job that is done there
+pub older_looked : {K : Type 0} (plan : Plan) (x : Request) (old new : Standing Record K) (floor : ℕ) → TurnIsOlder plan x old new floor → HasLooked old new
+older_looked plan x old new floor t =
+    took_looked old new (record { begins = t.begins; grows = t.grows; earlier = []; looks = All-nil IsLook; added = t.turns; numbers = t.numbers; lock = t.lock }) t.older.mends
+
+-- ---- what was found
+
+pub found_rested : {K : Type 0} (old new : Standing Record K) → HasLooked old new → IsFoundBy old new new.seen
+found_rested old new l = record { begins = l.sees.begins; grows = follows_self new.seen; turned = inl (l.looks, refl); numbers = l.sees.numbers; lock = l.sees.lock }
+
+turned-after : {K : Type 0} (a b c : Standing Record K) (t : Tale Record) → HasLooked a b → SeesMore b c → (Looked b c × (t ≡ c.seen)) ⊎ (TookTurn b c × IsMendedTo c.found t) → (Looked a c × (t ≡ c.seen)) ⊎ (TookTurn a c × IsMendedTo c.found t)
+turned-after a b c t l sees (inl both) = inl ((looked_on a b c l (record { sees = sees; looks = both.0 })).looks, both.1)
+turned-after a b c t l sees (inr both) = inr (took_after a b c l both.0, both.1)
 
 pub found_sees : {K : Type 0} (a b : Standing Record K) (t : Tale Record) → IsFoundBy a b t → SeesMore a b
 found_sees a b t is = record { begins = follows_trans a.seen t b.seen is.begins is.grows; numbers = is.numbers; lock = is.lock }
 
-pub found_turned : {A K : Type 0} (P : List Record → Type 0) (refused : Refusal → A) (Answers : List Record → A → List Record → Type 0) (old new : Standing Record K) (told : A) → TurnCalls P refused Answers old new told → IsFoundBy old new new.found
-found_turned P refused Answers old new told t = record { begins = t.begins; grows = t.grows; last = inl (stays (held_of new.found), refl); numbers = t.numbers; lock = t.lock }
+pub found_after : {K : Type 0} (a b c : Standing Record K) (t : Tale Record) → HasLooked a b → IsFoundBy b c t → IsFoundBy a c t
+found_after a b c t l is = record {
+  begins = follows_trans a.seen b.seen t l.sees.begins is.begins;
+  grows = is.grows;
+  turned = turned-after a b c t l (found_sees b c t is) is.turned;
+  numbers = is.numbers ∙ l.sees.numbers;
+  lock = is.lock ∙ l.sees.lock;
+}
+
+-- a list that stays as it was found
+found-looks : {K : Type 0} (a b : Standing Record K) (t : Tale Record) → SeesMore a b → held_of t ≡ held_of b.seen → (Looked a b × (t ≡ b.seen)) ⊎ (TookTurn a b × IsMendedTo b.found t) → HasLooked a b
+found-looks a b t sees same (inl both) = record { sees = sees; looks = both.0 }
+found-looks a b t sees same (inr both) = took_looked a b both.0 (subst (Mended (held_of b.found)) same both.1.0)
+
+pub found_looks : {K : Type 0} (a b : Standing Record K) (t : Tale Record) → IsFoundBy a b t → held_of t ≡ held_of b.seen → HasLooked a b
+found_looks a b t is same = found-looks a b t (found_sees a b t is) same is.turned
 
 pub found_looked : {A K : Type 0} (P : List Record → Type 0) (refused : Refusal → A) (Says : List Record → A → Type 0) (old new : Standing Record K) (told : A) → TurnCalls P refused (Looks Says) old new told → IsFoundBy old new (as_seen new)
-found_looked P refused Says old new told t =
-    let failed = HasRisen new.found.faults new.seen.faults in
-    found_settled old new (found_turned P refused (Looks Says) old new told t) (ends_mend failed refused Says (held_of new.found) (held_of new.seen) told (look_ends failed refused Says (held_of new.found) (held_of new.seen) told t.calls.call))
+found_looked P refused Says old new told t = found_settled old new (took_turned P refused (Looks Says) old new told t) (turn_mends P refused Says old new told t)
 
 pub turn_sees : {A K : Type 0} (P : List Record → Type 0) (refused : Refusal → A) (Answers : List Record → A → List Record → Type 0) (old new : Standing Record K) (told : A) → TurnCalls P refused Answers old new told → SeesMore old new
-turn_sees P refused Answers old new told t = found_sees old new new.found (found_turned P refused Answers old new told t)
+turn_sees P refused Answers old new told t = took_sees old new (took_turned P refused Answers old new told t)
 
 -- ---- the passes of the shards
 
 pub all_rested : (ps : List Part) → AreFoundBy ps ps (seen_by ps)
 all_rested [] = none
-all_rested (p ∷ ps) = more p p p.seen ps ps (seen_by ps) (found_rested p p (sees_self p)) (all_rested ps)
+all_rested (p ∷ ps) = more p p p.seen ps ps (seen_by ps) (found_rested p p (looked-self p)) (all_rested ps)
 
 pub one_found : (ps : List Part) (k : ℕ) (old new : Part) (found : Tale Record) → slice_get ps k ≡ Some old → IsFoundBy old new found → AreFoundBy ps (slice_set ps k new) (slice_set (seen_by ps) k found)
 one_found [] k old new found at is = absurd cc
 one_found (p ∷ ps) zero old new found at is = let same : old ≡ p = cc in more p new found ps ps (seen_by ps) (subst (λ (x : Part). IsFoundBy x new found) same is) (all_rested ps)
-one_found (p ∷ ps) (suc k) old new found at is = more p p p.seen ps (slice_set ps k new) (slice_set (seen_by ps) k found) (found_rested p p (sees_self p)) (one_found ps k old new found at is)
+one_found (p ∷ ps) (suc k) old new found at is = more p p p.seen ps (slice_set ps k new) (slice_set (seen_by ps) k found) (found_rested p p (looked-self p)) (one_found ps k old new found at is)
 
 -- ---- what they tell
 
@@ -130,13 +200,14 @@ visited_records so sn ps found now ask told is leaves once =
       parts = all_rested ps;
       once = asked_mean (HasRisen found.faults sn.seen.faults) (Rose f g) (lists (held_of found) (helds ps)) (lists (held_of sn.seen) (helds ps)) now ask told.reply (λ why. of_catalog why) once;
       owns = record { records = leaves; parts = λ k x y one other. leaves_none (seen_by ps) k x y one other };
+      named = tt;
     }
 
 -- whatever it read, it left
 pub visited_still : (s : Seen) (ps : List Part) (now : ℕ) (ask : Ask) (told : Reply) → AskedOnce ⊥ (lists (held_of s.seen) (helds ps)) (lists (held_of s.seen) (helds ps)) now ask told → Visited (seats s ps) (seats s ps) now ask (by_catalog (put_none told))
 visited_still s ps now ask told once =
     let a = lists (held_of s.seen) (helds ps) in
-    visited_records s s ps s.seen now ask (put_none told) (found_rested s s (sees_self s)) (absent (held_of s.seen)) (asked_mean ⊥ (HasRisen s.seen.faults s.seen.faults) a a now ask told (λ why. absurd why) once)
+    visited_records s s ps s.seen now ask (put_none told) (found_rested s s (looked-self s)) (absent (held_of s.seen)) (asked_mean ⊥ (HasRisen s.seen.faults s.seen.faults) a a now ask told (λ why. absurd why) once)
 
 -- a keeper failed, that of the catalogue or that of the shard
 abbrev pub Either : Tale Record → Seen → Tale Record → Part → Type 0
@@ -170,4 +241,5 @@ visited_both so sn ps k po pn found there now ask told at first second none_left
         parts = λ j x y one other.
             leaves_there (seen_by ps) k j po.seen there pn.seen x y told.own (seen_there ps k po at) leaves one (subst (λ (ts : List (Tale Record)). slice_get ts j ≡ Some y) (seen_set ps k pn) other);
       };
+      named = slice_get_within ps k po at;
     }

@@ -40,21 +40,29 @@ use Rattle.qz_terms.specs.Serial.{Held, Mended, lists_of, stays}
 use Rattle.qz_turn.specs.declared.view.Tale.{Tale}
 use Rattle.qz_visit.specs.Reports.{PartsRead, RowsAre, RowsStop, short, untold}
 use Rattle.qz_visit.specs.Tokens.{IsKnownTo}
-use Rattle.qz_visit.specs.Visits.{AreFoundBy, IsFoundBy, Rose, Tellings, Visited, lists_told, more, none, of_shard, refusing, seen_by}
+use Rattle.qz_visit.specs.Visits.{AreFoundBy, IsFoundBy, Rose, Tellings, TookTurn, Visited, lists_told, more, none, of_shard, refusing, seen_by}
 use Rattle.qz_visit.specs.Ways.{Part, Seen}
 use Rattle.qz_visit.proofs.Asking.{askable, settled_self, user_on, untold_split}
 use Rattle.qz_visit.proofs.Asking as asking
 use Rattle.qz_visit.proofs.Owning.{as_seen, ends_mend, found_settled, look_again}
-use Rattle.qz_visit.proofs.Passing.{all_rested, asked_mean, by_catalog, count_helds, found_after, found_looked, found_sees, found_turned, helds, helds_set, lists, put_none, seats, seen_set, seen_there}
+use Rattle.qz_visit.proofs.Passing.{all_rested, asked_mean, by_catalog, count_helds, found_after, found_looked, found_looks, helds, helds_set, lists, put_none, seats, seen_set, seen_there, took_sees, took_turned}
 
 -- ---- one shard more
 
-found-set : (os ns : List Part) (fs : List (Tale Record)) (k : ℕ) (n m : Part) (f : Tale Record) → AreFoundBy os ns fs → slice_get ns k ≡ Some n → IsFoundBy n m f → AreFoundBy os (slice_set ns k m) (slice_set fs k f)
-found-set _ _ _ k n m f none at is = absurd cc
-found-set _ _ _ zero n m f (more o x t os ns fs one rest) at is =
-    let same : n ≡ x = cc in
-    more o m f os ns fs (found_after o x m f (found_sees o x t one) (subst (λ (p : Part). IsFoundBy p m f) same is)) rest
-found-set _ _ _ (suc k) n m f (more o x t os ns fs one rest) at is = more o x t os (slice_set ns k m) (slice_set fs k f) one (found-set os ns fs k n m f rest at is)
+one-head : {A : Type 0} (a b : A) (xs ys : List A) → a ∷ xs ≡ b ∷ ys → a ≡ b
+one-head a b xs ys e = cc
+
+one-tail : {A : Type 0} (a b : A) (xs ys : List A) → a ∷ xs ≡ b ∷ ys → xs ≡ ys
+one-tail a b xs ys e = cc
+
+found-set : (os ns : List Part) (fs : List (Tale Record)) (k : ℕ) (n m : Part) (f : Tale Record) → AreFoundBy os ns fs → map held_of fs ≡ helds ns → slice_get ns k ≡ Some n → IsFoundBy n m f → AreFoundBy os (slice_set ns k m) (slice_set fs k f)
+found-set _ _ _ k n m f none same at is = absurd cc
+found-set _ _ _ zero n m f (more o x t os ns fs one rest) same at is =
+    let here : n ≡ x = cc in
+    let still = one-head (held_of t) (held_of x.seen) (map held_of fs) (helds ns) same in
+    more o m f os ns fs (found_after o x m f (found_looks o x t one still) (subst (λ (p : Part). IsFoundBy p m f) here is)) rest
+found-set _ _ _ (suc k) n m f (more o x t os ns fs one rest) same at is =
+    more o x t os (slice_set ns k m) (slice_set fs k f) one (found-set os ns fs k n m f rest (one-tail (held_of t) (held_of x.seen) (map held_of fs) (helds ns) same) at is)
 
 zip-set : (hs gs : List Held) (k : ℕ) (x : Held) → AllZip Mended hs gs → AllZip Mended (slice_set hs k x) (slice_set gs k x)
 zip-set [] [] k x all = all
@@ -127,7 +135,7 @@ read_more i quiz policy old mid found po pn n rows read at long t =
     (set_get (helds mid) i (held_of po.seen) (held_of pn.seen) (helds-there mid i po at)) (settled_self (held_of pn.seen) told.0.no_doubt) in
     let legal : IsLegal i (length mid) pn.seen.list = subst (λ (m : ℕ). IsLegal i m pn.seen.list) long t.calls.seen_may.without in
     record {
-      are = found-set old mid found i po pn (as_seen pn) read.are at (found_looked (IsLegal i n) (λ r. Err r) (TellsRows quiz policy) po pn (Ok rows) t);
+      are = found-set old mid found i po pn (as_seen pn) read.are read.same at (found_looked (IsLegal i n) (λ r. Err r) (TellsRows quiz policy) po pn (Ok rows) t);
       same = same-set i mid found pn read.same;
       mended = subst (MendedUpTo (i + 1) (map held_of (slice_set found i (as_seen pn)))) (set_twice (helds mid) i (held_of pn.seen) (held_of pn.seen) ∙ sym (helds_set mid i pn)) next;
       legal = λ k p within there. subst (λ (m : ℕ). IsLegal k m p.seen.list) (sym (length-set mid i pn)) (legal-at i k mid pn p read.legal legal within there);
@@ -197,7 +205,7 @@ pub record Reports (so sn : Seen) (ps : List Part) (ask : Ask) (now : ℕ) (user
   pub known : IsKnownTo so ask user
   pub request_is : ask.request ≡ request.Report quiz
   pub allowed : forbidden user ask.request ≡ None
-  pub found : IsFoundBy so sn sn.found
+  pub found : TookTurn so sn
   pub mended : IsSettled (held_of sn.found) (held_of sn.seen)
   pub there : missing_quiz sn.seen.list quiz ≡ None
 
@@ -212,7 +220,7 @@ reporting so sn ps ns fs ask now user quiz w are =
         token = w.known.token;
         caller_is = w.known.caller_is;
         settled = settled_self (held_of sn.seen) w.mended.no_doubt;
-        found = user_on so.seen.list sn.seen.list ask.caller user (found_sees so sn sn.found w.found).begins.begins w.known.known.found;
+        found = user_on so.seen.list sn.seen.list ask.caller user (took_sees so sn w.found).begins.begins w.known.known.found;
       };
       request_is = w.request_is;
       among = rw (w.request_is, free, there) refl;
@@ -241,6 +249,7 @@ visited-all failed so sn ps ns fs now ask told first are same to once =
       parts = are;
       once = asked_mean failed (Rose f g) (lists_told f) (lists_told g) now ask told to once;
       owns = record { records = absent (held_of sn.seen); parts = λ k x y one other. left-same fs (seen_by ns) k x y same one other };
+      named = tt;
     }
 
 -- memory was wanting behind some shards
@@ -257,7 +266,7 @@ stopped_report so sn ps ns now ask user quiz policy r w (untold i mid fs po pn r
     let says = TellsRows quiz policy in
     let found = slice_set fs i (as_seen pn) in
     let ends = look_ends failed (λ r. Err r) says (held_of pn.found) (held_of pn.seen) (Err r) call in
-    let are = found-set ps mid fs i po pn (as_seen pn) read.are at (found_settled po pn is (ends_mend failed (λ r. Err r) says (held_of pn.found) (held_of pn.seen) (Err r) ends)) in
+    let are = found-set ps mid fs i po pn (as_seen pn) read.are read.same at (found_settled po pn is (ends_mend failed (λ r. Err r) says (held_of pn.found) (held_of pn.seen) (Err r) ends)) in
     let a = lists (held_of sn.seen) (map held_of found) in
     let parts = slice_set (helds mid) i (held_of pn.seen) in
     let once = (reports_law failed).rows a (held_of sn.seen) (held_of pn.seen) (held_of pn.seen) parts i now ask user quiz (rows_in quiz policy) (Err r) (reporting so sn ps (slice_set mid i pn) found ask now user quiz w are)
@@ -309,7 +318,7 @@ pub headless_report : (so sn : Seen) (ps : List Part) (now : ℕ) (ask : Ask) (u
     → TurnCalls IsLegalCatalog (λ r. Err r) (Looks (TellsHeading quiz)) so sn (Err r) → Visited (seats so ps) (seats sn ps) now ask (refusing r)
 headless_report so sn ps now ask user quiz r some may known is allowed t =
     let failed = HasRisen sn.found.faults sn.seen.faults in
-    let first = found_turned IsLegalCatalog (λ r. Err r) (Looks (TellsHeading quiz)) so sn (Err r) t in
+    let first = took_turned IsLegalCatalog (λ r. Err r) (Looks (TellsHeading quiz)) so sn (Err r) t in
     let ends = look_ends failed (λ r. Err r) (TellsHeading quiz) (held_of sn.found) (held_of sn.seen) (Err r) t.calls.call in
     asking.unlooked_visited so sn ps now ask user r some may known (rw is refl) first (elim (untold_split failed (TellsHeading quiz) (held_of sn.found) (held_of sn.seen) r ends) [
       | inl both ↦ inl (both.0, missing-among sn.seen.list (length ps) user ask quiz r is allowed both.1)

@@ -1,19 +1,19 @@
 -- A school's locks and passes, one shard's at a time, and what came of a request there.
-use Rattle.std.proofs.Common.{◌≡◌, inl, inr, ℕ, zero, suc, ◌<◌, ◌≤◌, List, Some, None, Result, Ok, Err, MatchResult, length, get_or, refl, sym, ap, ◌∙◌, subst}
+use Rattle.std.proofs.Common.{◌≡◌, inl, inr, ◌⊎◌, ℕ, zero, suc, ◌<◌, ◌≤◌, List, [], ◌∷◌, ◌++◌, Some, None, Result, Ok, Err, MatchResult, length, get_or, refl, sym, ap, ◌∙◌, subst, append_assoc}
 use Rattle.std.specs.Prelude.{slice_get, slice_set}
 use Rattle.std.proofs.lemmas.List.{length-set}
 use Rattle.std.proofs.lemmas.Option.{slice_get_read}
 use Rattle.qz_grading.specs.declared.refusal.AttemptId.{AttemptId}
 use Rattle.qz_catalog.specs.Keeping.{TellsJob}
 use Rattle.qz_catalog_turns.specs.declared.replied.Replied.{Replied}
-use Rattle.qz_catalog_turns.specs.Turning.{TurnCalls, held_of}
+use Rattle.qz_catalog_turns.specs.Turning.{AddsTurn, Looked, TurnCalls, held_of}
 use Rattle.qz_grading.specs.declared.refusal.Refusal.{Refusal}
 use Rattle.qz_grading.specs.declared.refusal.Refusal.TheVariants as refusal
 use Rattle.qz_grading.specs.declared.refusal.Thing.TheVariants as thing
 use Rattle.qz_keeper.specs.Lists.{Looks}
 use Rattle.qz_outside.specs.Causes.{HasRisen}
 use Rattle.qz_serial.proofs.Composing.{look_ends}
-use Rattle.qz_shard_turns.specs.Tying.{Placed, SeesMore}
+use Rattle.qz_shard_turns.specs.Tying.{HasLooked, Placed, SeesMore}
 use Rattle.qz_school.specs.Answering.{MayBeAsked}
 use Rattle.qz_terms.specs.declared.ask.Ask.{Ask}
 use Rattle.qz_school.proofs.Calls.{look_told}
@@ -29,15 +29,16 @@ use Rattle.qz_terms.specs.Cause.{forbidden}
 use Rattle.qz_terms.specs.Legal.{IsLegal, IsLegalCatalog}
 use Rattle.qz_terms.specs.SchoolAnswer.{part_of}
 use Rattle.qz_turn.specs.declared.view.Tale.{Tale}
+use Rattle.qz_turn.specs.declared.view.Turn.{Turn}
 use Rattle.qz_turn.specs.Passes.{Lock, Standing}
-use Rattle.qz_turn.specs.Turns.{Locked, UnderKey}
+use Rattle.qz_turn.specs.Turns.{Locked, UnderKey, last_turn}
 use Rattle.qz_visit.specs.Reports.{AreAt}
 use Rattle.qz_visit.specs.Tokens.{IsBeyond, IsKnownTo, going, step}
 use Rattle.qz_visit.specs.declared.last.Said.{Said}
-use Rattle.qz_visit.specs.Visits.{AreFoundBy, AreOf, IsOf, IsPlaced, IsSchool, Locks, Seats, Visited, Visits, at_part, more, none, refusing}
+use Rattle.qz_visit.specs.Visits.{AreFoundBy, AreOf, IsFoundBy, IsMendedTo, IsOf, IsPlaced, IsSchool, Locks, Seats, TakesTurns, TookTurn, Visited, Visits, at_part, more, none, refusing}
 use Rattle.qz_visit.specs.Ways.{AreTied, Comes, Part, Seen, Stepped, Tried, refused_with, replied_of}
 use Rattle.qz_visit.proofs.Asking.{GoesTo, among_visited, came_visited, unlooked_visited, untold_split}
-use Rattle.qz_visit.proofs.Passing.{found_after, found_turned, seats}
+use Rattle.qz_visit.proofs.Passing.{found_after, took_turned, seats}
 use Rattle.qz_visit.proofs.Reporting.{count_found}
 use Rattle.qz_visit.proofs.Working.{Settles, Works, settle_visited, work_visited}
 
@@ -92,9 +93,23 @@ settle_visits so sn ps k po pn now ask user attempt (Ok told) who w tried = sett
 settle_visits so sn ps k po pn now ask user attempt (Err r) who w tried = settle_visited so sn ps k po pn now ask attempt (refused_with r) w (subst (λ (u : User). Tried so sn po pn now ask u attempt (refused_with r)) who tried)
 
 -- behind a turn at the catalogue
-pub visits_then : (so sm : Seen) (ps : List Part) (new : Seats) (now : ℕ) (ask : Ask) (result : Result Said Refusal) → SeesMore so sm → Visits (seats sm ps) new now ask result → Visits (seats so ps) new now ask result
-visits_then so sm ps new now ask (Ok told) sees v = record { found = v.found; records = found_after so sm new.records v.found.records sees v.records; parts = v.parts; once = v.once; owns = v.owns }
-visits_then so sm ps new now ask (Err r) sees v = record { found = v.found; records = found_after so sm new.records v.found.records sees v.records; parts = v.parts; once = v.once; owns = v.owns }
+pub visits_then : (so sm : Seen) (ps : List Part) (new : Seats) (now : ℕ) (ask : Ask) (result : Result Said Refusal) → HasLooked so sm → Visits (seats sm ps) new now ask result → Visits (seats so ps) new now ask result
+visits_then so sm ps new now ask (Ok told) sees v = record { found = v.found; records = found_after so sm new.records v.found.records sees v.records; parts = v.parts; once = v.once; owns = v.owns; named = v.named }
+visits_then so sm ps new now ask (Err r) sees v = record { found = v.found; records = found_after so sm new.records v.found.records sees v.records; parts = v.parts; once = v.once; owns = v.owns; named = v.named }
+
+found-adds : {K : Type 0} (a b : Standing Record K) (t : Tale Record) → (Looked a b × (t ≡ b.seen)) ⊎ (TookTurn a b × IsMendedTo b.found t) → (ts : List (Turn Record)) × (b.turns ≡ a.turns ++ ts)
+found-adds a b t (inl both) = (both.0.turns, both.0.added)
+found-adds a b t (inr both) = (both.0.earlier ++ last_turn b ∷ [], both.0.added)
+
+takes-then : {K : Type 0} (a b c : Standing Record K) (t : Tale Record) → AddsTurn a b → IsFoundBy b c t → TakesTurns a c
+takes-then a b c t one is =
+    let more = found-adds b c t is.turned in
+    record { first = last_turn b; others = more.0; added = more.1 ∙ ap (λ (l : List (Turn Record)). l ++ more.0) one ∙ append_assoc a.turns (last_turn b ∷ []) more.0 }
+
+-- the request took that turn
+pub visits_take : (so sm : Seen) (ps : List Part) (new : Seats) (now : ℕ) (ask : Ask) (result : Result Said Refusal) → AddsTurn so sm → Visits (seats sm ps) new now ask result → TakesTurns so new.records
+visits_take so sm ps new now ask (Ok told) one v = takes-then so sm new.records v.found.records one v.records
+visits_take so sm ps new now ask (Err r) one v = takes-then so sm new.records v.found.records one v.records
 
 -- ---- a shard that isn't there
 
@@ -122,7 +137,7 @@ step_untold so sn ps now ask user number shard r some may known allowed is t =
     let failed = HasRisen sn.found.faults sn.seen.faults in
     let free : forbidden user (request.Work number shard) ≡ None = rw is at allowed in
     let ends = look_ends failed (λ r. Err r) (TellsJob number) (held_of sn.found) (held_of sn.seen) (Err r) t.calls.call in
-    unlooked_visited so sn ps now ask user r some may known (rw is refl) (found_turned IsLegalCatalog (λ r. Err r) (Looks (TellsJob number)) so sn (Err r) t)
+    unlooked_visited so sn ps now ask user r some may known (rw is refl) (took_turned IsLegalCatalog (λ r. Err r) (Looks (TellsJob number)) so sn (Err r) t)
     (elim (untold_split failed (TellsJob number) (held_of sn.found) (held_of sn.seen) r ends) [
       | inl both ↦
           let missing = job_absent sn.seen.list number shard t.calls.seen_may.without both.1.1 in
@@ -134,7 +149,7 @@ pub step_visited : (so sn : Seen) (ps : List Part) (now : ℕ) (ask : Ask) (user
     → TurnCalls IsLegalCatalog (λ r. Err r) (Looks (TellsJob number)) so sn (Ok job) → Visited (seats so ps) (seats sn ps) now ask (refusing (refusal.Unknown thing.Shard))
 step_visited so sn ps now ask user number shard job some may known allowed is past t =
     let told = look_told (HasRisen sn.found.faults sn.seen.faults) (TellsJob number) (held_of sn.found) (held_of sn.seen) job t.calls.call in
-    unlooked_visited so sn ps now ask user (refusal.Unknown thing.Shard) some may known (rw is refl) (found_turned IsLegalCatalog (λ r. Err r) (Looks (TellsJob number)) so sn (Ok job) t)
+    unlooked_visited so sn ps now ask user (refusal.Unknown thing.Shard) some may known (rw is refl) (took_turned IsLegalCatalog (λ r. Err r) (Looks (TellsJob number)) so sn (Ok job) t)
     (inl (told.0, work_nowhere sn.seen.list (length ps) ask user number shard job is allowed told.1.job_is past))
 
 -- ---- the shards in turn

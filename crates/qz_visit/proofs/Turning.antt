@@ -14,7 +14,7 @@ use Rattle.qz_serial.proofs.Workers.{err-is}
 use Rattle.qz_shard.specs.Keeping.{TellsQuiz}
 use Rattle.qz_shard.specs.Works.{IsWorked}
 use Rattle.qz_shard_turns.specs.Posing.{CanPose}
-use Rattle.qz_shard_turns.specs.Tying.{Placed, SeesMore}
+use Rattle.qz_shard_turns.specs.Tying.{HasLooked, Placed, SeesMore}
 use Rattle.qz_school.proofs.Calls.{look_told}
 use Rattle.qz_terms.specs.declared.ask.Ask.{Ask}
 use Rattle.qz_terms.specs.declared.people.User.{User}
@@ -30,39 +30,39 @@ use Rattle.qz_terms.specs.Legal.{AllAgree, IsLegalCatalog}
 use Rattle.qz_turn.specs.Passes.{Lock, Standing}
 use Rattle.qz_visit.specs.Ways as way
 use Rattle.qz_visit.specs.Ways.{AreTied, MayPlan, Part, Planned, Seen, Stepped, Tried, refused_with}
-use Rattle.qz_visit.proofs.Passing.{found_after, found_rested, found_turned, sees_on, turn_sees}
+use Rattle.qz_visit.proofs.Passing.{found_rested, sees_on, took_after, took_turned, turn_looked, turn_sees}
 use Rattle.qz_visit.proofs.Planning.{can_pose}
 
 -- ---- under the plan of a quiz
 
 -- the catalogue gave none
-pub planned_none : (so s sn : Seen) (po p : Part) (now : ℕ) (ask : Ask) (user : User) (quiz owner : ℕ) (whole : Bool) (r : Refusal) → SeesMore so s → SeesMore po p → (po.seen.doubt ≡ None → p.seen.doubt ≡ None)
+pub planned_none : (so s sn : Seen) (po p : Part) (now : ℕ) (ask : Ask) (user : User) (quiz owner : ℕ) (whole : Bool) (r : Refusal) → HasLooked so s → HasLooked po p → (po.seen.doubt ≡ None → p.seen.doubt ≡ None)
     → TurnCalls IsLegalCatalog (λ r. Err r) (Looks (TellsPlan quiz owner whole)) s sn (Err r) → Planned so sn po p now ask user quiz owner whole (refused_with r)
 planned_none so s sn po p now ask user quiz owner whole r sees looks clear t =
-    way.planless r (found_after so s sn sn.found sees (found_turned IsLegalCatalog (λ r. Err r) (Looks (TellsPlan quiz owner whole)) s sn (Err r) t))
+    way.planless r (took_after so s sn sees (took_turned IsLegalCatalog (λ r. Err r) (Looks (TellsPlan quiz owner whole)) s sn (Err r) t))
     (look_ends (HasRisen sn.found.faults sn.seen.faults) (λ r. Err r) (TellsPlan quiz owner whole) (held_of sn.found) (held_of sn.seen) (Err r) t.calls.call) (found_rested po p looks) clear refl
 
 -- it gave one, and the shard answers under it
-pub planned_told : (P : List Record → Type 0) (so s m sn : Seen) (po p pn : Part) (now : ℕ) (ask : Ask) (user : User) (quiz owner : ℕ) (whole : Bool) (plan : Plan) (told : Replied) → SeesMore so s → SeesMore po p
+pub planned_told : (P : List Record → Type 0) (so s m sn : Seen) (po p pn : Part) (now : ℕ) (ask : Ask) (user : User) (quiz owner : ℕ) (whole : Bool) (plan : Plan) (told : Replied) → HasLooked so s → HasLooked po p
     → TurnCalls IsLegalCatalog (λ r. Err r) (Looks (TellsPlan quiz owner whole)) s m (Ok plan) → sn ≡ m → TurnReplies P reply.Refused (ShardAnswers m.seen.list now user ask) p pn told.reply told.own → Planned so sn po pn now ask user quiz owner whole told
 planned_told P so s m sn po p pn now ask user quiz owner whole plan told sees looks t same a =
     let gave = look_told (HasRisen m.found.faults m.seen.faults) (TellsPlan quiz owner whole) (held_of m.found) (held_of m.seen) plan t.calls.call in
     subst (λ (x : Seen). Planned so x po pn now ask user quiz owner whole told) (sym same)
-    (way.under plan (found_after so s m m.found sees (found_turned IsLegalCatalog (λ r. Err r) (Looks (TellsPlan quiz owner whole)) s m (Ok plan) t)) gave.0 gave.1
-    (found_after po p pn pn.found looks (found_turned P reply.Refused (ShardAnswers m.seen.list now user ask) p pn told.reply a.turn)) (record { call = a.turn.calls.call; leaves = a.leaves }))
+    (way.under plan (took_after so s m sees (took_turned IsLegalCatalog (λ r. Err r) (Looks (TellsPlan quiz owner whole)) s m (Ok plan) t)) gave.0 gave.1
+    (took_after po p pn looks (took_turned P reply.Refused (ShardAnswers m.seen.list now user ask) p pn told.reply a.turn)) (record { call = a.turn.calls.call; leaves = a.leaves }))
 
-pub planned_pose : (so s m : Seen) (po p : Part) (index count : ℕ) (now : ℕ) (ask : Ask) (user : User) (quiz owner : ℕ) (whole : Bool) (plan : Plan) → SeesMore so s → SeesMore po p → MayPlan so.seen.list po.seen.list index count user quiz owner whole ask now
+pub planned_pose : (so s m : Seen) (po p : Part) (index count : ℕ) (now : ℕ) (ask : Ask) (user : User) (quiz owner : ℕ) (whole : Bool) (plan : Plan) → HasLooked so s → HasLooked po p → MayPlan so.seen.list po.seen.list index count user quiz owner whole ask now
     → TurnCalls IsLegalCatalog (λ r. Err r) (Looks (TellsPlan quiz owner whole)) s m (Ok plan) → CanPose m.seen.list p.seen.list index count user plan ask now
 planned_pose so s m po p index count now ask user quiz owner whole plan sees looks may t =
     let gave = look_told (HasRisen m.found.faults m.seen.faults) (TellsPlan quiz owner whole) (held_of m.found) (held_of m.seen) plan t.calls.call in
-    let later = sees_on so s m sees (turn_sees IsLegalCatalog (λ r. Err r) (Looks (TellsPlan quiz owner whole)) s m (Ok plan) t) in
-    can_pose so.seen.list m.seen.list po.seen.list p.seen.list index count user quiz owner whole ask now plan may later.begins.begins t.calls.seen_may.without looks.begins.begins gave.1
+    let later = sees_on so s m sees.sees (turn_sees IsLegalCatalog (λ r. Err r) (Looks (TellsPlan quiz owner whole)) s m (Ok plan) t) in
+    can_pose so.seen.list m.seen.list po.seen.list p.seen.list index count user quiz owner whole ask now plan may later.begins.begins t.calls.seen_may.without looks.sees.begins.begins gave.1
 
 -- ---- a step of a job
 
 pub stepped_none : (so sn : Seen) (po : Part) (now : ℕ) (ask : Ask) (user : User) (number : ℕ) (r : Refusal) → TurnCalls IsLegalCatalog (λ r. Err r) (Looks (TellsJob number)) so sn (Err r) → Stepped so sn po po now ask user number (refused_with r)
 stepped_none so sn po now ask user number r t =
-    way.jobless r (found_turned IsLegalCatalog (λ r. Err r) (Looks (TellsJob number)) so sn (Err r) t)
+    way.jobless r (took_turned IsLegalCatalog (λ r. Err r) (Looks (TellsJob number)) so sn (Err r) t)
     (look_ends (HasRisen sn.found.faults sn.seen.faults) (λ r. Err r) (TellsJob number) (held_of sn.found) (held_of sn.seen) (Err r) t.calls.call) t.calls.seen_may.without refl refl
 
 pub stepped_told : (P : List Record → Type 0) (so m sn : Seen) (po pn : Part) (now : ℕ) (ask : Ask) (user : User) (number : ℕ) (job : Job) (told : Replied) → TurnCalls IsLegalCatalog (λ r. Err r) (Looks (TellsJob number)) so m (Ok job) → sn ≡ m
@@ -70,7 +70,7 @@ pub stepped_told : (P : List Record → Type 0) (so m sn : Seen) (po pn : Part) 
 stepped_told P so m sn po pn now ask user number job told t same w =
     let gave = look_told (HasRisen m.found.faults m.seen.faults) (TellsJob number) (held_of m.found) (held_of m.seen) job t.calls.call in
     subst (λ (x : Seen). Stepped so x po pn now ask user number told) (sym same)
-    (way.taken job (found_turned IsLegalCatalog (λ r. Err r) (Looks (TellsJob number)) so m (Ok job) t) gave.0 gave.1 (found_turned P reply.Refused (λ h t g. IsWorked h now user.number job t g) po pn told.reply w.turn) w.turn.calls.call w.leaves)
+    (way.taken job (took_turned IsLegalCatalog (λ r. Err r) (Looks (TellsJob number)) so m (Ok job) t) gave.0 gave.1 (took_turned P reply.Refused (λ h t g. IsWorked h now user.number job t g) po pn told.reply w.turn) w.turn.calls.call w.leaves)
 
 -- ---- the attempts that go on
 
@@ -89,6 +89,7 @@ turn-as P refused also Says Others old new told said t means same =
       };
       numbers = t.numbers;
       lock = t.lock;
+      turns = t.turns;
     }
 
 abbrev pub Going : AttemptId → List Record → Result (ℕ × Option AttemptId) Refusal → Type 0
@@ -125,17 +126,17 @@ tied_on records parts s m p n tied sees looks = record {
 }
 
 pub tried_none : (P : List Record → Type 0) (so sn : Seen) (po pn : Part) (now : ℕ) (ask : Ask) (user : User) (attempt : AttemptId) (r : Refusal) → sn ≡ so → TurnCalls P (λ r. Err r) (Looks (TellsQuiz attempt)) po pn (Err r) → Tried so sn po pn now ask user attempt (refused_with r)
-tried_none P so sn po pn now ask user attempt r same t = way.unfound r same (found_turned P (λ r. Err r) (Looks (TellsQuiz attempt)) po pn (Err r) t) t.calls.call refl
+tried_none P so sn po pn now ask user attempt r same t = way.unfound r same (took_turned P (λ r. Err r) (Looks (TellsQuiz attempt)) po pn (Err r) t) t.calls.call refl
 
 -- the shard told its quiz
-pub tried_told : (P : List Record → Type 0) (so sm sn : Seen) (po pm pn : Part) (now : ℕ) (ask : Ask) (user : User) (attempt : AttemptId) (q : ℕ) (result : Result Replied Refusal) → SeesMore so sm → TurnCalls P (λ r. Err r) (Looks (TellsQuiz attempt)) po pm (Ok q) → AllAgree sm.seen.list pm.seen.list
+pub tried_told : (P : List Record → Type 0) (so sm sn : Seen) (po pm pn : Part) (now : ℕ) (ask : Ask) (user : User) (attempt : AttemptId) (q : ℕ) (result : Result Replied Refusal) → HasLooked so sm → TurnCalls P (λ r. Err r) (Looks (TellsQuiz attempt)) po pm (Ok q) → AllAgree sm.seen.list pm.seen.list
     → MatchResult result (Planned sm sn pm pn now ask user q attempt.user false) (λ r. Planned sm sn pm pn now ask user q attempt.user false (refused_with r)) → MatchResult result (Tried so sn po pn now ask user attempt) (λ r. Tried so sn po pn now ask user attempt (refused_with r))
 tried_told P so sm sn po pm pn now ask user attempt q (Ok told) sees t agree planned =
     let gave = look_told (HasRisen pm.found.faults pm.seen.faults) (TellsQuiz attempt) (held_of pm.found) (held_of pm.seen) q t.calls.call in
-    way.of_quiz q sm pm sees (turn_sees P (λ r. Err r) (Looks (TellsQuiz attempt)) po pm (Ok q) t) gave.1 gave.0.no_doubt agree planned
+    way.of_quiz q sm pm sees (turn_looked P (λ r. Err r) (TellsQuiz attempt) po pm (Ok q) t) gave.1 gave.0.no_doubt agree planned
 tried_told P so sm sn po pm pn now ask user attempt q (Err r) sees t agree planned =
     let gave = look_told (HasRisen pm.found.faults pm.seen.faults) (TellsQuiz attempt) (held_of pm.found) (held_of pm.seen) q t.calls.call in
-    way.of_quiz q sm pm sees (turn_sees P (λ r. Err r) (Looks (TellsQuiz attempt)) po pm (Ok q) t) gave.1 gave.0.no_doubt agree planned
+    way.of_quiz q sm pm sees (turn_looked P (λ r. Err r) (TellsQuiz attempt) po pm (Ok q) t) gave.1 gave.0.no_doubt agree planned
 
 pub quiz_told : (P : List Record → Type 0) (po pm : Part) (attempt : AttemptId) (q : ℕ) → TurnCalls P (λ r. Err r) (Looks (TellsQuiz attempt)) po pm (Ok q) → history.quiz pm.seen.list attempt ≡ Some q
 quiz_told P po pm attempt q t = (look_told (HasRisen pm.found.faults pm.seen.faults) (TellsQuiz attempt) (held_of pm.found) (held_of pm.seen) q t.calls.call).1

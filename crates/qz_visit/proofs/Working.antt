@@ -20,7 +20,7 @@ use Rattle.qz_serial.proofs.Seats.{all_stay, mended_grows, set_get, set_twice}
 use Rattle.qz_serial.proofs.Settling.{settling_law}
 use Rattle.qz_serial.proofs.Workers.{err-is, workers_law}
 use Rattle.qz_shard.specs.Keeping.{TellsQuiz}
-use Rattle.qz_shard_turns.specs.Tying.{SeesMore}
+use Rattle.qz_shard_turns.specs.Tying.{HasLooked}
 use Rattle.qz_school.specs.Answering.{MayBeAsked}
 use Rattle.qz_school.proofs.Calls.{look_told}
 use Rattle.qz_school.proofs.Missing.{job_absent, job_present}
@@ -40,14 +40,15 @@ use Rattle.qz_terms.specs.Cause.{forbidden, may_ask, missing_in, rule_of}
 use Rattle.qz_terms.specs.History as history
 use Rattle.qz_terms.specs.Legal.{AllAgree, IsLegalCatalog}
 use Rattle.qz_terms.specs.Serial.{Asks, Held, no_memory, stays}
-use Rattle.qz_visit.specs.Visits.{IsFoundBy, Visited, at_part, refusing}
+use Rattle.qz_visit.specs.Visits.{IsFoundBy, TookTurn, Visited, at_part, refusing}
 use Rattle.qz_visit.specs.Ways as way
 use Rattle.qz_visit.specs.Ways.{Answered, Part, Planned, Seen, Stepped, Tried, refused_with}
 use Rattle.qz_visit.proofs.Asking.{Split, askable, count_set, lost, lost_again, lost_as, lost_mend, reply_is, settled_self, split, untold_split, whole}
 use Rattle.qz_visit.proofs.Coming.{no_missing, step_ends}
 use Rattle.qz_visit.proofs.Owning.{as_seen, call_again, ends_again, ends_mend, found_mended, found_settled, leaves_grow, look_again, rested, with_held}
-use Rattle.qz_visit.proofs.Passing.{Either, asked_mean, by_catalog, count_helds, found_after, found_looked, found_rested, found_sees, found_turned, held_there, helds, lists, put_none, seats, sees_self, visited_both, visited_records, visited_still}
+use Rattle.qz_visit.proofs.Passing.{Either, asked_mean, by_catalog, count_helds, found_after, found_looked, found_rested, held_there, helds, lists, put_none, seats, took_after, took_sees, took_turned, visited_both, visited_records, visited_still}
 use Rattle.qz_visit.proofs.Planning.{quiz_on}
+use Rattle.qz_shard_turns.proofs.Tying.{looked-self}
 
 -- a worker asks this
 pub record Works (ps : List Part) (ask : Ask) (now : ℕ) (x : Request) : Type 0 where
@@ -98,7 +99,7 @@ jobs_visited so sn ps now ask told w t =
     let failed = HasRisen sn.found.faults sn.seen.faults in
     let m = t.turn.calls.call.mended in
     let says = records.IsTold now worker ask in
-    visited_records so sn ps (with_held sn m) now ask told (found_mended so sn m (found_turned IsLegalCatalog reply.Refused says so sn told.reply t.turn) t.turn.calls.call.mends (leaves_grow m (held_of sn.seen) told.own t.leaves)) t.leaves
+    visited_records so sn ps (with_held sn m) now ask told (found_mended so sn m (took_turned IsLegalCatalog reply.Refused says so sn told.reply t.turn) t.turn.calls.call.mends (leaves_grow m (held_of sn.seen) told.own t.leaves)) t.leaves
     ((workers_law failed).jobs (lists m (helds ps)) (held_of sn.seen) now ask told.reply (works-here m ps ask now request.Jobs w)
     ((calls_mean failed failed reply.Refused says (CatalogAnswers now worker ask)).each m (held_of sn.seen) told.reply (λ why. why) (λ h x g is. (is.reply, is.list)) (call_again failed reply.Refused says (held_of sn.found) (held_of sn.seen) told.reply t.turn.calls.call)))
 
@@ -116,7 +117,7 @@ live_visited P s ps k po pn now ask attempt told at w t =
     let worse = Either s.seen s (as_seen pn) pn in
     let hs = slice_set (helds ps) k (held_of pn.seen) in
     let says = λ (h : List Record) (t : Reply). t ≡ live_answer h attempt in
-    visited_both s s ps k po pn s.seen (as_seen pn) now ask (put_none told) at (found_rested s s (sees_self s)) (found_looked P reply.Refused says po pn told t) (absent (held_of s.seen)) (absent (held_of pn.seen))
+    visited_both s s ps k po pn s.seen (as_seen pn) now ask (put_none told) at (found_rested s s (looked-self s)) (found_looked P reply.Refused says po pn told t) (absent (held_of s.seen)) (absent (held_of pn.seen))
     (subst (λ (gs : List Held). AskedOnce worse (lists (held_of s.seen) hs) (lists (held_of s.seen) gs) now ask told) (set_twice (helds ps) k (held_of pn.seen) (held_of pn.seen))
     ((workers_law worse).live (lists (held_of s.seen) hs) (held_of pn.seen) (held_of pn.seen) now ask k attempt told (works-set (held_of s.seen) ps k (held_of pn.seen) ask now (request.Live k attempt) w) (set_get (helds ps) k (held_of po.seen) (held_of pn.seen) (held_there ps k po at))
     ((calls_mean failed worse reply.Refused (Looks says) (Looks says)).each (held_of pn.seen) (held_of pn.seen) told (λ why. inr why) (λ h x l is. is) (look_again failed reply.Refused says (held_of pn.found) (held_of pn.seen) told t.calls.call))))
@@ -183,7 +184,7 @@ work_visited so sn ps k po pn now ask number told at w (way.jobless r first unto
     let says = records.TellsJob number in
     subst (λ (t : Replied). Visited (seats so ps) (seats sn (slice_set ps k pn)) now ask (at_part k t)) (sym said)
     (subst (λ (p : Part). Visited (seats so ps) (seats sn (slice_set ps k p)) now ask (at_part k (refused_with r))) (sym same)
-    (visited_both so sn ps k po po (as_seen sn) po.seen now ask (refused_with r) at (found_settled so sn first (ends_mend failed (λ r. Err r) says (held_of sn.found) (held_of sn.seen) (Err r) untold)) (found_rested po po (sees_self po)) (absent (held_of sn.seen)) (absent (held_of po.seen))
+    (visited_both so sn ps k po po (as_seen sn) po.seen now ask (refused_with r) at (found_settled so sn first (ends_mend failed (λ r. Err r) says (held_of sn.found) (held_of sn.seen) (Err r) untold)) (found_rested po po (looked-self po)) (absent (held_of sn.seen)) (absent (held_of po.seen))
     (asked_mean failed worse a a now ask (reply.Refused r) (λ why. inl why)
     (jobless-asked (rested sn) hs now ask number k r (works-set (held_of sn.seen) ps k (held_of po.seen) ask now (request.Work number k) w) legal (ends_again failed (λ r. Err r) says (held_of sn.found) (held_of sn.seen) (Err r) untold)))))
 
@@ -228,7 +229,7 @@ unfound-asked s ps k po pn now ask attempt r w call =
     (own-held ps ask now attempt k po (held_of pn.seen) w) call)
 
 -- the shard didn't tell the quiz
-unfound-visited : (so sn : Seen) (ps : List Part) (k : ℕ) (po pn : Part) (now : ℕ) (ask : Ask) (attempt : AttemptId) (r : Refusal) → Settles ps ask now attempt k po → SeesMore so sn → IsFoundBy po pn pn.found
+unfound-visited : (so sn : Seen) (ps : List Part) (k : ℕ) (po pn : Part) (now : ℕ) (ask : Ask) (attempt : AttemptId) (r : Refusal) → Settles ps ask now attempt k po → HasLooked so sn → TookTurn po pn
     → OneCall (HasRisen pn.found.faults pn.seen.faults) (λ r. Err r) (Looks (TellsQuiz attempt)) (held_of pn.found) (held_of pn.seen) (Err r) → Visited (seats so ps) (seats sn (slice_set ps k pn)) now ask (at_part k (refused_with r))
 unfound-visited so sn ps k po pn now ask attempt r w sees second call =
     let failed = HasRisen pn.found.faults pn.seen.faults in
@@ -241,7 +242,7 @@ unfound-visited so sn ps k po pn now ask attempt r w sees second call =
     (unfound-asked sn ps k po pn now ask attempt r w (look_again failed (λ r. Err r) says (held_of pn.found) (held_of pn.seen) (Err r) call)))
 
 -- the catalogue didn't tell the plan
-planless-visited : (so sn : Seen) (ps : List Part) (k : ℕ) (po pn : Part) (now : ℕ) (ask : Ask) (attempt : AttemptId) (r : Refusal) → Settles ps ask now attempt k po → IsFoundBy so sn sn.found → IsFoundBy po pn pn.seen → pn.seen.doubt ≡ None
+planless-visited : (so sn : Seen) (ps : List Part) (k : ℕ) (po pn : Part) (now : ℕ) (ask : Ask) (attempt : AttemptId) (r : Refusal) → Settles ps ask now attempt k po → TookTurn so sn → IsFoundBy po pn pn.seen → pn.seen.doubt ≡ None
     → is_some (history.start pn.seen.list attempt) ≡ true → LookEnds (HasRisen sn.found.faults sn.seen.faults) (λ r. Err r) (λ (_ : List Record) (_ : Result (Unit {0}) Refusal). ⊥) (held_of sn.found) (held_of sn.seen) (Err r)
     → Visited (seats so ps) (seats sn (slice_set ps k pn)) now ask (at_part k (refused_with r))
 planless-visited so sn ps k po pn now ask attempt r w first second clear begun ends =
@@ -278,8 +279,8 @@ settled-asked sn ps k po pn m now ask attempt q told w clear of_quiz (lost r end
     ((settling_law failed).quiz (lists (held_of sn.seen) (slice_set (helds ps) k m)) m (held_of pn.seen) now ask attempt (Err r) (works-set (held_of sn.seen) ps k m ask now (request.Settle attempt) w.works) (own-held ps ask now attempt k po m w) call))
 
 -- the shard was asked under the plan
-settled-by : (so sn : Seen) (ps : List Part) (k : ℕ) (po pn : Part) (now : ℕ) (ask : Ask) (attempt : AttemptId) (q : ℕ) (told : Replied) → Settles ps ask now attempt k po → IsFoundBy so sn sn.found → IsSettled (held_of sn.found) (held_of sn.seen)
-    → IsFoundBy po pn pn.found → history.quiz pn.found.list attempt ≡ Some q → Answered sn.seen.list now ask worker pn told → Visited (seats so ps) (seats sn (slice_set ps k pn)) now ask (at_part k told)
+settled-by : (so sn : Seen) (ps : List Part) (k : ℕ) (po pn : Part) (now : ℕ) (ask : Ask) (attempt : AttemptId) (q : ℕ) (told : Replied) → Settles ps ask now attempt k po → TookTurn so sn → IsSettled (held_of sn.found) (held_of sn.seen)
+    → TookTurn po pn → history.quiz pn.found.list attempt ≡ Some q → Answered sn.seen.list now ask worker pn told → Visited (seats so ps) (seats sn (slice_set ps k pn)) now ask (at_part k told)
 settled-by so sn ps k po pn now ask attempt q told w first mended second of_quiz is =
     let failed = HasRisen pn.found.faults pn.seen.faults in
     let m = is.call.mended in
@@ -291,21 +292,21 @@ settled-by so sn ps k po pn now ask attempt q told w first mended second of_quiz
     (asked_mean failed worse (lists (held_of sn.seen) (slice_set (helds ps) k m)) (lists (held_of sn.seen) (slice_set (helds ps) k (held_of pn.seen))) now ask told.reply (λ why. inr why)
     (settled-asked sn ps k po pn m now ask attempt q told.reply w mended.no_doubt later (split failed reply.Refused says m (held_of pn.seen) told.reply (call_again failed reply.Refused says (held_of pn.found) (held_of pn.seen) told.reply is.call))))
 
-settle-planned : (so sm sn : Seen) (ps : List Part) (k : ℕ) (po pm pn : Part) (now : ℕ) (ask : Ask) (attempt : AttemptId) (q : ℕ) (told : Replied) → Settles ps ask now attempt k po → SeesMore so sm → SeesMore po pm → history.quiz pm.seen.list attempt ≡ Some q → pm.seen.doubt ≡ None
+settle-planned : (so sm sn : Seen) (ps : List Part) (k : ℕ) (po pm pn : Part) (now : ℕ) (ask : Ask) (attempt : AttemptId) (q : ℕ) (told : Replied) → Settles ps ask now attempt k po → HasLooked so sm → HasLooked po pm → history.quiz pm.seen.list attempt ≡ Some q → pm.seen.doubt ≡ None
     → AllAgree sm.seen.list pm.seen.list → Planned sm sn pm pn now ask worker q attempt.user false told → Visited (seats so ps) (seats sn (slice_set ps k pn)) now ask (at_part k told)
 settle-planned so sm sn ps k po pm pn now ask attempt q told w sees looks of_quiz clear agree (way.under p first mended plan second is) =
     let found = quiz_on pm.seen.list pn.found.list attempt q second.begins.begins of_quiz in
-    settled-by so sn ps k po pn now ask attempt q told w (found_after so sm sn sn.found sees first) mended (found_after po pm pn pn.found looks second) found is
+    settled-by so sn ps k po pn now ask attempt q told w (took_after so sm sn sees first) mended (took_after po pm pn looks second) found is
 settle-planned so sm sn ps k po pm pn now ask attempt q told w sees looks of_quiz clear agree (way.planless r first untold second stays_clear is) =
     let found = quiz_on pm.seen.list pn.seen.list attempt q second.begins.begins of_quiz in
     subst (λ (t : Replied). Visited (seats so ps) (seats sn (slice_set ps k pn)) now ask (at_part k t)) (sym is)
     (elim (untold_split (HasRisen sn.found.faults sn.seen.faults) (records.TellsPlan q attempt.user false) (held_of sn.found) (held_of sn.seen) r untold) [
-      | inl both ↦ no_missing sm sn pm attempt q r (found_sees sm sn sn.found first) agree of_quiz both.1
-      | inr ends ↦ planless-visited so sn ps k po pn now ask attempt r w (found_after so sm sn sn.found sees first) (found_after po pm pn pn.seen looks second) (stays_clear clear) (some-start pn.seen.list attempt q found) ends
+      | inl both ↦ no_missing sm sn pm attempt q r (took_sees sm sn first) agree of_quiz both.1
+      | inr ends ↦ planless-visited so sn ps k po pn now ask attempt r w (took_after so sm sn sees first) (found_after po pm pn pn.seen looks second) (stays_clear clear) (some-start pn.seen.list attempt q found) ends
     ])
 
 pub settle_visited : (so sn : Seen) (ps : List Part) (k : ℕ) (po pn : Part) (now : ℕ) (ask : Ask) (attempt : AttemptId) (told : Replied) → Settles ps ask now attempt k po → Tried so sn po pn now ask worker attempt told
     → Visited (seats so ps) (seats sn (slice_set ps k pn)) now ask (at_part k told)
 settle_visited so sn ps k po pn now ask attempt told w (way.unfound r same second call is) =
-    subst (λ (t : Replied). Visited (seats so ps) (seats sn (slice_set ps k pn)) now ask (at_part k t)) (sym is) (unfound-visited so sn ps k po pn now ask attempt r w (subst (SeesMore so) (sym same) (sees_self so)) second call)
+    subst (λ (t : Replied). Visited (seats so ps) (seats sn (slice_set ps k pn)) now ask (at_part k t)) (sym is) (unfound-visited so sn ps k po pn now ask attempt r w (subst (HasLooked so) (sym same) (looked-self so)) second call)
 settle_visited so sn ps k po pn now ask attempt told w (way.of_quiz q sm pm sees looks of_quiz clear agree planned) = settle-planned so sm sn ps k po pm pn now ask attempt q told w sees looks of_quiz clear agree planned

@@ -15,7 +15,7 @@ use Rattle.qz_terms.specs.Legal.{IsLegal}
 use Rattle.qz_terms.specs.Serial.{lists_of}
 use Rattle.qz_turn.specs.declared.view.Tale.{Tale}
 use Rattle.qz_turn.specs.Turns.{Locked}
-use Rattle.qz_visit.specs.Visits.{AreFoundBy, IsFoundBy, IsOf, seen_by}
+use Rattle.qz_visit.specs.Visits.{AreFoundBy, IsOf, TookTurn, seen_by}
 use Rattle.qz_visit.specs.Ways.{Part}
 
 -- The locks of a school's shards in order, and a pass of each, with a number.
@@ -40,6 +40,6 @@ pub record RowsAre (quiz : ℕ) (policy : Policy) (old new : List Part) (rows : 
 
 -- A shard didn't tell its rows, behind those that were read; or memory was wanting.
 pub data RowsStop (quiz : ℕ) (policy : Policy) (old new : List Part) (r : Refusal) : Type 0 where
-  untold : (i : ℕ) (mid : List Part) (found : List (Tale Record)) (po pn : Part) → PartsRead i old mid found → slice_get mid i ≡ Some po → IsFoundBy po pn pn.found
+  untold : (i : ℕ) (mid : List Part) (found : List (Tale Record)) (po pn : Part) → PartsRead i old mid found → slice_get mid i ≡ Some po → TookTurn po pn
       → OneCall (HasRisen pn.found.faults pn.seen.faults) (λ r. Err r) (Looks (TellsRows quiz policy)) (held_of pn.found) (held_of pn.seen) (Err r) → new ≡ slice_set mid i pn → RowsStop quiz policy old new r
   short : (i : ℕ) (found : List (Tale Record)) → PartsRead i old new found → r ≡ refusal.Memory → RowsStop quiz policy old new r

@@ -1,24 +1,27 @@
 -- A school behind locks as one who asks it sees it: a pass of each lock, what a request found of each list, and what it came to.
-use Rattle.std.specs.Prelude.{◌≡◌, ◌≢◌, ◌⊎◌, ℕ, ◌+◌, ◌-◌, ◌<◌, ◌≤◌, Bool, true, false, List, [], ◌∷◌, length, map, slice_get, sum_by, Option, None, Some, Result, MatchResult}
+use Rattle.std.specs.List.{All}
+use Rattle.std.specs.Prelude.{◌≡◌, ◌≢◌, ◌⊎◌, ℕ, ◌+◌, ◌-◌, ◌<◌, ◌≤◌, Bool, true, false, List, [], ◌∷◌, ◌++◌, length, map, slice_get, sum_by, Option, None, Some, IfSome, Result, MatchResult}
 use Rattle.qz_terms.specs.declared.limits.TheConstants.{MOST_SHARDS}
 use Rattle.qz_catalog_turns.specs.declared.replied.OwnRecord.{OwnRecord}
 use Rattle.qz_catalog_turns.specs.declared.replied.OwnRecord.TheVariants as own
 use Rattle.qz_catalog_turns.specs.declared.replied.Replied.{Replied}
 use Rattle.qz_catalog_turns.specs.Owning.{Leaves}
-use Rattle.qz_catalog_turns.specs.Turning.{held_of}
+use Rattle.qz_catalog_turns.specs.Turning.{held_of, IsLook, Looked}
 use Rattle.qz_grading.specs.declared.refusal.Refusal.{Refusal}
 use Rattle.qz_outside.specs.Causes.{HasRisen}
 use Rattle.qz_serial.specs.Once.{AskedOnce}
 use Rattle.qz_shard_turns.specs.Tying.{Placed}
 use Rattle.qz_terms.specs.declared.ask.Ask.{Ask}
+use Rattle.qz_terms.specs.declared.people.Caller.TheVariants as caller
 use Rattle.qz_terms.specs.declared.record.Record.{Record}
 use Rattle.qz_terms.specs.declared.reply.Reply.{Reply}
 use Rattle.qz_terms.specs.declared.reply.Reply.TheVariants as reply
 use Rattle.qz_terms.specs.Serial.{Lists, Mended, is_catalog, is_part}
 use Rattle.qz_turn.specs.declared.view.Tale.{Tale}
+use Rattle.qz_turn.specs.declared.view.Turn.{Turn}
 use Rattle.qz_turn.specs.Passes.{Lock, Standing}
 use Rattle.qz_turn.specs.Tales.{Follows}
-use Rattle.qz_turn.specs.Turns.{Locked}
+use Rattle.qz_turn.specs.Turns.{last_turn, Locked}
 use Rattle.qz_visit.specs.declared.last.Last.{Last}
 use Rattle.qz_visit.specs.declared.last.Said.{Said}
 
@@ -83,12 +86,24 @@ seen_in p = record { records = p.records.seen; parts = seen_by p.parts }
 abbrev pub IsMendedTo : Tale Record → Tale Record → Type 0
 IsMendedTo found mended = Mended (held_of found) (held_of mended) × (mended.faults ≡ found.faults)
 
--- What a request found of a list goes on from what its pass had seen, and what the pass sees now goes on from that. It is what the
--- pass's last turn there found, once it was mended, or all that it sees now.
+-- A request's last turn at a list found what goes on from what its pass had seen, and the pass sees what it left. No turn of the request
+-- before it put a record.
+pub record TookTurn {K : Type 0} (old new : Standing Record K) : Type 0 where
+  pub begins : Follows old.seen new.found
+  pub grows : Follows new.found new.seen
+  pub earlier : List (Turn Record)
+  pub looks : All IsLook earlier
+  pub added : new.turns ≡ old.turns ++ (earlier ++ last_turn new ∷ [])
+  pub numbers : new.numbers ≡ old.numbers
+  pub lock : new.lock ≡ old.lock
+
+-- What a request found of a list goes on from what its pass had seen, and what the pass sees now goes on from that. Either no turn of the
+-- request put a record, and it is all that the pass sees now; or it is what the last turn found, once it was mended, and no turn before that
+-- put one.
 pub record IsFoundBy {K : Type 0} (old new : Standing Record K) (found : Tale Record) : Type 0 where
   pub begins : Follows old.seen found
   pub grows : Follows found new.seen
-  pub last : IsMendedTo new.found found ⊎ (found ≡ new.seen)
+  pub turned : (Looked old new × (found ≡ new.seen)) ⊎ (TookTurn old new × IsMendedTo new.found found)
   pub numbers : new.numbers ≡ old.numbers
   pub lock : new.lock ≡ old.lock
 
@@ -114,13 +129,14 @@ pub record Owns (found seen : Tellings) (part : Option ℕ) (o : OwnRecord) : Ty
   pub parts : (k : ℕ) (f s : Tale Record) → slice_get found.parts k ≡ Some f → slice_get seen.parts k ≡ Some s → Leaves (held_of f) (held_of s) (own_if (is_part k part) o)
 
 -- A request of one who holds these passes. Over the lists that it found it comes to what it may come to, and leaves those that its passes see.
--- A keeper is said to have failed only where the count of a list rose while the request was at it.
+-- A keeper is said to have failed only where the count of a list rose while the request was at it. The shard that is told is there.
 pub record Visited (old new : Seats) (now : ℕ) (ask : Ask) (told : Said) : Type 0 where
   pub found : Tellings
   pub records : IsFoundBy old.records new.records found.records
   pub parts : AreFoundBy old.parts new.parts found.parts
   pub once : AskedOnce (Rose found (seen_in new)) (lists_told found) (lists_told (seen_in new)) now ask told.reply
   pub owns : Owns found (seen_in new) told.list told.own
+  pub named : IfSome told.list (λ k. k < length old.parts)
 
 -- what was said by the shard at this place
 abbrev pub at_part : ℕ → Replied → Said
@@ -161,9 +177,20 @@ own_kept false false = own.Absent
 abbrev pub said_by : Reply → Last → Said
 said_by told last = record { reply = told; list = last.list; own = own_kept last.put last.doubt }
 
+-- the pass took a turn, or more
+pub record TakesTurns {K : Type 0} (old new : Standing Record K) : Type 0 where
+  pub first : Turn Record
+  pub others : List (Turn Record)
+  pub added : new.turns ≡ old.turns ++ first ∷ others
+
+-- what is asked by a token takes a turn at the catalogue: who asks is looked for there anew
+abbrev pub AsksInTurn : {K : Type 0} → Standing Record K → Standing Record K → Ask → Type 0
+AsksInTurn old new ask = (token : List ℕ) → ask.caller ≡ caller.Token token → TakesTurns old new
+
 -- A request, as `Visited` tells, and what is kept of it: how long the lists are that it found, and what became of its own record.
 pub record Asked (old new : Seats) (last : Last) (now : ℕ) (ask : Ask) (told : Reply) : Type 0 where
   pub visited : Visited old new now ask (said_by told last)
+  pub in_turn : AsksInTurn old.records new.records ask
   pub catalog : last.catalog ≡ length visited.found.records.list
   pub parts : AreCounted visited.found.parts last.parts
 

@@ -14,7 +14,7 @@ use Rattle.qz_serial.specs.Calls.{LookEnds, ShardAnswers}
 use Rattle.qz_shard.specs.Keeping.{TellsQuiz}
 use Rattle.qz_shard.specs.Works.{IsWorked}
 use Rattle.qz_shard_turns.specs.Posing.{IsPlannedBy}
-use Rattle.qz_shard_turns.specs.Tying.{IsTiedTo, Placed, SeesMore}
+use Rattle.qz_shard_turns.specs.Tying.{HasLooked, IsTiedTo, Placed}
 use Rattle.qz_school.specs.Answering.{MayBeAsked}
 use Rattle.qz_school.specs.Planning.{asks_shard}
 use Rattle.qz_terms.specs.declared.ask.Ask.{Ask}
@@ -28,7 +28,7 @@ use Rattle.qz_terms.specs.History as history
 use Rattle.qz_terms.specs.Legal.{AllAgree, IsLegalCatalog}
 use Rattle.qz_terms.specs.SchoolAnswer.{first_refusal}
 use Rattle.qz_turn.specs.Passes.{Lock, Standing}
-use Rattle.qz_visit.specs.Visits.{IsFoundBy, IsOf}
+use Rattle.qz_visit.specs.Visits.{IsFoundBy, IsOf, TookTurn}
 
 abbrev pub Seen : Type 0
 Seen = Standing Record (Unit {0})
@@ -87,33 +87,33 @@ Untold Says sn r = LookEnds (HasRisen sn.found.faults sn.seen.faults) (λ r. Err
 
 -- A request under the plan of a quiz for a user: the catalogue gave the plan and the shard answered, or the catalogue gave none.
 pub data Planned (so sn : Seen) (po pn : Part) (now : ℕ) (ask : Ask) (user : User) (quiz owner : ℕ) (whole : Bool) (told : Replied) : Type 0 where
-  under : (p : Plan) → IsFoundBy so sn sn.found → IsMended sn → IsPlan sn.seen.list quiz owner whole p → IsFoundBy po pn pn.found → Answered sn.seen.list now ask user pn told → Planned so sn po pn now ask user quiz owner whole told
-  planless : (r : Refusal) → IsFoundBy so sn sn.found → Untold (TellsPlan quiz owner whole) sn r → IsFoundBy po pn pn.seen → (po.seen.doubt ≡ None → pn.seen.doubt ≡ None) → told ≡ refused_with r → Planned so sn po pn now ask user quiz owner whole told
+  under : (p : Plan) → TookTurn so sn → IsMended sn → IsPlan sn.seen.list quiz owner whole p → TookTurn po pn → Answered sn.seen.list now ask user pn told → Planned so sn po pn now ask user quiz owner whole told
+  planless : (r : Refusal) → TookTurn so sn → Untold (TellsPlan quiz owner whole) sn r → IsFoundBy po pn pn.seen → (po.seen.doubt ≡ None → pn.seen.doubt ≡ None) → told ≡ refused_with r → Planned so sn po pn now ask user quiz owner whole told
 
 -- A request that names an attempt: the shard didn't tell its quiz, and nothing else was asked; or it did, in a list that agrees with what the catalogue's pass
 -- has seen then, and the request was asked under the plan of that quiz.
 pub data Tried (so sn : Seen) (po pn : Part) (now : ℕ) (ask : Ask) (user : User) (attempt : AttemptId) (told : Replied) : Type 0 where
-  unfound : (r : Refusal) → sn ≡ so → IsFoundBy po pn pn.found → OneCall (HasRisen pn.found.faults pn.seen.faults) (λ r. Err r) (Looks (TellsQuiz attempt)) (held_of pn.found) (held_of pn.seen) (Err r) → told ≡ refused_with r
+  unfound : (r : Refusal) → sn ≡ so → TookTurn po pn → OneCall (HasRisen pn.found.faults pn.seen.faults) (λ r. Err r) (Looks (TellsQuiz attempt)) (held_of pn.found) (held_of pn.seen) (Err r) → told ≡ refused_with r
       → Tried so sn po pn now ask user attempt told
-  of_quiz : (q : ℕ) (sm : Seen) (pm : Part) → SeesMore so sm → SeesMore po pm → history.quiz pm.seen.list attempt ≡ Some q → pm.seen.doubt ≡ None → AllAgree sm.seen.list pm.seen.list
+  of_quiz : (q : ℕ) (sm : Seen) (pm : Part) → HasLooked so sm → HasLooked po pm → history.quiz pm.seen.list attempt ≡ Some q → pm.seen.doubt ≡ None → AllAgree sm.seen.list pm.seen.list
       → Planned sm sn pm pn now ask user q attempt.user false told → Tried so sn po pn now ask user attempt told
 
 -- A step of a job: the catalogue gave the job and the shard took the step, or the catalogue gave none.
 pub data Stepped (so sn : Seen) (po pn : Part) (now : ℕ) (ask : Ask) (user : User) (number : ℕ) (told : Replied) : Type 0 where
-  taken : (job : Job) → IsFoundBy so sn sn.found → IsMended sn → IsJob sn.seen.list number job → IsFoundBy po pn pn.found
+  taken : (job : Job) → TookTurn so sn → IsMended sn → IsJob sn.seen.list number job → TookTurn po pn
       → (call : OneCall (HasRisen pn.found.faults pn.seen.faults) reply.Refused (λ h t g. IsWorked h now user.number job t g) (held_of pn.found) (held_of pn.seen) told.reply) → Leaves call.mended (held_of pn.seen) told.own → Stepped so sn po pn now ask user number told
-  jobless : (r : Refusal) → IsFoundBy so sn sn.found → Untold (TellsJob number) sn r → IsLegalCatalog sn.seen.list → pn ≡ po → told ≡ refused_with r → Stepped so sn po pn now ask user number told
+  jobless : (r : Refusal) → TookTurn so sn → Untold (TellsJob number) sn r → IsLegalCatalog sn.seen.list → pn ≡ po → told ≡ refused_with r → Stepped so sn po pn now ask user number told
 
 -- ---- a request of a user with a token
 
 -- The shard answered it; the catalogue refuses it; or a look at the catalogue told nothing.
 pub data CameTo (so sn : Seen) (po pn : Part) (now : ℕ) (ask : Ask) (user : User) (told : Replied) : Type 0 where
-  answered : IsFoundBy so sn sn.found → IsMended sn → user_of sn.seen.list ask.caller ≡ Some user → first_refusal sn.seen.list user ask.request ≡ None → IsFoundBy po pn pn.found → Answered sn.seen.list now ask user pn told
+  answered : TookTurn so sn → IsMended sn → user_of sn.seen.list ask.caller ≡ Some user → first_refusal sn.seen.list user ask.request ≡ None → TookTurn po pn → Answered sn.seen.list now ask user pn told
       → CameTo so sn po pn now ask user told
-  answered_alone : sn ≡ so → first_refusal sn.seen.list user ask.request ≡ None → IsFoundBy po pn pn.found → Answered sn.seen.list now ask user pn told → CameTo so sn po pn now ask user told
-  refused : (r : Refusal) → IsFoundBy so sn sn.found → IsMended sn → user_of sn.seen.list ask.caller ≡ Some user → first_refusal sn.seen.list user ask.request ≡ Some r → IsFoundBy po pn pn.seen → told ≡ refused_with r
+  answered_alone : sn ≡ so → first_refusal sn.seen.list user ask.request ≡ None → TookTurn po pn → Answered sn.seen.list now ask user pn told → CameTo so sn po pn now ask user told
+  refused : (r : Refusal) → TookTurn so sn → IsMended sn → user_of sn.seen.list ask.caller ≡ Some user → first_refusal sn.seen.list user ask.request ≡ Some r → IsFoundBy po pn pn.seen → told ≡ refused_with r
       → CameTo so sn po pn now ask user told
-  untold : (r : Refusal) → IsFoundBy so sn sn.found → Untold {A = Unit {0}} (λ _ _. ⊥) sn r → IsFoundBy po pn pn.seen → told ≡ refused_with r → CameTo so sn po pn now ask user told
+  untold : (r : Refusal) → TookTurn so sn → Untold {A = Unit {0}} (λ _ _. ⊥) sn r → IsFoundBy po pn pn.seen → told ≡ refused_with r → CameTo so sn po pn now ask user told
 
 abbrev pub Comes : Seen → Seen → Part → Part → ℕ → Ask → User → Result Replied Refusal → Type 0
 Comes so sn po pn now ask user result = MatchResult result (CameTo so sn po pn now ask user) (λ r. CameTo so sn po pn now ask user (refused_with r))

@@ -1,7 +1,7 @@
 //! A school behind locks.
 
 ghost use Rattle.qz_school.specs.Answering.{MayBeAsked};
-ghost use Rattle.qz_visit.specs.Visits.{AreOf, Asked, Visited};
+ghost use Rattle.qz_visit.specs.Visits.{AreOf, Asked, AsksInTurn, Visited};
 
 use crate::last::Said;
 use crate::passes::{Passes, Seats};
@@ -49,7 +49,8 @@ impl<K: Keeper> School<K> {
     ) -> Said
         requires own { AreOf self.now seats.old }
         requires asked { MayBeAsked ask.now moment }
-        ensures { Visited seats.old seats.new moment ask.now result }
+        ensures visited { Visited seats.old seats.new moment ask.now result }
+        ensures in_turn { AsksInTurn seats.old.records seats.new.records ask.now }
     {
         let told = match &ask.caller {
             Caller::Token(token) => self.answer_token(rt, seats, alloc, token, ask, moment),
@@ -64,7 +65,8 @@ impl<K: Keeper> School<K> {
     /// The reply to a request, at this moment by the clock, in seconds since 1970. It waits for its turns.
     ///
     /// The reply is the answer over the lists that its passes see then, without the record that the request put. A list that the request
-    /// reads is mended first. `KeepFault` comes only where a keeper failed in a turn of this very request. `Passes::last` tells how long
+    /// reads is mended first. Of all turns that the request takes at a list only the last puts a record, and what is asked by a token is
+    /// looked for in a turn at the catalogue. `KeepFault` comes only where a keeper failed in a turn of this very request. `Passes::last` tells how long
     /// those lists are, and what became of that record.
     pub fn ask<R: Wait>(
         &self,

@@ -9,7 +9,7 @@ ghost use Rattle.qz_terms.specs.Answer.{named_user};
 ghost use Rattle.qz_terms.specs.CatalogAnswer.{asks_catalog};
 ghost use Rattle.qz_terms.specs.Cause.{forbidden, missing_shard};
 ghost use Rattle.qz_terms.specs.SchoolAnswer.{part_of};
-ghost use Rattle.qz_visit.specs.Visits.{AreOf, Visited, Visits};
+ghost use Rattle.qz_visit.specs.Visits.{AreOf, TakesTurns, Visited, Visits};
 ghost use Rattle.qz_visit.specs.Tokens.{IsBeyond, IsKnownTo};
 
 use crate::at_shard::answer_at;
@@ -92,7 +92,8 @@ impl<K: Keeper> School<K> {
         requires own { AreOf self.now passes.old }
         requires asked { MayBeAsked ask.now moment }
         requires caller { ask.now.caller ≡ caller.Token token.now }
-        ensures { Visits passes.old passes.new moment ask.now result }
+        ensures visits { Visits passes.old passes.new moment ask.now result }
+        ensures in_turn { TakesTurns passes.old.records passes.new.records }
     {
         let user = user(&self.records, rt, &mut passes.records, alloc, token)?;
         self.answer_user(rt, passes, alloc, &user, ask, moment)

@@ -16,12 +16,12 @@ returns-in_err-quiz g c =
 pub answer_planned-requires-clause-tied : goal.answer_planned-requires-clause-tied
 answer_planned-requires-clause-tied g c =
     let place = c.requires.tied.tie.place in
-    tied_on c.args.records.now.lock c.args.parts.now.lock c.args.seen.now c.quiz_of.new.seen c.args.pass.now c.quiz_of.new.pass c.requires.tied c.quiz_of.ensures.seen (turn_sees (IsLegal place.index place.count) _ _ c.args.pass.now c.quiz_of.new.pass c.quiz_of.result (c.quiz_of.ensures.turn.at place c.requires.tied.tie.keyed))
+    tied_on c.args.records.now.lock c.args.parts.now.lock c.args.seen.now c.quiz_of.new.seen c.args.pass.now c.quiz_of.new.pass c.requires.tied c.quiz_of.ensures.seen.sees (turn_sees (IsLegal place.index place.count) _ _ c.args.pass.now c.quiz_of.new.pass c.quiz_of.result (c.quiz_of.ensures.turn.at place c.requires.tied.tie.keyed))
 
 pub answer_planned-requires-clause-may : goal.answer_planned-requires-clause-may
 answer_planned-requires-clause-may g c =
     let own = c.requires.tied.tie in
-    let found = user_on c.args.seen.now.seen.list c.quiz_of.new.seen.seen.list c.args.ask.now.caller c.args.user.now c.quiz_of.ensures.seen.begins.begins c.requires.known in
+    let found = user_on c.args.seen.now.seen.list c.quiz_of.new.seen.seen.list c.args.ask.now.caller c.args.user.now c.quiz_of.ensures.seen.sees.begins.begins c.requires.known in
     let of_quiz = quiz_told (IsLegal own.place.index own.place.count) c.args.pass.now c.quiz_of.new.pass c.args.attempt c.in_ok-quiz.quiz (c.in_ok-quiz.ensures.turn.at own.place own.keyed) in
     record {
       at = λ place keyed.

@@ -1,5 +1,7 @@
 use Rattle.std.proofs.lemmas.Result.{err_from_is_err_and}
 use Rattle.qz_terms.specs.Legal.{IsLegal}
+use Rattle.qz_shard_turns.proofs.Tying.{looked-self}
+use Rattle.qz_visit.proofs.Passing.{looked_on, older_looked, turn_looked}
 use Rattle.qz_visit.proofs.Turning.{planned_none, planned_pose, planned_told}
 use Rattle.qz_visit.proofs.attempts.answer_planned.Goals as goal
 
@@ -23,3 +25,16 @@ returns-in-Ok g c =
     let place = c.requires.tied.tie.place in
     planned_told (IsLegal place.index place.count) c.args.seen.now c.loop.seen c.plan.new.pass c.answer.new.seen c.args.pass.now c.loop.pass c.answer.new.pass c.args.moment c.args.ask.now c.args.user.now c.args.quiz c.args.owner c.args.whole c.in_ok-plan.plan c.in-Ok.replied
     i.0 i.1 c.in_ok-plan.ensures c.answer.ensures.seen (c.in-Ok.ensures.answer.at place c.requires.tied.tie.keyed)
+
+pub loop-init : goal.loop-init
+loop-init g c = (looked-self c.args.seen.now, looked-self c.args.pass.now, λ clear. clear)
+
+pub loop-preserved : goal.loop-preserved
+loop-preserved g c =
+    let i = c.loop.invariant in
+    let older = c.in-Err.ensures.older in
+    let plan = turn_looked _ _ _ c.loop.seen c.plan.new.pass _ c.in_ok-plan.ensures in (
+      rw c.answer.ensures.seen (looked_on c.args.seen.now c.loop.seen c.plan.new.pass i.0 plan),
+      looked_on c.args.pass.now c.loop.pass c.answer.new.pass i.1 (older_looked _ _ c.loop.pass c.answer.new.pass _ older),
+      λ clear. older.older.no_doubt,
+    )

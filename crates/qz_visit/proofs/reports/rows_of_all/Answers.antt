@@ -5,7 +5,7 @@ use Rattle.qz_terms.specs.Legal.{IsLegal}
 use Rattle.qz_visit.specs.Reports.{short, untold}
 use Rattle.qz_visit.specs.Visits.{seen_by}
 use Rattle.qz_visit.proofs.Owning.{as_seen}
-use Rattle.qz_visit.proofs.Passing.{found_turned, turn_sees}
+use Rattle.qz_visit.proofs.Passing.{took_turned, turn_sees}
 use Rattle.qz_visit.proofs.Reporting.{read_more, read_none, rows_more}
 use Rattle.qz_visit.proofs.Standing.{at_set, there_at, turn_at}
 use Rattle.qz_visit.proofs.reports.rows_of_all.Goals as goal
@@ -57,7 +57,7 @@ returns-in_err-rows g c =
     let read = c.loop-index.invariant.0 in
     let placed = at.placed i c.index.result.now lock in
     let t = c.in_err-rows.ensures.at placed.0 placed.1 in
-    rw (p.1, p.2) (untold i ms read.0 po c.rows.new.pass read.1 pass (found_turned (IsLegal placed.0.index placed.0.count) _ _ po c.rows.new.pass _ t) t.calls.call Rattle.std.proofs.Common.refl)
+    rw (p.1, p.2) (untold i ms read.0 po c.rows.new.pass read.1 pass (took_turned (IsLegal placed.0.index placed.0.count) _ _ po c.rows.new.pass _ t) t.calls.call Rattle.std.proofs.Common.refl)
 
 pub returns-in_err-extend_from_slice : goal.returns-in_err-extend_from_slice
 returns-in_err-extend_from_slice g c =

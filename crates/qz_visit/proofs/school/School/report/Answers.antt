@@ -4,7 +4,7 @@ use Rattle.qz_catalog_turns.specs.Headings.{TellsHeading}
 use Rattle.qz_catalog_turns.specs.Turning.{held_of}
 use Rattle.qz_outside.specs.Causes.{HasRisen}
 use Rattle.qz_school.proofs.Calls.{look_told}
-use Rattle.qz_visit.proofs.Passing.{found_turned}
+use Rattle.qz_visit.proofs.Passing.{took_turned}
 use Rattle.qz_visit.proofs.Reporting.{Reports, headless_report, stopped_report, told_report, wants_report}
 use Rattle.qz_visit.proofs.Standing.{all_at, some_part}
 use Rattle.qz_visit.proofs.school.School.report.Goals as goal
@@ -38,7 +38,7 @@ returns-in_err-all g c =
       known = known;
       request_is = c.requires.report;
       allowed = c.requires.may;
-      found = found_turned _ _ _ so sn _ t;
+      found = took_turned _ _ _ so sn _ t;
       mended = told.0;
       there = told.1.policy.there;
     } in
@@ -60,7 +60,7 @@ returns-in_err-rows g c =
       known = known;
       request_is = c.requires.report;
       allowed = c.requires.may;
-      found = found_turned _ _ _ so sn _ t;
+      found = took_turned _ _ _ so sn _ t;
       mended = told.0;
       there = told.1.policy.there;
     } in
@@ -82,7 +82,7 @@ returns g c =
       known = known;
       request_is = c.requires.report;
       allowed = c.requires.may;
-      found = found_turned _ _ _ so sn _ t;
+      found = took_turned _ _ _ so sn _ t;
       mended = told.0;
       there = told.1.policy.there;
     } in
