@@ -1,7 +1,6 @@
 -- A command that says why a school isn't loaded.
-use Rattle.std.proofs.Common.{◌≡◌, List, ℕ, Option, None, Some, refl, subst}
+use Rattle.std.proofs.Common.{◌≡◌, ◌⊎◌, inl, inr, List, ℕ, None, Some, refl, subst}
 use Rattle.std.proofs.KnownBytes.{Keeps-refl}
-use Rattle.std.specs.Io.KnownBytes.{Keeps}
 use Rattle.qz_ending.specs.declared.stop.Stop.{Stop}
 use Rattle.qz_ending.specs.declared.stop.Stop.TheVariants as stop
 use Rattle.qz_found.specs.FoundEndings.{Shelved, Sunk}
@@ -32,3 +31,16 @@ unloaded_by folder old new before now cause stop.SinkFault unloaded rose told = 
 unloaded_by folder old new before now cause stop.ShelfFault unloaded rose told = record { unloaded = subst (IsUnloaded folder old new) told.0 unloaded; unwritten = told.1; risen = rose told.0 }
 unloaded_by folder old new before now cause stop.Memory unloaded rose told = record { cause = cause; unloaded = unloaded; unwritten = told }
 unloaded_by folder old new before now cause s unloaded rose none = absurd none
+
+-- a fault and want of memory have no line
+no-line : {A : Type 0} (cause : LoadFault) (line : List ℕ) → (cause ≡ fault.Fault) ⊎ (cause ≡ fault.Memory) → refusal_of cause ≡ Some line → A
+no-line cause line (inl is) said = let none : refusal_of fault.Fault ≡ Some line = subst (λ (f : LoadFault). refusal_of f ≡ Some line) is said in absurd cc
+no-line cause line (inr is) said = let none : refusal_of fault.Memory ≡ Some line = subst (λ (f : LoadFault). refusal_of f ≡ Some line) is said in absurd cc
+
+-- so no line was written of them
+pub stops_unsaid : (cause : LoadFault) (before now : Sunk) (s : Stop) → (cause ≡ fault.Fault) ⊎ (cause ≡ fault.Memory) → Tells cause before now s → (s ≡ stop.ShelfFault) ⊎ (s ≡ stop.Memory)
+stops_unsaid cause before now stop.Refused is told = no-line cause told.line is told.said
+stops_unsaid cause before now stop.SinkFault is told = no-line cause told.line is told.said
+stops_unsaid cause before now stop.ShelfFault is told = inl refl
+stops_unsaid cause before now stop.Memory is told = inr refl
+stops_unsaid cause before now s is none = absurd none

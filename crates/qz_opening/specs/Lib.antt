@@ -1,1 +1,2 @@
 pub mod Unloaded
+pub mod Restarting

@@ -6,6 +6,7 @@ ghost use Rattle.qz_disks.specs.Shelves.{NoneOutIn};
 ghost use Rattle.qz_folders.specs.Opening.{IsSoundOut};
 ghost use Rattle.qz_loading.specs.Opening.{AreSoundOut, IsLoadedFrom};
 ghost use Rattle.qz_loading.specs.Places.{IsOut, KeepsElsewhere, catalog_place};
+ghost use Rattle.qz_opening.specs.Restarting.{Reopens};
 ghost use Rattle.qz_opening.specs.Unloaded.{UnloadedBy};
 
 use crate::saying::tell;
@@ -16,7 +17,8 @@ use qz_outside::Sink;
 use qz_solo::{Solo, load};
 use std::alloc::Global;
 
-/// Loads the school of a folder, of which no file is out. Its lists are those that the files stand for.
+/// Loads the school of a folder, of which no file is out. Its lists are those that the files stand for: where these are the lists of a school,
+/// just a fault or want of memory keeps them from being loaded.
 ///
 /// Where the files don't give a school, one line says why and the stop is `Refused`: `damaged NAME PLACE`, `not founded`, `behind SHARD
 /// POSITION LENGTH` or `altered SHARD PLACE`. With `SinkFault` the sink failed under that line, behind a front of it. With `ShelfFault`
@@ -31,6 +33,7 @@ pub fn open_school<O: Sink, F: Shelf>(
     requires { NoneOutIn folder.now (F.files shelf.old) }
     ensures loaded { IfOk result (λ made. IsLoadedFrom F.Disk.moment F.Disk.left_at folder.now
         (F.files shelf.old) made.catalog made.parts) }
+    ensures restarts { Reopens folder.now (F.files shelf.old) result }
     ensures few { IfOk result (λ made. length made.parts ≤ MOST_SHARDS) }
     ensures out { IfOk result (λ made. IsOut folder.now (length made.parts) (F.files shelf.new)) }
     ensures others { IfOk result (λ made. KeepsElsewhere folder.now (length made.parts)
