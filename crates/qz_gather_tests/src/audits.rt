@@ -4,30 +4,17 @@ ghost use Rattle.std.specs.Prelude.{◌≤◌};
 ghost use Rattle.qz_disks.specs.Shelves.{NoneOutIn};
 ghost use Rattle.qz_disks.specs.Slots.{memory_files};
 
-use crate::schools::{Asked, door_for, found};
+use crate::schools::{Asked, BEGUN, door_for, found, script};
 use qz_audit::audit_folder;
 use qz_disks::MemoryShelf;
 use qz_links::MemoryClock;
-use qz_outside::{MemorySink, MemorySource};
-use qz_script_schools::script_folder;
+use qz_outside::MemorySink;
 use qz_stations::Crew;
-use qz_text::{Bytes, Listed, NoMemory};
+use qz_text::{Listed, NoMemory};
 use std::alloc::Global;
 use std::sync::Wait;
 use std::test::Fail;
 use std::thread::Threads;
-
-/// Two students, a question of which true is right, and a quiz of it. The first student begins it, and answers true.
-const BEGUN: &str = "\
-100 root a1 user ann student ann
-100 root a2 user bob student bob
-100 root a3 import Sky\\s{T}
-100 root a4 quiz Q deferredfeedback
-100 root a5 slot 1 1 2
-100 root a6 ready 1
-110 ann k1 start 1
-120 ann k2 save 2.1 1 0 pick:1
-";
 
 /// The student finishes.
 const FINISH: Asked<'static> = ("ann", "{'do':'finish','key':'k3','attempt':'2.1'}");
@@ -59,23 +46,6 @@ fn audited<W: Threads + Wait + Sync>(
     Ok((status, String::from_utf8_lossy(alloc, sink.bytes())?))
 }
 
-/// Asks the school of a folder these lines.
-fn script(
-    alloc: Global,
-    folder: &[u8],
-    lines: &str,
-    shelf: &mut MemoryShelf,
-) -> Result<(), NoMemory>
-    requires { NoneOutIn folder.now (memory_files shelf.old.slots) }
-    ensures { NoneOutIn folder.now (memory_files shelf.new.slots) }
-{
-    let lines = Bytes::of(alloc, lines.as_bytes())?;
-    let mut source = MemorySource::new(lines, Listed::empty(alloc), 65_536);
-    let mut sink = MemorySink::new(alloc, 65_536, Listed::empty(alloc), 65_536)?;
-    script_folder(alloc, folder, &mut source, &mut sink, shelf);
-    Ok(())
-}
-
 /// The same of the school that was asked these lines.
 fn audited_behind<W: Threads + Wait + Sync>(
     rt: &W,
@@ -87,7 +57,7 @@ fn audited_behind<W: Threads + Wait + Sync>(
     requires { regraders ≤ 1 }
 {
     let mut shelf = MemoryShelf::new(alloc, Listed::empty(alloc));
-    found(alloc, b"school", &mut shelf)?;
+    found(alloc, b"school", 1, &mut shelf)?;
     script(alloc, b"school", lines, &mut shelf)?;
     audited(rt, alloc, b"school", regraders, asked, &mut shelf)
 }
