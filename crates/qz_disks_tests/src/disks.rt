@@ -46,6 +46,17 @@ fn a_file_is_a_disk(rt: HostRuntime) -> Result<(), Fail> {
     Ok(())
 }
 
+// A device that is full, that has no size, and that the system doesn't sync.
+#[test]
+fn what_the_system_refuses_fails(rt: HostRuntime) -> Result<(), Fail> {
+    let mut disk = file_disk_at(&rt, "/dev/full")?;
+    assert_eq!(rt; disk.write_at(0, b"abcd"), Err(Failed));
+    assert_eq!(rt; disk.cut(2), Err(Failed));
+    assert_eq!(rt; disk.sync(), Err(Failed));
+    assert_eq!(rt; disk.faults(), 3);
+    Ok(())
+}
+
 fn can_be_sent<T: Send>(_sent: &T) {}
 
 // Hands out a file that isn't out.
