@@ -1,4 +1,4 @@
 pub mod BaseLemmas
 pub mod FolderLemmas
-pub mod VisitLemmas
+pub mod WordLemmas
 pub mod WantingLemmas

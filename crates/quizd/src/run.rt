@@ -45,8 +45,9 @@ const USAGE: &str =
 /// The commands are `replay`, `gift check`, `gift fmt`, `script FOLDER`, `found FOLDER SHARDS TOKEN`, `bulk N`,
 /// `stats FOLDER QUIZ WORKERS`, which only reads; `serve FOLDER PORT WORKERS REGRADERS LINKS` and `audit` with the same words, which serve the
 /// first doors, one a worker, while others regrade; `poll FOLDER PORT LINKS VISITS`, which serves the door whose links never wait; and, over
-/// the databases of a folder, `sql FOLDER TOKEN`, a script, and `sqlopen FOLDER QUIZ`, which only reads. A folder's school is loaded, and given
-/// back with all that was accepted; for `script` `memory` stands for a school in memory, just founded.
+/// the databases of a folder, `sql FOLDER TOKEN`, a script, and `sqlopen FOLDER QUIZ`, which puts no record but makes a missing database, and
+/// the tables anew. A folder's school is loaded, and given back with all that was accepted; for `script` `memory` stands for a school in memory,
+/// just founded.
 /// Words that are no command are status 2: nothing is read, and the usage line is written. Where the sink fails under the usage line the status
 /// is 5. Where memory is wanting for the words it is 8, and nothing is done.
 pub fn run<

@@ -20,7 +20,8 @@ pub struct Slot<T> {
 impl<T: Drop> Slot<T> {
     /// A slot of this place.
     pub fn of(alloc: Global, folder: &[u8], name: &[u8], holds: T) -> Result<Slot<T>, NoMemory>
-        ensures { IfOk result (λ slot. slot ≡ record { folder = folder.now; name = name.now; holds = holds }) }
+        ensures { IfOk result (λ slot.
+            slot ≡ record { folder = folder.now; name = name.now; holds = holds }) }
     {
         Ok(Slot {
             folder: Bytes::of(alloc, folder)?,

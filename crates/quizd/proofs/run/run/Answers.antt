@@ -12,7 +12,7 @@ use Rattle.qz_sqlfolders.specs.Folders.{Based, part_place}
 use Rattle.quizd.specs.Commands.{clocks_for}
 use Rattle.quizd.proofs.BaseLemmas.{base_none_out, both_none_out, neither_out}
 use Rattle.quizd.proofs.FolderLemmas.{folder_none_out, one_none_out}
-use Rattle.quizd.proofs.VisitLemmas.{few_visits, short_token}
+use Rattle.quizd.proofs.WordLemmas.{few_visits, short_token}
 use Rattle.quizd.proofs.WantingLemmas.{wanting_runs}
 use Rattle.quizd.proofs.run.run.Goals as goal
 
