@@ -7,7 +7,7 @@ use Rattle.qz_turn.specs.declared.view.Tale.{Tale}
 use Rattle.qz_turn.specs.declared.view.Stage.{Stage}
 use Rattle.qz_turn.specs.declared.view.Stage.TheVariants.{Resting, Waiting, Serving}
 use Rattle.qz_turn.specs.declared.view.View.{View}
-use Rattle.qz_turn.specs.Rule.{Stands, IsWell, Kept, tickets, tickets_of, count_of_numbers, times_at}
+use Rattle.qz_turn.specs.Rule.{Stands, IsWell, Kept, tickets, tickets_of, count_of_numbers, times_at, put_at}
 use Rattle.qz_turn.specs.Steps.{waiting, draws}
 use Rattle.qz_turn.proofs.Frames.{never_rests, never_waits, all_set, sum_set, value_set}
 
@@ -16,9 +16,9 @@ stands_longer base queue more id Resting h = tt
 stands_longer base queue more id (Waiting t) h = (h.0, at_longer queue more (t - base) id h.1)
 stands_longer base queue more id (Serving t) h = (h.0, at_longer queue more 0 id h.1)
 
-module _ {I K S : Type 0} (tells : S → Tale I) (fits : K → S → Type 0) (key : K) (seats : ℕ) where
+module _ {I K S : Type 0} (tells : S → Tale I) (fits : K → S → Type 0) (key : K) (seats start : ℕ) where
   pub keeps_draw : (slots id : ℕ) (m : Me S (View I K)) (st : Step S) → m.0.stage ≡ Resting → 0 < length m.0.numbers
-      → Allows (Kept tells fits key seats) slots id m 0 (λ n. (n + 1) % 2 ^ 64) (draws st m)
+      → Allows (Kept tells fits key seats start) slots id m 0 (λ n. (n + 1) % 2 ^ 64) (draws st m)
   keeps_draw slots id m st rests has s h homes at small =
       let v = m.0 in
       let n = length h.queue in
@@ -40,9 +40,10 @@ module _ {I K S : Type 0} (tells : S → Tale I) (fits : K → S → Type 0) (ke
           drawn = let sums = sum_set tickets s.views id v w at in let was = h.drawn in omega arith;
           dealt = let sums = sum_set count_of_numbers s.views id v w at in let was = h.dealt in omega arith;
           once = λ x. let sums = sum_set (times_at x) s.views id v w at in let was = h.once x in omega arith;
+          grown = let sums = sum_set put_at s.views id v w at in let was = h.grown in omega arith;
           each = all_set (IsWell key h.base (h.queue ++ id ∷ []) h.tale) s.views id w
-              record { keyed = mine.keyed; stands = (omega arith, at_last h.queue id (t - h.base) (omega arith)); numbered = omega arith; seen = mine.seen; beside = mine.beside }
-              (λ j u apart e. let was = h.each j u e in record { keyed = was.keyed; stands = stands_longer h.base h.queue (id ∷ []) j u.stage was.stands; numbered = was.numbered; seen = was.seen; beside = was.beside });
+              record { keyed = mine.keyed; stands = (omega arith, at_last h.queue id (t - h.base) (omega arith)); numbered = omega arith; idle = mine.idle; seen = mine.seen; beside = mine.beside }
+              (λ j u apart e. let was = h.each j u e in record { keyed = was.keyed; stands = stands_longer h.base h.queue (id ∷ []) j u.stage was.stands; numbered = was.numbered; idle = was.idle; seen = was.seen; beside = was.beside });
           value = value_set tells fits key h.tale s _ id v w at (λ serves. absurd (never_rests v.stage rests serves)) (λ serves. absurd (never_waits w.stage t refl serves)) h.value;
         },
         record { ticket = t; drawn = ap (λ ws. get_or ws 0 0) h.words; after = refl },

@@ -57,6 +57,20 @@ module _ {A : Type 0} where
   sum_two f (x ∷ xs) (suc i) zero v u ne e d = let same = ap f (some-injective x u d) in omega (arith, sum_one f xs i v e, sum_by-cons f x xs, same)
   sum_two f (x ∷ xs) (suc i) (suc j) v u ne e d = omega (arith, sum_two f xs i j v u (λ h. ne (ap suc h)) e d, sum_by-cons f x xs)
 
+  sum_none : (f : A → ℕ) (l : List A) → ((j : ℕ) (u : A) → get_elem? l j ≡ some u → f u ≡ 0) → sum_by f l ≡ 0
+  sum_none f [] none = refl
+  sum_none f (x ∷ xs) none = let one = none 0 x refl in omega (arith, sum_by-cons f x xs, one, sum_none f xs (λ j u e. none (suc j) u e))
+
+  -- the sum is that of the one element that adds anything
+  pub sum_alone : (f : A → ℕ) (l : List A) (i : ℕ) (v : A) → get_elem? l i ≡ some v → ((j : ℕ) (u : A) → j ≢ i → get_elem? l j ≡ some u → f u ≡ 0) → sum_by f l ≡ f v
+  sum_alone f [] i v e none = absurd (some-ne-none v (sym e))
+  sum_alone f (x ∷ xs) zero v e none =
+      let same = ap f (some-injective x v e) in
+      omega (arith, sum_by-cons f x xs, same, sum_none f xs (λ j u is. none (suc j) u (λ (h : suc j ≡ zero). omega arith) is))
+  sum_alone f (x ∷ xs) (suc i) v e none =
+      let one = none 0 x (λ (h : zero ≡ suc i). omega arith) refl in
+      omega (arith, sum_by-cons f x xs, one, sum_alone f xs i v e (λ j u apart is. none (suc j) u (λ (h : suc j ≡ suc i). apart (omega arith)) is))
+
 module _ {I K S : Type 0} (tells : S → Tale I) (fits : K → S → Type 0) (key : K) (tale : Tale I) where
   abbrev Value : State S (View I K) → Type 0
   Value s = IsHome tells fits key tale s ⊎ IsOut tale s

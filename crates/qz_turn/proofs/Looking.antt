@@ -11,24 +11,24 @@ use Rattle.qz_turn.specs.declared.view.Tale.{Tale}
 use Rattle.qz_turn.specs.declared.view.Stage.TheVariants.{Waiting}
 use Rattle.qz_turn.specs.declared.view.View.{View}
 use Rattle.qz_turn.specs.Tales.{Follows}
-use Rattle.qz_turn.specs.Rule.{Stands, Serves, IsWell, IsHome, IsOut, Kept, tickets, tickets_of, count_of_numbers, times_at}
+use Rattle.qz_turn.specs.Rule.{Stands, Serves, IsWell, IsHome, IsOut, Kept, tickets, tickets_of, count_of_numbers, times_at, put_at}
 use Rattle.qz_turn.specs.Steps.{serving, looks}
 use Rattle.qz_turn.proofs.Frames.{never_waits, one_there, is_inside, all_set, sum_set, sum_below}
 
 waiting_is : (a b : ℕ) → Waiting a ≡ Waiting b → a ≡ b
 waiting_is a b e = cc
 
-module _ {I K S : Type 0} (tells : S → Tale I) (fits : K → S → Type 0) (key : K) (seats : ℕ) where
+module _ {I K S : Type 0} (tells : S → Tale I) (fits : K → S → Type 0) (key : K) (seats start : ℕ) where
   -- there are no more tickets than numbers
-  few_wait : (s : State S (View I K)) (h : Kept tells fits key seats s) → length h.queue < 2 ^ 32
+  few_wait : (s : State S (View I K)) (h : Kept tells fits key seats start s) → length h.queue < 2 ^ 32
   few_wait s h = let less = sum_below tickets count_of_numbers s.views (λ j u e. (h.each j u e).numbered) in let a = h.drawn in let b = h.dealt in let c = h.few in omega arith
 
   -- the seat that serves stands first
-  pub first_serves : (s : State S (View I K)) (h : Kept tells fits key seats s) (id : ℕ) (v : View I K) → get_elem? s.views id ≡ some v → Serves v.stage → get_elem? h.queue 0 ≡ some id
+  pub first_serves : (s : State S (View I K)) (h : Kept tells fits key seats start s) (id : ℕ) (v : View I K) → get_elem? s.views id ≡ some v → Serves v.stage → get_elem? h.queue 0 ≡ some id
   first_serves s h id v at serves = (subst (Stands h.base h.queue id) serves.1 (h.each id v at).stands).1
 
   -- the ticket that is served is the seat's own, where their numbers agree
-  own_turn : (s : State S (View I K)) (h : Kept tells fits key seats s) (id : ℕ) (v : View I K) (t : ℕ) → get_elem? s.views id ≡ some v → v.stage ≡ Waiting t → get_or s.words 1 0 ≡ t % 2 ^ 64
+  own_turn : (s : State S (View I K)) (h : Kept tells fits key seats start s) (id : ℕ) (v : View I K) (t : ℕ) → get_elem? s.views id ≡ some v → v.stage ≡ Waiting t → get_or s.words 1 0 ≡ t % 2 ^ 64
       → (h.base ≡ t) × (get_elem? h.queue 0 ≡ some id)
   own_turn s h id v t at waits agree =
       let place = subst (Stands h.base h.queue id) waits (h.each id v at).stands in
@@ -37,9 +37,9 @@ module _ {I K S : Type 0} (tells : S → Tale I) (fits : K → S → Type 0) (ke
       let same = one_turn h.base t (2 ^ 64) place.0 (omega arith) (sym (ap (λ ws. get_or ws 1 0) h.words) ∙ agree) in
       (same, subst (λ k. get_elem? h.queue k ≡ some id) (omega arith) place.1)
 
-  takes_it : (id : ℕ) (m : Me S (View I K)) (st : Step S) (t : ℕ) → m.0.stage ≡ Waiting t → m.1 ≡ [] → (s : State S (View I K)) (h : Kept tells fits key seats s) → get_elem? s.views id ≡ some m.0
+  takes_it : (id : ℕ) (m : Me S (View I K)) (st : Step S) (t : ℕ) → m.0.stage ≡ Waiting t → m.1 ≡ [] → (s : State S (View I K)) (h : Kept tells fits key seats start s) → get_elem? s.views id ≡ some m.0
       → (agree : get_or s.words 1 0 ≡ t % 2 ^ 64) → IsHome tells fits key h.tale s
-      → (w : View I K) × (a : Act S) × Valid s.homes m.1 a × Kept tells fits key seats (stepped s 1 (get_or s.words 1 0) id m.1 w a) × looks tells fits st m (get_or s.words 1 0) (w, carried_after m.1 a)
+      → (w : View I K) × (a : Act S) × Valid s.homes m.1 a × Kept tells fits key seats start (stepped s 1 (get_or s.words 1 0) id m.1 w a) × looks tells fits st m (get_or s.words 1 0) (w, carried_after m.1 a)
   takes_it id m st t waits bare s h at agree home =
       let v = m.0 in
       let y = home.value in
@@ -59,8 +59,9 @@ module _ {I K S : Type 0} (tells : S → Tale I) (fits : K → S → Type 0) (ke
           drawn = let sums = sum_set tickets s.views id v w at in let was = h.drawn in omega arith;
           dealt = let sums = sum_set count_of_numbers s.views id v w at in let was = h.dealt in omega arith;
           once = λ x. let sums = sum_set (times_at x) s.views id v w at in let was = h.once x in omega arith;
+          grown = let sums = sum_set put_at s.views id v w at in let was = h.grown in omega arith;
           each = all_set (IsWell key h.base h.queue h.tale) s.views id w
-              record { keyed = mine.keyed; stands = (sym own.0, own.1); numbered = let was = mine.numbered in omega arith; seen = mine.seen; beside = mine.beside }
+              record { keyed = mine.keyed; stands = (sym own.0, own.1); numbered = let was = mine.numbered in omega arith; idle = mine.idle; seen = mine.seen; beside = mine.beside }
               (λ j u apart e. h.each j u e);
           value = inr record {
             server = id;
@@ -83,19 +84,19 @@ module _ {I K S : Type 0} (tells : S → Tale I) (fits : K → S → Type 0) (ke
         },
       )
 
-  looks_on : (id : ℕ) (m : Me S (View I K)) (st : Step S) (t : ℕ) → m.0.stage ≡ Waiting t → (s : State S (View I K)) (h : Kept tells fits key seats s) → get_elem? s.views id ≡ some m.0
+  looks_on : (id : ℕ) (m : Me S (View I K)) (st : Step S) (t : ℕ) → m.0.stage ≡ Waiting t → (s : State S (View I K)) (h : Kept tells fits key seats start s) → get_elem? s.views id ≡ some m.0
       → (other : get_or s.words 1 0 ≢ t % 2 ^ 64)
-      → (w : View I K) × (a : Act S) × Valid s.homes m.1 a × Kept tells fits key seats (stepped s 1 (get_or s.words 1 0) id m.1 w a) × looks tells fits st m (get_or s.words 1 0) (w, carried_after m.1 a)
+      → (w : View I K) × (a : Act S) × Valid s.homes m.1 a × Kept tells fits key seats start (stepped s 1 (get_or s.words 1 0) id m.1 w a) × looks tells fits st m (get_or s.words 1 0) (w, carried_after m.1 a)
   looks_on id m st t waits s h at other =
       let same : stepped s 1 (get_or s.words 1 0) id m.1 m.0 keeps ≡ s = λ i. record { words = set-get_or s.words 1 0 i; homes = s.homes; views = set_again s.views id m.0 at i } in (
         m.0,
         keeps,
         tt,
-        subst (Kept tells fits key seats) (sym same) h,
+        subst (Kept tells fits key seats start) (sym same) h,
         record { comes = λ n is agree. absurd (other (agree ∙ ap (λ z. z % 2 ^ 64) (waiting_is n t (sym is ∙ waits)))); stays = λ n is _. refl },
       )
 
-  pub keeps_look : (slots id : ℕ) (m : Me S (View I K)) (st : Step S) (t : ℕ) → m.0.stage ≡ Waiting t → m.1 ≡ [] → Allows (Kept tells fits key seats) slots id m 1 (λ n. n) (looks tells fits st m)
+  pub keeps_look : (slots id : ℕ) (m : Me S (View I K)) (st : Step S) (t : ℕ) → m.0.stage ≡ Waiting t → m.1 ≡ [] → Allows (Kept tells fits key seats start) slots id m 1 (λ n. n) (looks tells fits st m)
   keeps_look slots id m st t waits bare s h homes at small = dite (ℕ_discrete (get_or s.words 1 0) (t % 2 ^ 64))
       (λ agree. ⊎_elim
       (takes_it id m st t waits bare s h at agree)

@@ -10,7 +10,7 @@ use Rattle.qz_turn.specs.declared.view.Tale.{Tale}
 use Rattle.qz_turn.specs.declared.view.Stage.{Stage}
 use Rattle.qz_turn.specs.declared.view.Stage.TheVariants.{Resting, Waiting, Serving}
 use Rattle.qz_turn.specs.declared.view.View.{View}
-use Rattle.qz_turn.specs.Tales.{Follows, blank}
+use Rattle.qz_turn.specs.Tales.{Follows, blank, put_in}
 
 abbrev pub one_if : ℕ → ℕ → ℕ
 one_if x n = if n == x then 1 else 0
@@ -43,6 +43,10 @@ module _ {I K : Type 0} where
   abbrev pub times_at : ℕ → View I K → ℕ
   times_at x v = times x v.numbers
 
+  -- how many items the turns put that stand at the view
+  abbrev pub put_at : View I K → ℕ
+  put_at v = put_in v.turns
+
 -- The seats in the queue stand in the order of their tickets, the first with the ticket `base`. A ticket is a place in
 -- it, and the first in the queue alone may serve.
 abbrev pub Stands : ℕ → List ℕ → ℕ → Stage → Type 0
@@ -58,6 +62,7 @@ pub record IsWell {I K : Type 0} (key : K) (base : ℕ) (queue : List ℕ) (tale
   pub keyed : (k : K) → v.key ≡ Some k → k ≡ key
   pub stands : Stands base queue id v.stage
   pub numbered : tickets v ≤ count_of_numbers v
+  pub idle : v.numbers ≡ [] → v.turns ≡ []
   pub seen : Follows v.seen tale
   pub beside : Follows v.beside tale
 
@@ -79,8 +84,9 @@ module _ {I K S : Type 0} (tells : S → Tale I) (fits : K → S → Type 0) (ke
     pub fits_key : fits key value
     pub nobody : (id : ℕ) (v : View I K) → get_elem? s.views id ≡ some v → ¬ Serves v.stage
 
-  -- The rule. The numbers below `seats` stand in the views, each once.
-  pub record Kept (seats : ℕ) (s : State S (View I K)) : Type 0 where
+  -- The rule. The numbers below `seats` stand in the views, each once, and so do the turns: by what they put the list has grown
+  -- that had `start` items when the table was made.
+  pub record Kept (seats start : ℕ) (s : State S (View I K)) : Type 0 where
     pub base : ℕ
     pub queue : List ℕ
     pub tale : Tale I
@@ -89,6 +95,7 @@ module _ {I K S : Type 0} (tells : S → Tale I) (fits : K → S → Type 0) (ke
     pub drawn : sum_by tickets s.views ≡ length queue
     pub dealt : sum_by count_of_numbers s.views ≡ seats
     pub once : (x : ℕ) → sum_by (times_at x) s.views ≡ times x (below seats)
+    pub grown : start + sum_by put_at s.views ≡ length tale.list
     pub each : (id : ℕ) (v : View I K) → get_elem? s.views id ≡ some v → IsWell key base queue tale id v
     pub value : IsHome tale s ⊎ IsOut tale s
 

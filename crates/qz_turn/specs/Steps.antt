@@ -7,7 +7,7 @@ use Rattle.qz_turn.specs.declared.view.Tale.{Tale}
 use Rattle.qz_turn.specs.declared.view.Stage.TheVariants.{Resting, Waiting, Serving}
 use Rattle.qz_turn.specs.declared.view.View.{View}
 use Rattle.qz_turn.specs.Rule.{below}
-use Rattle.qz_turn.specs.Tales.{Follows, merged, blank, turn, CanGo, KeepsFit}
+use Rattle.qz_turn.specs.Tales.{Follows, merged, blank, turn, turns_kept, turns_given, CanGo, KeepsFit}
 
 module _ {I K : Type 0} where
   -- the seat has drawn the ticket t
@@ -22,13 +22,13 @@ module _ {I K : Type 0} where
   abbrev pub served : Tale I → View I K → View I K
   served tale v = record v { stage = Resting; seen = tale; turns = v.turns ++ turn v.found tale ∷ [] }
 
-  -- it gave its first number away
+  -- it gave its first number away, and with its last one its turns
   abbrev pub dealing : View I K → View I K
-  dealing v = record v { numbers = drop 1 v.numbers }
+  dealing v = record v { numbers = drop 1 v.numbers; turns = turns_kept (drop 1 v.numbers) v.turns }
 
   -- the new seat that has the number
   abbrev pub dealt_to : View I K → View I K
-  dealt_to v = record v { numbers = take 1 v.numbers; stage = Resting; beside = blank }
+  dealt_to v = record v { numbers = take 1 v.numbers; turns = turns_given (drop 1 v.numbers) v.turns; stage = Resting; beside = blank }
 
   -- a new seat without a number, which has seen the same
   abbrev pub noted : View I K → View I K

@@ -1,5 +1,6 @@
--- What a value behind a lock tells, how one telling begins another, and what an errand owes.
-use Rattle.std.specs.Prelude.{◌≤◌, [], length, None, max, if◌then◌else◌, nat_lt}
+-- What a value behind a lock tells, how one telling begins another, what turns put, and what an errand owes.
+use Rattle.std.specs.Prelude.{ℕ, ◌-◌, ◌≤◌, List, [], ◌∷◌, length, None, max, if◌then◌else◌, nat_lt}
+use Rattle.std.specs.List.{sum_by}
 use mathlib.Core.List.{IsPrefix}
 use Rattle.qz_turn.specs.declared.view.Tale.{Tale}
 use Rattle.qz_turn.specs.declared.view.Turn.{Turn}
@@ -17,6 +18,25 @@ blank = record { list = []; doubt = None; faults = 0 }
 -- a turn that found the one and left the other
 abbrev pub turn : {I : Type 0} → Tale I → Tale I → Turn I
 turn found left = record { found = found; left = left }
+
+-- how many items the turn put behind the list
+abbrev pub put_by : {I : Type 0} → Turn I → ℕ
+put_by t = length t.left.list - length t.found.list
+
+-- how many items the turns put
+abbrev pub put_in : {I : Type 0} → List (Turn I) → ℕ
+put_in turns = sum_by put_by turns
+
+-- Of the turns of a pass that gives its first number away, by the numbers that it is left with: it keeps them, but with its last
+-- number they go too. So each turn stands at one pass.
+abbrev pub turns_kept : {I : Type 0} → List ℕ → List (Turn I) → List (Turn I)
+turns_kept [] turns = []
+turns_kept (n ∷ ns) turns = turns
+
+-- and those that go with the number
+abbrev pub turns_given : {I : Type 0} → List ℕ → List (Turn I) → List (Turn I)
+turns_given [] turns = turns
+turns_given (n ∷ ns) turns = []
 
 -- the tale with the longer list, and the first of two that are equally long
 abbrev pub longer : {I : Type 0} → Tale I → Tale I → Tale I

@@ -5,17 +5,18 @@ use Rattle.atomic_table.specs.Seated.{TableId}
 use Rattle.qz_turn.specs.declared.view.Tale.{Tale}
 use Rattle.qz_turn.specs.declared.view.Turn.{Turn}
 use Rattle.qz_turn.specs.declared.view.View.{View}
-use Rattle.qz_turn.specs.Tales.{Follows, merged, turn}
+use Rattle.qz_turn.specs.Tales.{Follows, merged, turn, turns_kept, turns_given}
 use Rattle.qz_turn.specs.Passes.{Lock, Standing}
 use Rattle.qz_turn.specs.Rule.{below}
 
--- which lock it is, and how many numbers its passes have
+-- which lock it is, how many numbers its passes have, and how many items the list had when the lock was made
 pub record Locked (K : Type 0) : Type 0 where
   pub lock : Lock K
   pub seats : ℕ
+  pub start : ℕ
 
-abbrev pub locked : {K : Type 0} → TableId → K → ℕ → Locked K
-locked id key seats = record { lock = record { table = id; key = Some key }; seats = seats }
+abbrev pub locked : {K : Type 0} → TableId → K → ℕ → ℕ → Locked K
+locked id key seats start = record { lock = record { table = id; key = Some key }; seats = seats; start = start }
 
 -- a fact about the lock's key
 pub record UnderKey {K : Type 0} (lock : Lock K) (holds : K → Type 0) : Type 0 where
@@ -34,13 +35,13 @@ module _ {I K : Type 0} where
   abbrev pub first_pass : Lock K → Tale I → ℕ → Standing I K
   first_pass lock tale seats = record { lock = lock; numbers = below seats; found = tale; seen = tale; turns = [] }
 
-  -- a pass that has given its first number away
+  -- a pass that has given its first number away, and with its last one its turns
   abbrev pub left_of : Standing I K → Standing I K
-  left_of pass = record { lock = pass.lock; numbers = drop 1 pass.numbers; found = pass.found; seen = pass.seen; turns = pass.turns }
+  left_of pass = record { lock = pass.lock; numbers = drop 1 pass.numbers; found = pass.found; seen = pass.seen; turns = turns_kept (drop 1 pass.numbers) pass.turns }
 
-  -- the pass that has it, which has seen the same, with the turns that led to it
+  -- the pass that has it, which has seen the same, and has the turns if the other one is left without a number
   abbrev pub split_off : Standing I K → Standing I K
-  split_off pass = record { lock = pass.lock; numbers = take 1 pass.numbers; found = pass.found; seen = pass.seen; turns = pass.turns }
+  split_off pass = record { lock = pass.lock; numbers = take 1 pass.numbers; found = pass.found; seen = pass.seen; turns = turns_given (drop 1 pass.numbers) pass.turns }
 
   -- a pass without a number, which has seen the same, and took no turn
   abbrev pub note_of : Standing I K → Standing I K
@@ -49,6 +50,10 @@ module _ {I K : Type 0} where
   -- the last turn that a pass took
   abbrev pub last_turn : Standing I K → Turn I
   last_turn pass = turn pass.found pass.seen
+
+  -- the pass took one turn more
+  abbrev pub AddsTurn : Standing I K → Standing I K → Type 0
+  AddsTurn before after = after.turns ≡ before.turns ++ last_turn after ∷ []
 
   -- one of the two lists begins the other; the longer list is kept, the greater count of faults, all numbers, and all turns
   pub record Joins (before other after : Standing I K) : Type 0 where
@@ -74,4 +79,4 @@ module _ {I K S E : Type 0} (tells : S → Tale I) (fits : K → S → Type 0) (
     pub fits_after : UnderKey before.lock (λ key. fits key value_after)
     pub numbers : after.numbers ≡ before.numbers
     pub lock : after.lock ≡ before.lock
-    pub turns : after.turns ≡ before.turns ++ last_turn after ∷ []
+    pub turns : AddsTurn before after

@@ -1,7 +1,7 @@
 // The table of a lock, and the steps that its seats make.
-ghost use Rattle.std.specs.Prelude.{◌≡◌, [], ◌∷◌, IfOk, IfErr, length};
+ghost use Rattle.std.specs.Prelude.{◌≡◌, ◌+◌, [], ◌∷◌, IfOk, IfErr, length};
 ghost use Rattle.qz_turn.specs.declared.view.Stage.TheVariants.{Resting};
-ghost use Rattle.qz_turn.specs.Tales.{Follows};
+ghost use Rattle.qz_turn.specs.Tales.{Follows, put_in};
 ghost use Rattle.qz_turn.specs.Rule.{dealer, HasEvery};
 ghost use Rattle.qz_turn.specs.Steps.{IsReady, IsWaiting, Draws, Comes, CanSend, Went, MayEnd, Ends, IsKeyed, HasServed, Measures, Compares, dealing, dealt_to, noted, joining};
 
@@ -61,6 +61,7 @@ impl<T: Told> Board<T> {
     pub fn new(alloc: Global, value: T, key: &T::Key, seats: u32) -> Result<(Board<T>, Place<T>), T>
         requires { T.fits key.now value }
         ensures made { IfOk result (λ made. made.0.table.shared.key.key.value ≡ key.now × (made.0.table.shared.key.seats ≡ seats)) }
+        ensures start { IfOk result (λ made. made.0.table.shared.key.start.value ≡ value) }
         ensures first { IfOk result (λ made. (made.1.table_id ≡ made.0.table.shared.table_id) × (made.1.me ≡ (dealer key.now (T.tells value) seats, []))) }
         ensures refused { IfErr result (λ back. back ≡ value) }
     {
@@ -298,13 +299,15 @@ impl<T: Told> Board<T> {
         self.compare(seat);
     }
 
-    /// The value, once the seat has every number.
+    /// The value, once the seat has every number. Then every turn stands at this seat, and its list has grown by what they put.
     pub fn close(self, seat: Place<T>) -> T
         requires own { seat.table_id ≡ self.table.shared.table_id }
         requires rests { seat.me.0.stage ≡ Resting }
         requires all { HasEvery self.table.shared.key.seats seat.me.0.numbers }
         ensures follows { Follows seat.me.0.seen (T.tells result) }
         ensures fits { T.fits self.table.shared.key.key.value result }
+        ensures grown { length (T.tells result).list
+            ≡ length (T.tells self.table.shared.key.start.value).list + put_in seat.me.0.turns }
     {
         let Board {
             table,

@@ -10,8 +10,9 @@ use atomic_table::Badge;
 use std::marker::Model;
 
 /// The right to take part in the turns of one lock, and what its holder has seen there. Of this it keeps no more
-/// than how many items the list had. To a contract it is the lock that it belongs to, its numbers, and what the
-/// value told as the pass's last turn began (`found`) and ended (`seen`).
+/// than how many items the list had. To a contract it is the lock that it belongs to, its numbers, what the value told
+/// as the pass's last turn began (`found`) and ended (`seen`), and the turns that it took (`turns`), with those of the passes that
+/// were joined in. Each turn stands at one pass of those that have a number.
 #[derive(Drop)]
 pub struct Pass<T: Told> {
     pub(crate) badge: Badge<View<T::Item, T::Key>>,

@@ -15,9 +15,11 @@ pub struct About<T: Told> {
 pub struct InTurn;
 
 impl<T: Told> TableRule<T, View<T::Item, T::Key>, About<T>> for InTurn {
+    ghost use Rattle.std.specs.Prelude.{length};
     ghost use Rattle.qz_turn.specs.Rule.{Kept, dealer};
 
-    ghost holds = { λ about. Kept T.tells T.fits about.key.value about.seats };
+    ghost holds = { λ about. Kept T.tells T.fits about.key.value about.seats
+        (length (T.tells about.start.value).list) };
 
     ghost first = { λ about. dealer about.key.value (T.tells about.start.value) about.seats };
 }

@@ -1,6 +1,6 @@
 // The lock.
-ghost use Rattle.std.specs.Prelude.{◌≡◌, ◌≢◌, ◌<◌, ◌≤◌, [], length, map, Some, IfOk, IfErr, vec_capacity};
-ghost use Rattle.qz_turn.specs.Tales.{Follows};
+ghost use Rattle.std.specs.Prelude.{◌≡◌, ◌≢◌, ◌+◌, ◌<◌, ◌≤◌, [], length, map, Some, IfOk, IfErr, vec_capacity};
+ghost use Rattle.qz_turn.specs.Tales.{Follows, put_in};
 ghost use Rattle.qz_turn.specs.Rule.{below, HasEvery};
 ghost use Rattle.qz_turn.specs.Steps.{MayDeal};
 ghost use Rattle.qz_turn.specs.Turns.{UnderKey, new_pass, dealt_pass, first_pass, left_of, split_off, note_of, Joins, HasTurn};
@@ -16,18 +16,22 @@ use std::mem;
 use std::sync::Wait;
 
 /// A lock that its passes take in turn, and the value behind it. To a contract it is the lock that its passes
-/// belong to, and how many numbers they have between them.
+/// belong to, how many numbers they have between them, and how many items the list had when it was made (`start`).
 #[derive(Drop)]
 pub struct Turns<T: Told> {
     board: Board<T>,
 }
 
 impl<T: Told> Model for Turns<T> {
+    ghost use Rattle.std.specs.Prelude.{length};
     ghost use Rattle.qz_turn.specs.Turns.{Locked, locked};
 
     ghost Value = { Locked T.Key };
 
-    ghost view = { λ t. locked t.board.table.shared.table_id t.board.table.shared.key.key.value t.board.table.shared.key.seats };
+    ghost view = { λ t. locked t.board.table.shared.table_id
+        t.board.table.shared.key.key.value
+        t.board.table.shared.key.seats
+        (length (T.tells t.board.table.shared.key.start.value).list) };
 }
 
 // A pass for each number, in order.
@@ -61,7 +65,9 @@ impl<T: Told> Turns<T> {
     ) -> Result<(Turns<T>, Vec<Pass<T>>), (T, NoMemory)>
         requires seats { 0 < seats }
         requires fits { T.fits key.now value }
-        ensures lock { IfOk result (λ made. (made.0.lock.key ≡ Some key.now) × (made.0.seats ≡ seats)) }
+        ensures lock { IfOk result (λ made. (made.0.lock.key ≡ Some key.now)
+            × (made.0.seats ≡ seats)
+            × (made.0.start ≡ length (T.tells value).list)) }
         ensures passes { IfOk result (λ made. made.1.items ≡ map (new_pass made.0.lock (T.tells value)) (below seats)) }
         ensures refused { IfErr result (λ back. back.0 ≡ value) }
     {
@@ -87,7 +93,9 @@ impl<T: Told> Turns<T> {
         seats: u32,
     ) -> Result<(Turns<T>, Pass<T>), (T, NoMemory)>
         requires fits { T.fits key.now value }
-        ensures lock { IfOk result (λ made. (made.0.lock.key ≡ Some key.now) × (made.0.seats ≡ seats)) }
+        ensures lock { IfOk result (λ made. (made.0.lock.key ≡ Some key.now)
+            × (made.0.seats ≡ seats)
+            × (made.0.start ≡ length (T.tells value).list)) }
         ensures pass { IfOk result (λ made. made.1 ≡ first_pass made.0.lock (T.tells value) seats) }
         ensures refused { IfErr result (λ back. back.0 ≡ value) }
     {
@@ -98,8 +106,8 @@ impl<T: Told> Turns<T> {
         }
     }
 
-    /// Gives the pass's first number to a new pass, which has seen what this one has seen. From a pass without a number the new one
-    /// has none.
+    /// Gives the pass's first number to a new pass, which has seen what this one has seen. With its last number its turns go to the
+    /// new pass, else they stay. From a pass without a number the new one has none.
     pub fn split(&self, pass: &mut Pass<T>) -> Pass<T>
         requires { pass.old.lock ≡ self.now.lock }
         ensures left { pass.new ≡ left_of pass.old }
@@ -149,12 +157,14 @@ impl<T: Told> Turns<T> {
         pass.badge = seat.into_badge();
     }
 
-    /// The value, from the pass that has every number. What the pass has seen begins what the value tells.
+    /// The value, from the pass that has every number. What the pass has seen begins what the value tells, whose list has as many
+    /// items as when the lock was made and as the turns of the pass put: nobody else put any.
     pub fn close(self, pass: Pass<T>) -> T
         requires pass { pass.lock ≡ self.lock }
         requires numbers { HasEvery self.seats pass.numbers }
         ensures follows { Follows pass.seen (T.tells result) }
         ensures fits { UnderKey self.lock (λ key. T.fits key result) }
+        ensures grown { length (T.tells result).list ≡ self.start + put_in pass.turns }
     {
         let Turns { board } = self;
         board.close(pass.into_seat())

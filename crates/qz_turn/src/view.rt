@@ -22,7 +22,7 @@ pub enum Stage {
     Serving(u64),
 }
 
-/// What one seat knows. A seat that was joined into another has no key, no numbers and tales of nothing.
+/// What one seat knows. A seat that was joined into another has no key, no numbers, tales of nothing and no turns.
 pub struct View<I, K> {
     pub key: Option<K>,
     pub numbers: LinkedList<u64>,
@@ -30,7 +30,7 @@ pub struct View<I, K> {
     /// What the value told as the last turn began, and as it ended.
     pub found: Tale<I>,
     pub seen: Tale<I>,
-    /// Each turn that it took, in order, with those of the seats that were joined in.
+    /// Each turn that it took, in order, with those of the seats that were joined in. They go with its last number.
     pub turns: LinkedList<Turn<I>>,
     /// What the seat that was joined in last had seen.
     pub beside: Tale<I>,

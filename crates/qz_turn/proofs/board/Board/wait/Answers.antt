@@ -9,4 +9,4 @@ load-served-requires g c =
     let sized = c.args.self.now.sized in
     let w = c.requires.waits in
     let i = c.loop.invariant in
-    (search rules, omega arith, keeps_look _ _ _ _ _ _ _ (step 0 0 0 0 none) w.ticket (ap (λ m. m.0.stage) i.1 ∙ w.waits) (ap (λ m. m.1) i.1 ∙ w.bare))
+    (search rules, omega arith, keeps_look _ _ _ _ _ _ _ _ (step 0 0 0 0 none) w.ticket (ap (λ m. m.0.stage) i.1 ∙ w.waits) (ap (λ m. m.1) i.1 ∙ w.bare))
