@@ -1,11 +1,12 @@
 //! A catalogue whose list a keeper keeps, and what is asked of it.
 
-ghost use Rattle.std.specs.Prelude.{◌≡◌, ◌≤◌, length, [], Ok, Err, None, unwrap_or, IfOk, IfErr, IfSome, is_none, option_copied};
+ghost use Rattle.std.specs.Prelude.{◌≡◌, ◌≤◌, length, [], Ok, Err, None, All, unwrap_or, IfOk, IfErr, IfSome, is_none, option_copied};
 ghost use Rattle.qz_terms.specs.declared.limits.TheConstants.{LONGEST_KEY};
 ghost use Rattle.qz_grading.specs.Grading.{at_place};
 ghost use Rattle.qz_keeper.specs.Lists.{CallEnds, EachMayStand, IsStored, Looks, OneCall, Settles};
 ghost use Rattle.qz_keeper.specs.Recording.{GoesOn, HasFailed};
 ghost use Rattle.qz_record.specs.Lengths.{NamesBriefly};
+ghost use Rattle.qz_record.specs.Records.{IsRecord};
 ghost use Rattle.qz_terms.specs.declared.reply.Reply.TheVariants as reply;
 ghost use Rattle.qz_terms.specs.Legal.{IsLegalCatalog};
 ghost use Rattle.qz_catalog.specs.Applying.{IsAsked};
@@ -69,10 +70,12 @@ impl<K: Keeper> Catalog<K> {
         }
     }
 
-    /// The number of records, without one in doubt. The list is legal, also with a record that is in doubt.
+    /// The number of records, without one in doubt. The list is legal and of records that a file may keep, also with a record that is in
+    /// doubt.
     pub fn len(&self) -> u64
         ensures count { result ≡ length self.now.held.list }
         ensures legal { EachMayStand IsLegalCatalog self.now.held }
+        ensures records { EachMayStand (All IsRecord) self.now.held }
     {
         self.core.len()
     }

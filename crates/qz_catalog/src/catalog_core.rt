@@ -129,6 +129,8 @@ impl CatalogCore {
     pub fn len(&self) -> u64
         ensures count { result ≡ length self.now }
         ensures legal { IsLegalCatalog self.now }
+        ensures kept { All IsKept self.now }
+        ensures described { list_all keeps_described self.now ≡ true }
     {
         self.book.records.len() as u64
     }

@@ -1,5 +1,5 @@
 -- What a call at a list comes to, by what its mending and its answer came to.
-use Rattle.std.proofs.Common.{◌≡◌, ◌⊎◌, ⊎_elim, arith, ℕ, List, Option, Some, None, Result, Ok, Err, MatchResult, refl, sym, ◌∙◌, ap, subst}
+use Rattle.std.proofs.Common.{◌≡◌, ◌⊎◌, ⊎_elim, arith, ℕ, true, List, Option, Some, None, is_some, Result, Ok, Err, MatchResult, refl, sym, ◌∙◌, ap, subst}
 use Rattle.qz_disks.specs.declared.keeper.KeepErr.{KeepErr}
 use Rattle.qz_disks.specs.declared.keeper.KeepErr.TheVariants.{Fault, Memory}
 use Rattle.qz_grading.specs.declared.refusal.Refusal.{Refusal}
@@ -98,3 +98,14 @@ looked_call s t m n o refused Answers old mended new told settled same ends = re
 -- the count of two calls
 pub goes_both : (a b c : Type 0) (m n o : ℕ) → GoesOn a b m n → GoesOn b c n o → GoesOn a c m o
 goes_both a b c m n o s t = record { later = omega (arith, s.later, t.later); steady = λ was. t.steady (s.still was) ∙ s.steady was; still = λ was. t.still (s.still was) }
+
+-- ---- where its keeper failed, a record is in doubt afterwards
+
+pub ends_doubt : {A : Type 0} (failed : Type 0) (refused : Refusal → A) (Answers : List Record → A → List Record → Type 0) (mended new : Held) (told : A) → CallEnds failed refused Answers mended new told → CallEnds (failed × (is_some new.doubt ≡ true)) refused Answers mended new told
+ends_doubt failed refused Answers mended new told (answered clear after is) = answered clear after is
+ends_doubt failed refused Answers mended new told (put_in_doubt why answer r clear is same said) = put_in_doubt (why, ap (λ (h : Held). is_some h.doubt) same) answer r clear is same said
+ends_doubt failed refused Answers mended new told (stayed_in_doubt why doubt same said) = stayed_in_doubt (why, ap (λ (h : Held). is_some h.doubt) same ∙ doubt) doubt same said
+ends_doubt failed refused Answers mended new told (no_memory same said) = no_memory same said
+
+pub call_doubts : {A : Type 0} (failed : Type 0) (refused : Refusal → A) (Answers : List Record → A → List Record → Type 0) (old new : Held) (told : A) → OneCall failed refused Answers old new told → OneCall (failed × (is_some new.doubt ≡ true)) refused Answers old new told
+call_doubts failed refused Answers old new told call = record { mended = call.mended; mends = call.mends; ends = ends_doubt failed refused Answers call.mended new told call.ends }

@@ -1,13 +1,19 @@
 -- What becomes of a list and its keeper while it is mended and a record is put.
-use Rattle.std.proofs.Common.{◌≡◌, ℕ, List, [], ◌∷◌, ◌++◌, Option, Some, None, IfSome, Result, MatchResult, Ok, Err, is_some, option_map, refl, sym, ◌∙◌, ap, subst}
+use Rattle.std.proofs.Common.{◌≡◌, ℕ, true, List, [], ◌∷◌, ◌++◌, Option, Some, None, IfSome, Result, MatchResult, Ok, Err, is_some, option_map, refl, sym, ◌∙◌, ap, subst}
+use Rattle.std.specs.List.{list_all}
+use Rattle.std.specs.Prelude.{All}
+use Rattle.std.proofs.lemmas.List.Elements.{All-push}
+use Rattle.std.proofs.lemmas.List.Sums.{AllPass-from_list_all}
 use Rattle.qz_disks.specs.declared.keeper.KeepErr.{KeepErr}
 use Rattle.qz_disks.specs.declared.keeper.KeepErr.TheVariants.{Fault, Memory}
 use Rattle.qz_keeper.specs.Custody.{Custody, FindsOut, IsFoundOut, IsReady, StaysInDoubt, pending, pending_of}
-use Rattle.qz_keeper.specs.Lists.{EachMayStand, IsKeptList, IsSettled, IsStored, IsUnsettled, KeepsList, held_in, longer, whole, with_next}
+use Rattle.qz_keeper.specs.Lists.{EachMayStand, IsKeptList, IsSettled, IsSpellable, IsStored, IsUnsettled, KeepsList, held_in, longer, whole, with_next}
 use Rattle.qz_keeper.specs.Recording.{Recorded, TakesRecord, failure, nothing_put, one_put, taken, untaken, wanting}
 use Rattle.qz_keeper.proofs.Calls.{pending_failed, pending_none}
 use Rattle.qz_keeper.proofs.Keeping.{follows}
+use Rattle.qz_record.specs.Records.{IsRecord, keeps_described}
 use Rattle.qz_terms.specs.declared.record.Record.{Record}
+use Rattle.qz_terms.specs.Kept.{IsKept}
 use Rattle.qz_terms.specs.Serial.{Held, Mended, adopted, dropped, stays}
 use Rattle.qz_terms.specs.Spelling.{spelling}
 
@@ -35,19 +41,23 @@ pub none_found : {K : Type 0} (kept : K → Option (List (List ℕ))) (MayFollow
 none_found kept MayFollow list c r k doubt = found_none c r c.found refl k.one doubt
 
 -- a keeper with the same payloads, and one record in doubt
-doubted_list : {K : Type 0} (kept : K → Option (List (List ℕ))) (MayFollow : List Record → Record → Type 0) (list : List Record) (d : Custody K) (r : Record) → KeepsList (kept d.keeper) list → MayFollow list r → d.doubt ≡ Some r → d.found ≡ None → IsKeptList kept MayFollow list d
-doubted_list kept MayFollow list d r keeps may doubt none = record {
+doubted_list : {K : Type 0} (kept : K → Option (List (List ℕ))) (MayFollow : List Record → Record → Type 0) (list : List Record) (d : Custody K) (r : Record) → KeepsList (kept d.keeper) list → MayFollow list r → d.doubt ≡ Some r → d.found ≡ None → All IsSpellable list → IsSpellable r → IsKeptList kept MayFollow list d
+doubted_list kept MayFollow list d r keeps may doubt none spellable own = record {
   keeps = subst (λ f. KeepsList (kept d.keeper) (with_next f list)) (sym none) keeps;
   next = subst (λ p. IfSome p (MayFollow list)) (sym (pending_failed d r doubt)) may;
   one = subst (λ f. IfSome f (λ _. d.doubt ≡ None)) (sym none) tt;
+  spellable = spellable;
+  next_spellable = subst (λ p. IfSome p IsSpellable) (sym (pending_failed d r doubt)) own;
 }
 
 -- and with none
-pub clear_list : {K : Type 0} (kept : K → Option (List (List ℕ))) (MayFollow : List Record → Record → Type 0) (list : List Record) (d : Custody K) → KeepsList (kept d.keeper) list → IsReady d → IsKeptList kept MayFollow list d
-clear_list kept MayFollow list d keeps ready = record {
+pub clear_list : {K : Type 0} (kept : K → Option (List (List ℕ))) (MayFollow : List Record → Record → Type 0) (list : List Record) (d : Custody K) → KeepsList (kept d.keeper) list → IsReady d → All IsSpellable list → IsKeptList kept MayFollow list d
+clear_list kept MayFollow list d keeps ready spellable = record {
   keeps = subst (λ f. KeepsList (kept d.keeper) (with_next f list)) (sym ready.none_found) keeps;
   next = subst (λ p. IfSome p (MayFollow list)) (sym (pending_none d ready)) tt;
   one = subst (λ f. IfSome f (λ _. d.doubt ≡ None)) (sym ready.none_found) tt;
+  spellable = spellable;
+  next_spellable = subst (λ p. IfSome p IsSpellable) (sym (pending_none d ready)) tt;
 }
 
 -- the payloads spell the list where nothing was found
@@ -57,6 +67,9 @@ plain_list kept MayFollow list c k none = subst (λ f. KeepsList (kept c.keeper)
 doubt_may : {K : Type 0} (kept : K → Option (List (List ℕ))) (MayFollow : List Record → Record → Type 0) (list : List Record) (c : Custody K) (r : Record) → IsKeptList kept MayFollow list c → c.doubt ≡ Some r → MayFollow list r
 doubt_may kept MayFollow list c r k doubt = subst (λ p. IfSome p (MayFollow list)) (pending_failed c r doubt) k.next
 
+doubt_spellable : {K : Type 0} (kept : K → Option (List (List ℕ))) (MayFollow : List Record → Record → Type 0) (list : List Record) (c : Custody K) (r : Record) → IsKeptList kept MayFollow list c → c.doubt ≡ Some r → IsSpellable r
+doubt_spellable kept MayFollow list c r k doubt = subst (λ p. IfSome p IsSpellable) (pending_failed c r doubt) k.next_spellable
+
 failed_by : {K : Type 0} (failed : Type 0) (kept : K → Option (List (List ℕ))) (MayFollow : List Record → Record → Type 0) (list : List Record) (c d : Custody K) (e : KeepErr) (doubt : Option Record) → c.doubt ≡ doubt → IsKeptList kept MayFollow list c
     → IfSome doubt (λ r. StaysInDoubt (kept c.keeper) (kept d.keeper) r d.doubt d.found) → (doubt ≡ None → ◌≡◌ {A = Result (Unit {0}) KeepErr} (Err e) (Ok tt)) → (e ≡ Fault → failed) → IsKeptList kept MayFollow list d × IsUnsettled failed (held_in list c) (held_in list d) e
 failed_by failed kept MayFollow list c d e None is k stays_so settled cause = let wrong = settled refl in absurd cc
@@ -64,7 +77,7 @@ failed_by failed kept MayFollow list c d e (Some r) is k stays_so settled cause 
     let keeps : KeepsList (kept d.keeper) list = subst (λ p. KeepsList p list) (sym stays_so.kept) (plain_list kept MayFollow list c k (none_found kept MayFollow list c r k is)) in
     let before = pending_failed c r is in
     let after = pending_failed d r stays_so.in_doubt in (
-      doubted_list kept MayFollow list d r keeps (doubt_may kept MayFollow list c r k is) stays_so.in_doubt stays_so.none_found,
+      doubted_list kept MayFollow list d r keeps (doubt_may kept MayFollow list c r k is) stays_so.in_doubt stays_so.none_found k.spellable (doubt_spellable kept MayFollow list c r k is),
       record { same = ap (λ p. let h : Held = record { list = list; doubt = p } in h) (after ∙ sym before); in_doubt = λ _. ap is_some before; cause = cause },
     )
 
@@ -117,6 +130,8 @@ found_by kept MayFollow list c d (Some r) is k out settled =
         keeps = follows.found (kept c.keeper) (kept d.keeper) list r d.doubt d.found keeps out;
         next = subst (λ p. IfSome p (MayFollow list)) (sym after) (found_may MayFollow list r d.found out.was (doubt_may kept MayFollow list c r k is));
         one = found_alone d.found d.doubt out.no_doubt;
+        spellable = k.spellable;
+        next_spellable = subst (λ p. IfSome p IsSpellable) (sym after) (found_may (λ l x. IsSpellable x) list r d.found out.was (doubt_spellable kept MayFollow list c r k is));
       };
       mends = subst (λ p. Mended (record { list = list; doubt = p }) (held_in list d)) (sym (pending_failed c r is)) (follows.seen list r d.doubt d.found (kept c.keeper) (kept d.keeper) out);
       no_doubt = out.no_doubt;
@@ -147,7 +162,7 @@ finding_put kept MayFollow list g c d e x f is put cleared =
     let after : held_in g e ≡ record { list = list ++ x ∷ []; doubt = None } =
     ap (λ l. let h : Held = record { list = l; doubt = pending e } in h) put ∙ ap (λ p. let h : Held = record { list = list ++ x ∷ []; doubt = p } in h) (pending_none e ready) in
     record {
-      keeps = clear_list kept MayFollow g e keeps ready;
+      keeps = clear_list kept MayFollow g e keeps ready (subst (All IsSpellable) (sym put) (All-push IsSpellable list x f.keeps.spellable (subst (λ p. IfSome p IsSpellable) found f.keeps.next_spellable)));
       settled = record {
         mends = subst (λ h. Mended h (held_in g e)) (sym before) (subst (λ h. Mended (record { list = list; doubt = Some x }) h) (sym after) (follows.put list x));
         no_doubt = pending_none e ready;
@@ -166,6 +181,7 @@ recorded_kept kept sound faults MayFollow h after g c d k ready (nothing_put not
 recorded_kept kept sound faults MayFollow h after g c d k ready (one_put r may more (taken took)) is =
     let keeps : KeepsList (kept d.keeper) (h ++ r ∷ []) = follows.appended (kept c.keeper) (kept d.keeper) h d.doubt r (plain_list kept MayFollow h c k ready.none_found) took.appends in
     clear_list kept MayFollow g d (subst (λ l. KeepsList (kept d.keeper) l) (sym (is ∙ more)) keeps) (record { no_doubt = took.appends.no_doubt; none_found = took.none_found })
+    (subst (All IsSpellable) (sym (is ∙ more)) (All-push IsSpellable h r k.spellable took.appends.spellable))
 recorded_kept kept sound faults MayFollow h after g c d k ready (one_put r may more (untaken still why)) is = absurd cc
 recorded_kept kept sound faults MayFollow h after g c d k ready (wanting still why) is = absurd cc
 
@@ -174,10 +190,10 @@ pub unrecorded_kept : {K : Type 0} (kept : K → Option (List (List ℕ))) (soun
 unrecorded_kept kept sound faults MayFollow h after g c d e k ready (nothing_put nothing still why) same = absurd cc
 unrecorded_kept kept sound faults MayFollow h after g c d Fault k ready (one_put r may more (taken took)) same =
     subst (λ l. IsKeptList kept MayFollow l d) (sym same)
-    (doubted_list kept MayFollow h d r (subst (λ p. KeepsList p h) (sym took.appends.kept) (plain_list kept MayFollow h c k ready.none_found)) may took.appends.in_doubt took.none_found)
+    (doubted_list kept MayFollow h d r (subst (λ p. KeepsList p h) (sym took.appends.kept) (plain_list kept MayFollow h c k ready.none_found)) may took.appends.in_doubt took.none_found k.spellable (took.appends.spellable refl))
 unrecorded_kept kept sound faults MayFollow h after g c d Memory k ready (one_put r may more (taken took)) same =
     clear_list kept MayFollow g d (subst (λ l. KeepsList (kept d.keeper) l) (sym same) (subst (λ p. KeepsList p h) (sym took.appends.kept) (plain_list kept MayFollow h c k ready.none_found)))
-    (record { no_doubt = took.appends.in_doubt; none_found = took.none_found })
+    (record { no_doubt = took.appends.in_doubt; none_found = took.none_found }) (subst (All IsSpellable) (sym same) k.spellable)
 unrecorded_kept kept sound faults MayFollow h after g c d e k ready (one_put r may more (untaken still why)) same = stays_kept kept MayFollow h g c d k same still
 unrecorded_kept kept sound faults MayFollow h after g c d e k ready (wanting still why) same = stays_kept kept MayFollow h g c d k same still
 
@@ -224,3 +240,20 @@ mended_may P _ _ (adopted l x) each = each.with_doubt
 pub list_ends : {A : Type 0} (h after g : List Record) (answer : A) (result : Result A KeepErr) → MatchResult result (λ told. (told ≡ answer) × (g ≡ after)) (λ _. g ≡ h) → MatchResult result (λ _. g ≡ after) (λ _. g ≡ h)
 list_ends h after g answer (Ok told) ends = ends.1
 list_ends h after g answer (Err e) ends = ends
+
+-- ---- records that a file may keep
+
+are_records : (list : List Record) → All IsSpellable list → All IsKept list → list_all keeps_described list ≡ true → All IsRecord list
+are_records list own kept described = λ k d within. record { spellable = own k d within; kept = kept k d within; described = AllPass-from_list_all keeps_described list described k d within }
+
+records_with : (MayFollow : List Record → Record → Type 0) (list : List Record) (doubt : Option Record) → All IsRecord list → IfSome doubt (MayFollow list) → IfSome doubt IsSpellable → ((r : Record) → MayFollow list r → IsKept r × (keeps_described r ≡ true))
+    → IfSome doubt (λ r. All IsRecord (list ++ r ∷ []))
+records_with MayFollow list None records may own next = tt
+records_with MayFollow list (Some r) records may own next = let keeps = next r may in All-push IsRecord list r records (record { spellable = own; kept = keeps.0; described = keeps.1 })
+
+-- so is each record of a list that may stand, where those of the list and what may follow them keep what every record does
+pub records_held : {K : Type 0} (kept : K → Option (List (List ℕ))) (MayFollow : List Record → Record → Type 0) (list : List Record) (c : Custody K) → IsKeptList kept MayFollow list c → All IsKept list → list_all keeps_described list ≡ true
+    → ((r : Record) → MayFollow list r → IsKept r × (keeps_described r ≡ true)) → EachMayStand (All IsRecord) (held_in list c)
+records_held kept MayFollow list c k all described next =
+    let records = are_records list k.spellable all described in
+    record { without = records; with_doubt = records_with MayFollow list (pending c) records k.next k.next_spellable next }

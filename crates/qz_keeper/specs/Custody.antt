@@ -52,6 +52,7 @@ doubt_after r Memory = None
 pub record IsNotAppended (old new : Option (List (List ℕ))) (doubt : Option Record) (r : Record) (e : KeepErr) : Type 0 where
   pub kept : new ≡ old
   pub in_doubt : doubt ≡ doubt_after r e
+  pub spellable : e ≡ Fault → is_spellable r ≡ true
 
 -- the record was appended, unless that failed
 abbrev pub Appends : Option (List (List ℕ)) → Option (List (List ℕ)) → Option Record → Record → Option KeepErr → Type 0

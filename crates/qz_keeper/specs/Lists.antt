@@ -1,9 +1,10 @@
 -- A list of records that a keeper keeps, of which one record may be in doubt, and what one call at it comes to.
-use Rattle.std.specs.Prelude.{◌≡◌, ℕ, true, List, [], ◌∷◌, ◌++◌, length, map, Option, Some, None, is_some, option_map, IfSome, Result, Ok, Err, MatchResult}
+use Rattle.std.specs.Prelude.{◌≡◌, ℕ, true, List, [], ◌∷◌, ◌++◌, length, map, All, Option, Some, None, is_some, option_map, IfSome, Result, Ok, Err, MatchResult}
 use Rattle.qz_disks.specs.declared.keeper.KeepErr.{KeepErr}
 use Rattle.qz_disks.specs.declared.keeper.KeepErr.TheVariants.{Fault, Memory}
 use Rattle.qz_grading.specs.declared.refusal.Refusal.{Refusal}
 use Rattle.qz_grading.specs.declared.refusal.Refusal.TheVariants as refusal
+use Rattle.qz_record.specs.Records.{is_spellable}
 use Rattle.qz_terms.specs.declared.record.Record.{Record}
 use Rattle.qz_terms.specs.Serial.{Held, Mended, doubted}
 use Rattle.qz_terms.specs.Spelling.{spelling}
@@ -23,12 +24,18 @@ abbrev pub with_next : Option Record → List Record → List Record
 with_next None list = list
 with_next (Some r) list = list ++ r ∷ []
 
+-- a record has a spelling of its own
+abbrev pub IsSpellable : Record → Type 0
+IsSpellable r = is_spellable r ≡ true
+
 -- A list and its keeper: the payloads spell it, and behind it the record that was found. What isn't in the list yet may stand next, and
--- is in doubt or found.
+-- is in doubt or found. No record has the spelling of another.
 pub record IsKeptList {K : Type 0} (kept : K → Option (List (List ℕ))) (MayFollow : List Record → Record → Type 0) (list : List Record) (c : Custody K) : Type 0 where
   pub keeps : KeepsList (kept c.keeper) (with_next c.found list)
   pub next : IfSome (pending c) (MayFollow list)
   pub one : IfSome c.found (λ _. c.doubt ≡ None)
+  pub spellable : All IsSpellable list
+  pub next_spellable : IfSome (pending c) IsSpellable
 
 -- a list as it is seen: what isn't in it yet is in doubt
 abbrev pub held_in : {K : Type 0} → List Record → Custody K → Held

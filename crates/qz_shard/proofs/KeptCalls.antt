@@ -1,23 +1,29 @@
 -- What the calls of a shard that a keeper keeps come to.
-use Rattle.std.proofs.Common.{◌≡◌, ◌≤◌, ◌+◌, ℕ, arith, List, [], ◌∷◌, ◌++◌, Option, Some, None, IfSome, IfOk, OnErr, MatchResult, Result, Ok, Err, length, refl, sym, ap, subst, ◌∙◌}
-use Rattle.std.specs.Prelude.{unwrap_or}
+use Rattle.std.proofs.Common.{◌≡◌, ◌≤◌, ◌+◌, ℕ, true, arith, List, [], ◌∷◌, ◌++◌, Option, Some, None, IfSome, IfOk, OnErr, MatchResult, Result, Ok, Err, length, refl, sym, ap, subst, ◌∙◌}
+use Rattle.std.specs.List.{list_all}
+use Rattle.std.specs.Prelude.{All, slice_index_or, unwrap_or}
+use Rattle.std.proofs.lemmas.List.Sums.{AllPass-from_list_all, list_all-from_AllPass}
 use Rattle.qz_disks.specs.declared.keeper.KeepErr.{KeepErr}
 use Rattle.qz_keeper.specs.Custody.{Custody, pending, pending_of}
 use Rattle.qz_keeper.specs.Lists.{EachMayStand, IsKeptList, held_in}
 use Rattle.qz_keeper.specs.Recording.{CanTake, IsReadyFor}
-use Rattle.qz_keeper.proofs.Settling.{IsFoundIn, ready_of}
+use Rattle.qz_keeper.proofs.Settling.{IsFoundIn, ready_of, records_held}
+use Rattle.qz_record.specs.Records.{IsRecord, keeps_described}
 use Rattle.qz_terms.specs.declared.ask.Ask.{Ask}
 use Rattle.qz_terms.specs.declared.people.User.{User}
 use Rattle.qz_terms.specs.declared.plan.Job.{Job}
 use Rattle.qz_terms.specs.declared.plan.Plan.{Plan}
+use Rattle.qz_terms.specs.declared.record.Event.{Event}
+use Rattle.qz_terms.specs.declared.record.Event.TheVariants as event
 use Rattle.qz_terms.specs.declared.record.Record.{Record}
 use Rattle.qz_terms.specs.declared.reply.Reply.{Reply}
+use Rattle.qz_terms.specs.Catalog.{asked_by}
 use Rattle.qz_terms.specs.Answer.{answer_here, list_after, work_after, work_answer}
 use Rattle.qz_terms.specs.Legal.{IsLegal}
 use Rattle.qz_terms.specs.Serial.{Held, stays}
 use Rattle.qz_shard.specs.Answering.{IsAnswered, IsPosed}
 use Rattle.qz_shard.specs.Holdings.{Holding}
-use Rattle.qz_book.specs.Held.{IsHeld}
+use Rattle.qz_book.specs.Held.{IsHeld, is_asked, is_asked_event}
 use Rattle.qz_shard.specs.Keeping.{CountsFew, IsTold}
 use Rattle.qz_book.specs.Nexts.{IsNext}
 use Rattle.qz_shard.specs.Works.{IsWorked}
@@ -69,3 +75,18 @@ legal_with index count l (Some r) legal next = legal-push index count l r legal 
 -- a record that is in doubt may stand behind a legal list
 pub legal_held : {K : Type 0} (kept : K → Option (List (List ℕ))) (index count : ℕ) (h : List Record) (c : Custody K) → IsKeptList kept (IsNext index count) h c → IsLegal index count h → EachMayStand (IsLegal index count) (held_in h c)
 legal_held kept index count h c k legal = record { without = legal; with_doubt = legal_with index count h (pending c) legal k.next }
+
+-- what a request to a shard puts is none of the catalogue's
+unasked : (e : Event) → is_asked_event e ≡ true → asked_by e ≡ None
+unasked (event.Asked x) asked = absurd cc
+unasked e asked = refl
+
+described : (r : Record) → is_asked r ≡ true → keeps_described r ≡ true
+described r asked = rw (unasked r.event asked) refl
+
+-- each record of a list that may stand is one that a file may keep
+pub records_there : {K : Type 0} (kept : K → Option (List (List ℕ))) (index count : ℕ) (h : List Record) (c : Custody K) → IsKeptList kept (IsNext index count) h c → IsHeld index count h → EachMayStand (All IsRecord) (held_in h c)
+records_there kept index count h c k held =
+    records_held kept (IsNext index count) h c k held.kept
+    (list_all-from_AllPass keeps_described h (λ n d within. described (slice_index_or h n d) (AllPass-from_list_all is_asked h held.asked n d within)))
+    (λ r next. (next.kept, described r next.asked))

@@ -1,11 +1,12 @@
 //! A shard whose list a keeper keeps, and what is asked of it.
 
-ghost use Rattle.std.specs.Prelude.{◌≡◌, ◌+◌, ◌≤◌, length, [], true, Ok, Err, Some, None, is_none, option_copied, option_map, unwrap_or, IfOk, IfErr, IfSome, IsErrOf};
+ghost use Rattle.std.specs.Prelude.{◌≡◌, ◌+◌, ◌≤◌, length, [], true, All, Ok, Err, Some, None, is_none, option_copied, option_map, unwrap_or, IfOk, IfErr, IfSome, IsErrOf};
 ghost use Rattle.qz_terms.specs.declared.limits.TheConstants.{LONGEST_KEY};
 ghost use Rattle.qz_decimal.specs.Numbers.{IsMaxSum, IsQuizGrade};
 ghost use Rattle.qz_grading.specs.Grading.{at_place};
 ghost use Rattle.qz_keeper.specs.Lists.{CallEnds, EachMayStand, IsStored, Settles};
 ghost use Rattle.qz_keeper.specs.Recording.{GoesOn, HasFailed};
+ghost use Rattle.qz_record.specs.Records.{IsRecord};
 ghost use Rattle.qz_terms.specs.History.{live_after};
 ghost use Rattle.qz_terms.specs.Legal.{IsLegal};
 ghost use Rattle.qz_terms.specs.declared.reply.Reply.TheVariants as reply;
@@ -95,11 +96,13 @@ impl<K: Keeper> Shard<K> {
         }
     }
 
-    /// The number of records, without one in doubt. The list is legal for this shard, also with a record that is in doubt.
+    /// The number of records, without one in doubt. The list is legal for this shard and of records that a file may keep, also with a
+    /// record that is in doubt.
     pub fn len(&self) -> u64
         ensures count { result ≡ length self.now.held.list }
         ensures shard { is_shard self.now.index self.now.count ≡ true }
         ensures legal { EachMayStand (IsLegal self.now.index self.now.count) self.now.held }
+        ensures records { EachMayStand (All IsRecord) self.now.held }
     {
         self.core.len()
     }

@@ -60,7 +60,8 @@ pub fn load<F: Shelf>(
 }
 
 /// Gives every file of a school's lists back. It takes no memory, and writes nothing. Each file stands for its list then, or where a
-/// record is in doubt for the list or for it with that record; and whichever of these do, they are a school's.
+/// record is in doubt for the list or for it with that record; and whichever of these do, they are a school's, of records that a file may
+/// keep.
 pub fn close<F: Shelf>(shelf: &mut F, folder: &[u8], school: Solo<Journal<F::Disk>>)
     requires few { length school.parts ≤ MOST_SHARDS }
     requires out { IsOut folder.now (length school.parts) (F.files shelf.old) }

@@ -64,7 +64,8 @@ impl<K: Keeper> Solo<K> {
         self.catalog.len()
     }
 
-    /// Does nothing. What it says holds of every school: whichever of the lists that may stand do, they are a school's.
+    /// Does nothing. What it says holds of every school: whichever of the lists that may stand do, they are a school's, of records that a
+    /// file may keep.
     pub fn attest(&self)
         ensures { StandAsSchool (lists_in self.now) }
     {
@@ -85,7 +86,7 @@ impl<K: Keeper> Solo<K> {
     }
 }
 
-/// Whatever a shard holds is legal.
+/// Whatever a shard holds is legal, and may be kept.
 fn attest_shards<K: Keeper>(shards: &[Shard<K>])
     ensures { AreLegal shards.now }
 {
