@@ -1,12 +1,13 @@
 -- What became of a request's own record, by what its call at a list came to.
 use Rattle.std.proofs.Common.{◌≡◌, ℕ, Bool, true, List, [], ◌∷◌, ◌++◌, length, length-append, Option, Some, None, Result, Ok, Err, refl, ap, sym, ◌∙◌, subst, arith, append-nil}
-use Rattle.std.specs.Prelude.{if◌then◌else◌, is_none, nat_lt, option_to_list}
+use Rattle.std.specs.Prelude.{if◌then◌else◌, is_none, nat_lt, option_to_list, is_some}
 use Rattle.std.proofs.lemmas.Bool.{le-ltb, lt-ltb}
 use Rattle.qz_catalog.specs.Keeping.{IsTold, Keeping}
 use Rattle.qz_catalog.proofs.KeptCalls.{each_settled, settled_by}
 use Rattle.qz_grading.specs.declared.refusal.Refusal.{Refusal}
 use Rattle.qz_keeper.specs.Lists.{CallEnds, EachMayStand, IsSettled, Looks, OneCall, answered, no_memory, put_in_doubt, stayed_in_doubt}
 use Rattle.qz_keeper.specs.Recording.{GoesOn, HasFailed}
+use Rattle.qz_keeper.proofs.Calls.{ends_doubt}
 use Rattle.qz_keeper.proofs.Settling.{mended_may}
 use Rattle.qz_outside.specs.Causes.{HasRisen}
 use Rattle.qz_serial.specs.Calls.{LookEnds, looked, unlooked, unread}
@@ -24,11 +25,12 @@ use Rattle.qz_terms.specs.Serial.{Held, with_list}
 use Rattle.qz_turn.specs.declared.view.Tale.{Tale}
 use Rattle.qz_turn.specs.Passes.{Standing}
 use Rattle.qz_turn.specs.Tales.{Follows}
+use Rattle.qz_turn.specs.Turns.{AddsTurn}
 use Rattle.qz_catalog_turns.specs.declared.replied.OwnRecord.{OwnRecord}
 use Rattle.qz_catalog_turns.specs.declared.replied.OwnRecord.TheVariants as own
 use Rattle.qz_catalog_turns.specs.declared.replied.Replied.{Replied}
 use Rattle.qz_catalog_turns.specs.Owning.{CallReplies, DidReply, Leaves, OneReply, ReplyEnds, TurnReplies, absent, in_doubt, own_of, stands}
-use Rattle.qz_catalog_turns.specs.Turning.{AddsTurn, held_of, tale_of}
+use Rattle.qz_catalog_turns.specs.Turning.{Fails, held_of, tale_of}
 
 -- ---- one record more, or none
 
@@ -169,7 +171,8 @@ call-replies P failed refused Answers found seen told left to r found_may seen_m
     call = record {
       mended = r.call.mended;
       mends = r.call.mends;
-      ends = ends_mean failed (HasRisen found.faults seen.faults) refused Answers Answers r.call.mended (held_of seen) told to (λ t g is. is) r.call.ends;
+      ends = ends_mean (failed × (is_some seen.doubt ≡ true)) (Fails found seen) refused Answers Answers r.call.mended (held_of seen) told (λ f. (to f.0, f.1)) (λ t g is. is)
+          (ends_doubt failed refused Answers r.call.mended (held_of seen) told r.call.ends);
     };
     found_may = found_may;
     seen_may = seen_may;

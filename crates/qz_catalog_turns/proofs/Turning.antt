@@ -6,6 +6,7 @@ use Rattle.qz_catalog.specs.Keeping.{IsTold, Keeping}
 use Rattle.qz_grading.specs.declared.refusal.Refusal.{Refusal}
 use Rattle.qz_keeper.specs.Lists.{CallEnds, EachMayStand, Looks, OneCall, answered, no_memory, put_in_doubt, stayed_in_doubt}
 use Rattle.qz_keeper.specs.Recording.{GoesOn, HasFailed}
+use Rattle.qz_keeper.proofs.Calls.{call_doubts}
 use Rattle.qz_serial.proofs.Composing.{calls_mean}
 use Rattle.qz_serial.proofs.Growing.{grown_records}
 use Rattle.qz_serial.proofs.Longer.{staying_law}
@@ -63,7 +64,7 @@ did sound faults refused Answers before after answer call found left = record {
   answer = answer;
   told_is = refl;
   calls = record {
-    call = (calls_mean _ _ refused Answers Answers).each before.held after.held answer (λ f. f.rose) (λ h t g is. is) call;
+    call = (calls_mean _ _ refused Answers Answers).each before.held after.held answer (λ f. (f.0.rose, f.1)) (λ h t g is. is) (call_doubts _ refused Answers before.held after.held answer call);
     found_may = found;
     seen_may = left;
   };

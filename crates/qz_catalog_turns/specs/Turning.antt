@@ -1,6 +1,6 @@
 -- What one turn at a list comes to, as the pass that made it tells.
 use Rattle.std.specs.List.{All}
-use Rattle.std.specs.Prelude.{◌≡◌, ℕ, List, [], ◌∷◌, ◌++◌, Option, Some}
+use Rattle.std.specs.Prelude.{◌≡◌, ℕ, true, List, ◌++◌, Option, Some, is_some}
 use Rattle.qz_catalog.specs.Keeping.{Keeping}
 use Rattle.qz_grading.specs.declared.refusal.Refusal.{Refusal}
 use Rattle.qz_keeper.specs.Lists.{EachMayStand, OneCall}
@@ -12,7 +12,7 @@ use Rattle.qz_turn.specs.declared.view.Tale.{Tale}
 use Rattle.qz_turn.specs.declared.view.Turn.{Turn}
 use Rattle.qz_turn.specs.Passes.{Standing}
 use Rattle.qz_turn.specs.Tales.{Follows}
-use Rattle.qz_turn.specs.Turns.{last_turn}
+use Rattle.qz_turn.specs.Turns.{AddsTurn}
 
 -- what a list tells, with its record in doubt and how often its keeper failed
 abbrev pub tale_of : Held → ℕ → Tale Record
@@ -22,16 +22,15 @@ tale_of held faults = record { list = held.list; doubt = held.doubt; faults = fa
 abbrev pub held_of : Tale Record → Held
 held_of tale = record { list = tale.list; doubt = tale.doubt }
 
--- A call at a list, between what was found and what is seen of it: a keeper failed only where its count rose. Each list that may stand
--- before it or afterwards has P.
+-- A keeper failed between what was found of its list and what is seen of it: its count rose, and a record of the list is in doubt since.
+abbrev pub Fails : Tale Record → Tale Record → Type 0
+Fails found seen = HasRisen found.faults seen.faults × (is_some seen.doubt ≡ true)
+
+-- A call at a list, between what was found and what is seen of it. Each list that may stand before it or afterwards has P.
 pub record Calls {A : Type 0} (P : List Record → Type 0) (refused : Refusal → A) (Answers : List Record → A → List Record → Type 0) (found seen : Tale Record) (told : A) : Type 0 where
-  pub call : OneCall (HasRisen found.faults seen.faults) refused Answers (held_of found) (held_of seen) told
+  pub call : OneCall (Fails found seen) refused Answers (held_of found) (held_of seen) told
   pub found_may : EachMayStand P (held_of found)
   pub seen_may : EachMayStand P (held_of seen)
-
--- the pass took one turn more
-abbrev pub AddsTurn : {K : Type 0} → Standing Record K → Standing Record K → Type 0
-AddsTurn old new = new.turns ≡ old.turns ++ last_turn new ∷ []
 
 -- One turn of a pass: it found what goes on from what it had seen, and the call came to this. It keeps its lock and its numbers, and its turn is told.
 pub record TurnCalls {A K : Type 0} (P : List Record → Type 0) (refused : Refusal → A) (Answers : List Record → A → List Record → Type 0) (old new : Standing Record K) (told : A) : Type 0 where

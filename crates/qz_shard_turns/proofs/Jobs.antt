@@ -3,7 +3,7 @@ use Rattle.std.proofs.Common.{◌≡◌, ℕ, List, Option, Some, refl, ap, sym,
 use mathlib.Core.List.{IsPrefix}
 use Rattle.qz_catalog_turns.specs.declared.replied.Replied.{Replied}
 use Rattle.qz_catalog_turns.specs.Owning.{CallReplies, OneReply, TurnReplies}
-use Rattle.qz_catalog_turns.specs.Turning.{AddsTurn, tale_of}
+use Rattle.qz_catalog_turns.specs.Turning.{tale_of}
 use Rattle.qz_catalog_turns.proofs.Owning.{Puts, call-replies, one-told}
 use Rattle.qz_keeper.specs.Lists.{EachMayStand, OneCall}
 use Rattle.qz_keeper.specs.Recording.{HasFailed}
@@ -23,7 +23,7 @@ use Rattle.qz_terms.specs.Legal.{AllAgree, IsLegal, IsLegalCatalog}
 use Rattle.qz_terms.specs.Serial.{Held}
 use Rattle.qz_turn.specs.Passes.{Standing}
 use Rattle.qz_turn.specs.Tales.{Follows}
-use Rattle.qz_turn.specs.Turns.{Joins}
+use Rattle.qz_turn.specs.Turns.{AddsTurn, Joins}
 use Rattle.qz_shard_turns.specs.Tying.{Behind, IsTied, Placed}
 use Rattle.qz_shard_turns.specs.Jobs.{CanWork, DidWork}
 use Rattle.qz_shard_turns.proofs.Posing.{same-legal, turn-of}

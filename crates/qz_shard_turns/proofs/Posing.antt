@@ -5,11 +5,12 @@ use Rattle.qz_catalog.specs.Holdings.{lean}
 use Rattle.qz_catalog_turns.specs.declared.replied.OwnRecord.{OwnRecord}
 use Rattle.qz_catalog_turns.specs.declared.replied.Replied.{Replied}
 use Rattle.qz_catalog_turns.specs.Owning.{CallReplies, OneReply, ReplyEnds, TurnReplies}
-use Rattle.qz_catalog_turns.specs.Turning.{AddsTurn, tale_of}
+use Rattle.qz_catalog_turns.specs.Turning.{tale_of}
 use Rattle.qz_catalog_turns.proofs.Owning.{Puts, call-replies, mended-reply, one-told, puts-as, reply-means, tales-reply, turn-replies, with-one}
 use Rattle.qz_grading.specs.declared.refusal.Refusal.{Refusal}
-use Rattle.qz_keeper.specs.Lists.{EachMayStand, IsSettled, OneCall}
+use Rattle.qz_keeper.specs.Lists.{EachMayStand, IsSettled, Looks, OneCall}
 use Rattle.qz_keeper.specs.Recording.{GoesOn, HasFailed}
+use Rattle.qz_keeper.proofs.Calls.{call_doubts}
 use Rattle.qz_school.specs.Agreement.{is_start}
 use Rattle.qz_school.proofs.Leaning.{leaning_law}
 use Rattle.qz_school.proofs.Putting.{older_law}
@@ -36,10 +37,10 @@ use Rattle.qz_terms.specs.Serial.{Held, Mended}
 use Rattle.qz_turn.specs.declared.view.Tale.{Tale}
 use Rattle.qz_turn.specs.Passes.{Standing}
 use Rattle.qz_turn.specs.Tales.{Follows}
-use Rattle.qz_turn.specs.Turns.{Joins}
+use Rattle.qz_turn.specs.Turns.{AddsTurn, Joins}
 use Rattle.qz_turn.proofs.Prefixes.{prefix_trans}
 use Rattle.qz_shard_turns.specs.Posing.{CanPose, Comes, IsAnsweredNow, IsPlannedBy, WasAnswered, shard_at}
-use Rattle.qz_shard_turns.specs.Tying.{Behind, IsTied, Placed}
+use Rattle.qz_shard_turns.specs.Tying.{Behind, Did, IsTied, Placed}
 use Rattle.qz_shard_turns.proofs.Tying.{agree-on, joined-first, joined-legal, joined-second}
 
 -- ---- each list that goes on from what was seen
@@ -146,6 +147,20 @@ answer-tied failed place before after note seen moment user plan ask result tied
 pub same-legal : {K : Type 0} (before after : part.Keeping K) → part.IsSamePart before after → EachMayStand (IsLegal after.index after.count) after.held → EachMayStand (IsLegal before.index before.count) after.held
 same-legal before after same legal =
     subst (λ (n : ℕ). EachMayStand (IsLegal n before.count) after.held) same.index (subst (λ (n : ℕ). EachMayStand (IsLegal after.index n) after.held) same.count legal)
+
+-- what a look did
+pub look-did : {A K : Type 0} (sound : K → Type 0) (faults : K → ℕ) (Says : List Record → Result A Refusal → Type 0) (before after : part.Keeping K) (told : Result A Refusal)
+    → OneCall (HasFailed (sound before.keeper) (faults before.keeper) (faults after.keeper)) (λ r. Err r) (Looks Says) before.held after.held told
+    → part.IsSamePart before after → EachMayStand (IsLegal before.index before.count) before.held → EachMayStand (IsLegal after.index after.count) after.held → Did faults (λ r. Err r) (Looks Says) before after (Some told)
+look-did sound faults Says before after told call same found left = record {
+  answer = told;
+  told_is = refl;
+  calls = record {
+    call = (calls_mean _ _ (λ r. Err r) (Looks Says) (Looks Says)).each before.held after.held told (λ f. (f.0.rose, f.1)) (λ h t g is. is) (call_doubts _ (λ r. Err r) (Looks Says) before.held after.held told call);
+    found_may = found;
+    seen_may = same-legal before after same left;
+  };
+}
 
 pub came : {K : Type 0} (sound : K → Type 0) (faults : K → ℕ) (c seen : List Record) (moment : ℕ) (user : User) (plan : Plan) (ask : Ask) (index count : ℕ) (before after : part.Keeping K) (result : Result Replied Older) → CanPose c seen index count user plan ask moment → IsPrefix seen before.held.list
     → IfOk result (λ told. OneReply (HasFailed (sound before.keeper) (faults before.keeper) (faults after.keeper)) reply.Refused (IsAnsweredNow moment user plan ask) before.held after.held told.reply told.own) → IfErr result (λ o. part.IsOlder plan ask.request before.held after.held o.floor)

@@ -4,7 +4,7 @@ use mathlib.Core.List.{IsPrefix}
 use Rattle.qz_catalog.specs.Holdings.{lean}
 use Rattle.qz_catalog_turns.specs.declared.replied.Replied.{Replied}
 use Rattle.qz_catalog_turns.specs.Owning.{CallReplies}
-use Rattle.qz_catalog_turns.specs.Turning.{AddsTurn, held_of, tale_of}
+use Rattle.qz_catalog_turns.specs.Turning.{held_of, tale_of}
 use Rattle.qz_school.specs.Agreement.{HasQuizReady, is_start}
 use Rattle.qz_serial.specs.Calls.{ShardAnswers}
 use Rattle.qz_shard.specs.declared.shard.Older.{Older}
@@ -26,6 +26,7 @@ use Rattle.qz_terms.specs.Legal.{IsLegal, IsLegalCatalog, is_plan_for}
 use Rattle.qz_terms.specs.SchoolAnswer.{first_refusal, plan_for}
 use Rattle.qz_turn.specs.Passes.{Lock, Standing}
 use Rattle.qz_turn.specs.Tales.{Follows}
+use Rattle.qz_turn.specs.Turns.{AddsTurn}
 use Rattle.qz_shard_turns.specs.Tying.{Behind}
 
 abbrev pub shard_at : ℕ → ℕ → List Record → Holding

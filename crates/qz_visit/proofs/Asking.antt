@@ -7,11 +7,10 @@ use Rattle.qz_catalog.specs.Keeping as records
 use Rattle.qz_catalog_turns.specs.declared.replied.OwnRecord.TheVariants as own
 use Rattle.qz_catalog_turns.specs.declared.replied.Replied.{Replied}
 use Rattle.qz_catalog_turns.specs.Owning.{Leaves, TurnReplies, absent}
-use Rattle.qz_catalog_turns.specs.Turning.{TurnCalls, held_of}
+use Rattle.qz_catalog_turns.specs.Turning.{Fails, TurnCalls, held_of}
 use Rattle.qz_grading.specs.declared.refusal.Refusal.{Refusal}
 use Rattle.qz_grading.specs.declared.refusal.Refusal.TheVariants as refusal
 use Rattle.qz_keeper.specs.Lists.{CallEnds, IsSettled, Looks, OneCall, answered, no_memory, put_in_doubt, stayed_in_doubt}
-use Rattle.qz_outside.specs.Causes.{HasRisen}
 use Rattle.qz_serial.specs.Calls.{CatalogAnswers, LookEnds, ShardAnswers, looked, unlooked, unread}
 use Rattle.qz_serial.specs.Once.{AskedOnce}
 use Rattle.qz_serial.specs.Paths.{FindsUser, IsAskable, IsGoing, IsKnown, goes_to_part}
@@ -42,7 +41,7 @@ use Rattle.qz_visit.specs.Visits.{IsFoundBy, TookTurn, Visited, at_part, refusin
 use Rattle.qz_visit.specs.Ways as way
 use Rattle.qz_visit.specs.Ways.{Answered, CameTo, Part, Seen, refused_with}
 use Rattle.qz_visit.proofs.Owning.{as_seen, call_again, ends_again, ends_mend, found_mended, found_settled, leaves_grow, look_again, with_held}
-use Rattle.qz_visit.proofs.Passing.{Either, asked_mean, by_catalog, count_helds, found_looked, found_rested, held_there, helds, lists, seats, took_sees, took_turned, visited_both, visited_records, visited_still}
+use Rattle.qz_visit.proofs.Passing.{Either, GoesThere, asked_mean, by_catalog, count_helds, found_looked, found_rested, goes_other, goes_there, held_there, helds, lists, refused_mute, refused_there, seats, took_sees, took_turned, turn_speaks, visited_both, visited_records, visited_still}
 use Rattle.qz_shard_turns.proofs.Tying.{looked-self}
 
 -- ---- what is asked
@@ -108,8 +107,8 @@ lost-token failed h m hs now ask token r can by ends =
 pub user_untold : (so sn : Seen) (ps : List Part) (now : ℕ) (ask : Ask) (token : List ℕ) (r : Refusal) → 0 < length ps → MayBeAsked ask now → ask.caller ≡ caller.Token token
     → TurnCalls IsLegalCatalog (λ r. Err r) (Looks (records.TellsUser token)) so sn (Err r) → Visited (seats so ps) (seats sn ps) now ask (refusing r)
 user_untold so sn ps now ask token r some may by t =
-    let failed = HasRisen sn.found.faults sn.seen.faults in
-    visited_records so sn ps (as_seen sn) now ask (refused_with r) (found_looked IsLegalCatalog (λ r. Err r) (records.TellsUser token) so sn (Err r) t) (absent (held_of sn.seen))
+    let failed = Fails sn.found sn.seen in
+    visited_records so sn ps (as_seen sn) now ask (refused_with r) (refused_there ask.request r) (found_looked IsLegalCatalog (λ r. Err r) (records.TellsUser token) so sn (Err r) t) (absent (held_of sn.seen))
     ((tokens_law failed).user (lists (held_of sn.seen) (helds ps)) (held_of sn.seen) now ask token (Err r) (askable (held_of sn.seen) (helds ps) (length ps) now ask some (count_helds ps) may) by
     (look_again failed (λ r. Err r) (records.TellsUser token) (held_of sn.found) (held_of sn.seen) (Err r) t.calls.call))
 
@@ -117,7 +116,7 @@ user_untold so sn ps now ask token r some may by t =
 pub user_known : (so sn : Seen) (ps : List Part) (now : ℕ) (ask : Ask) (token : List ℕ) (user : User) → 0 < length ps → MayBeAsked ask now → ask.caller ≡ caller.Token token
     → TurnCalls IsLegalCatalog (λ r. Err r) (Looks (records.TellsUser token)) so sn (Ok user) → IsKnownTo sn ask user
 user_known so sn ps now ask token user some may by t =
-    let known = (tokens_law (HasRisen sn.found.faults sn.seen.faults)).user (lists (held_of sn.found) (helds ps)) (held_of sn.seen) now ask token (Ok user) (askable (held_of sn.found) (helds ps) (length ps) now ask some (count_helds ps) may) by t.calls.call in
+    let known = (tokens_law (Fails sn.found sn.seen)).user (lists (held_of sn.found) (helds ps)) (held_of sn.seen) now ask token (Ok user) (askable (held_of sn.found) (helds ps) (length ps) now ask some (count_helds ps) may) by t.calls.call in
     record {
       token = token;
       caller_is = by;
@@ -128,17 +127,17 @@ pub still_known : (s : Seen) (hs : List Held) (ask : Ask) (user : User) → IsKn
 still_known s hs ask user k = record { token = k.token; caller_is = k.caller_is; settled = record { mends = stays (held_of s.seen); no_doubt = k.known.no_doubt }; found = k.known.found }
 
 records-split : (so sn : Seen) (ps : List Part) (now : ℕ) (ask : Ask) (user : User) (told : Reply) → 0 < length ps → MayBeAsked ask now → IsKnownTo so ask user → asks_catalog ask.request ≡ true → IsPrefix so.seen.list sn.found.list
-    → Split (HasRisen sn.found.faults sn.seen.faults) reply.Refused (CatalogAnswers now user ask) (held_of sn.found) (held_of sn.seen) told
-    → AskedOnce (HasRisen sn.found.faults sn.seen.faults) (lists (held_of sn.found) (helds ps)) (lists (held_of sn.seen) (helds ps)) now ask told
+    → Split (Fails sn.found sn.seen) reply.Refused (CatalogAnswers now user ask) (held_of sn.found) (held_of sn.seen) told
+    → AskedOnce (Fails sn.found sn.seen) (lists (held_of sn.found) (helds ps)) (lists (held_of sn.seen) (helds ps)) now ask told
 records-split so sn ps now ask user told some may k of_catalog p (whole m settled call) =
     let a = lists (held_of sn.found) (helds ps) in
     let on = user_on so.seen.list sn.found.list ask.caller user p k.known.found in
     let grown = mended_grows (held_of sn.found) m settled.mends in
     let found = subst (λ (l : List Record). user_of l ask.caller ≡ Some user) (sym grown.grown) (staying_law.caller sn.found.list grown.rest ask.caller user on) in
-    (tokens_law (HasRisen sn.found.faults sn.seen.faults)).records a m (held_of sn.seen) now ask user told (askable (held_of sn.found) (helds ps) (length ps) now ask some (count_helds ps) may)
+    (tokens_law (Fails sn.found sn.seen)).records a m (held_of sn.seen) now ask user told (askable (held_of sn.found) (helds ps) (length ps) now ask some (count_helds ps) may)
     (record { token = k.token; caller_is = k.caller_is; settled = settled; found = found }) of_catalog call
 records-split so sn ps now ask user told some may k of_catalog p (lost r ends is) =
-    let failed = HasRisen sn.found.faults sn.seen.faults in
+    let failed = Fails sn.found sn.seen in
     subst (λ (t : Reply). AskedOnce failed (lists (held_of sn.found) (helds ps)) (lists (held_of sn.seen) (helds ps)) now ask t) (sym is)
     (lost-token failed (held_of sn.found) (held_of sn.seen) (helds ps) now ask k.token r (askable (held_of sn.found) (helds ps) (length ps) now ask some (count_helds ps) may) k.caller_is
     (lost_as failed reply.Refused (λ r. Err r) (held_of sn.found) (held_of sn.seen) r (reply_is r) ends))
@@ -147,13 +146,13 @@ records-split so sn ps now ask user told some may k of_catalog p (lost r ends is
 pub records_visited : (so sn : Seen) (ps : List Part) (now : ℕ) (ask : Ask) (user : User) (told : Replied) → 0 < length ps → MayBeAsked ask now → IsKnownTo so ask user → asks_catalog ask.request ≡ true
     → TurnReplies IsLegalCatalog reply.Refused (records.IsTold now user ask) so sn told.reply told.own → Visited (seats so ps) (seats sn ps) now ask (by_catalog told)
 records_visited so sn ps now ask user told some may k of_catalog t =
-    let failed = HasRisen sn.found.faults sn.seen.faults in
+    let failed = Fails sn.found sn.seen in
     let m = t.turn.calls.call.mended in
     let says = records.IsTold now user ask in
     let whole = call_again failed reply.Refused says (held_of sn.found) (held_of sn.seen) told.reply t.turn.calls.call in
     let call = (calls_mean failed failed reply.Refused says (CatalogAnswers now user ask)).each m (held_of sn.seen) told.reply (λ why. why) (λ h x g is. (is.reply, is.list)) whole in
     let found = found_mended so sn m (took_turned IsLegalCatalog reply.Refused says so sn told.reply t.turn) t.turn.calls.call.mends (leaves_grow m (held_of sn.seen) told.own t.leaves) in
-    visited_records so sn ps (with_held sn m) now ask told found t.leaves
+    visited_records so sn ps (with_held sn m) now ask told (λ at d is. of_catalog) found t.leaves
     (records-split so (record sn { found = with_held sn m }) ps now ask user told.reply some may k of_catalog found.begins.begins (split failed reply.Refused (CatalogAnswers now user ask) m (held_of sn.seen) told.reply call))
 
 -- ---- a refusal before another turn is taken
@@ -167,7 +166,7 @@ among_none c n user x first there = rw (first, there) refl
 pub among_visited : (s : Seen) (ps : List Part) (now : ℕ) (ask : Ask) (user : User) (r : Refusal) → 0 < length ps → MayBeAsked ask now → IsKnownTo s ask user → asks_catalog ask.request ≡ false → refusal_among s.seen.list (length ps) user ask.request ≡ Some r
     → Visited (seats s ps) (seats s ps) now ask (refusing r)
 among_visited s ps now ask user r some may k other among =
-    visited_still s ps now ask (reply.Refused r)
+    visited_still s ps now ask r
     ((tokens_law ⊥).refused (lists (held_of s.seen) (helds ps)) (held_of s.seen) now ask user r (askable (held_of s.seen) (helds ps) (length ps) now ask some (count_helds ps) may) (still_known s (helds ps) ask user k) other
     (subst (λ (n : ℕ). refusal_among s.seen.list n user ask.request ≡ Some r) (sym (count_helds ps)) among))
 
@@ -183,13 +182,6 @@ pub record GoesTo (n : ℕ) (user : User) (x : Request) (k : ℕ) : Type 0 where
   pub part : part_of n user x ≡ k
   pub there : missing_shard n x ≡ None
 
-goes-other : (x : Request) → goes_to_part x ≡ true → asks_catalog x ≡ false
-goes-other x is = other (asks_catalog x) refl is
-  where
-    other : (b : _) → asks_catalog x ≡ b → goes_to_part x ≡ true → asks_catalog x ≡ false
-    other true is goes = let no : false ≡ true = rw is at goes in absurd cc
-    other false is goes = is
-
 going : (c : List Record) (ps : List Part) (k : ℕ) (h : Held) (ask : Ask) (user : User) → user_of c ask.caller ≡ Some user → first_refusal c user ask.request ≡ None → GoesTo (length ps) user ask.request k
     → IsGoing c (length (slice_set (helds ps) k h)) ask user k
 going c ps k h ask user found free g =
@@ -202,16 +194,20 @@ part-token failed h m hs k now old held new ask user told can known goes at call
     subst (λ (gs : List Held). AskedOnce failed (lists h (slice_set hs k held)) (lists m gs) now ask told) (set_twice hs k held new)
     ((tokens_law failed).shard (lists h (slice_set hs k held)) m held new k now ask user told can known goes (set_get hs k old held at) call)
 
+-- it goes to that shard over what was found of the catalogue too
+named-there : (so sn : Seen) (found : Tale Record) (n k : ℕ) (ask : Ask) (user : User) → IsFoundBy so sn found → IsKnownTo so ask user → GoesTo n user ask.request k → GoesThere found.list n ask k
+named-there so sn found n k ask user first known g = goes_there found.list n k ask user (user_on so.seen.list found.list ask.caller user first.begins.begins known.known.found) g.goes g.part
+
 -- the shard answered, under what was found of the catalogue
 pub part_visited : (so sn : Seen) (ps : List Part) (k : ℕ) (po pn : Part) (found : Tale Record) (now : ℕ) (ask : Ask) (user : User) (told : Replied) → 0 < length ps → slice_get ps k ≡ Some po → MayBeAsked ask now → IsKnownTo so ask user → GoesTo (length ps) user ask.request k
     → IsFoundBy so sn found → Leaves (held_of found) (held_of sn.seen) own.Absent → IsSettled (held_of found) (held_of sn.seen) → user_of sn.seen.list ask.caller ≡ Some user → first_refusal sn.seen.list user ask.request ≡ None → TookTurn po pn → Answered sn.seen.list now ask user pn told
     → Visited (seats so ps) (seats sn (slice_set ps k pn)) now ask (at_part k told)
 part_visited so sn ps k po pn found now ask user told some at may known g first left settled user_found free second is =
     let m = is.call.mended in
-    let failed = HasRisen pn.found.faults pn.seen.faults in
+    let failed = Fails pn.found pn.seen in
     let worse = Either found sn (with_held pn m) pn in
     let says = ShardAnswers sn.seen.list now user ask in
-    visited_both so sn ps k po pn found (with_held pn m) now ask told at first (found_mended po pn m second is.call.mends (leaves_grow m (held_of pn.seen) told.own is.leaves)) left is.leaves
+    visited_both so sn ps k po pn found (with_held pn m) now ask told (named-there so sn found (length ps) k ask user first known g) (turn_speaks po pn told.reply second) at first (found_mended po pn m second is.call.mends (leaves_grow m (held_of pn.seen) told.own is.leaves)) left is.leaves
     (part-token worse (held_of found) (held_of sn.seen) (helds ps) k now (held_of po.seen) m (held_of pn.seen) ask user told.reply
     (askable (held_of found) (slice_set (helds ps) k m) (length ps) now ask some (count_set ps k m) may)
     (record { token = known.token; caller_is = known.caller_is; settled = settled; found = user_found }) (going sn.seen.list ps k m ask user user_found free g) (held_there ps k po at)
@@ -236,30 +232,31 @@ came_visited so sn ps k po pn now ask user told some at may known g (way.refused
     let hs = slice_set (helds ps) k (held_of pn.seen) in
     let long = count_set ps k (held_of pn.seen) in
     subst (λ (t : Replied). Visited (seats so ps) (seats sn (slice_set ps k pn)) now ask (at_part k t)) (sym is)
-    (visited_both so sn ps k po pn (as_seen sn) pn.seen now ask (refused_with r) at (found_settled so sn first settled.mends) second (absent (held_of sn.seen)) (absent (held_of pn.seen))
+    (visited_both so sn ps k po pn (as_seen sn) pn.seen now ask (refused_with r) (named-there so sn (as_seen sn) (length ps) k ask user (found_settled so sn first settled.mends) known g) (refused_mute po pn r) at (found_settled so sn first settled.mends) second (absent (held_of sn.seen)) (absent (held_of pn.seen))
     ((tokens_law failed).refused (lists (held_of sn.seen) hs) (held_of sn.seen) now ask user r (askable (held_of sn.seen) hs (length ps) now ask some long may)
-    (record { token = known.token; caller_is = known.caller_is; settled = settled_self (held_of sn.seen) settled.no_doubt; found = user_found }) (goes-other ask.request g.goes) (among-first sn.seen.list (length hs) user ask.request r refuses)))
+    (record { token = known.token; caller_is = known.caller_is; settled = settled_self (held_of sn.seen) settled.no_doubt; found = user_found }) (goes_other ask.request g.goes) (among-first sn.seen.list (length hs) user ask.request r refuses)))
 came_visited so sn ps k po pn now ask user told some at may known g (way.untold r first ends second is) =
-    let failed = HasRisen sn.found.faults sn.seen.faults in
+    let failed = Fails sn.found sn.seen in
     let worse = Either (as_seen sn) sn pn.seen pn in
     let hs = slice_set (helds ps) k (held_of pn.seen) in
     let a = lists (held_of sn.seen) hs in
     subst (λ (t : Replied). Visited (seats so ps) (seats sn (slice_set ps k pn)) now ask (at_part k t)) (sym is)
-    (visited_both so sn ps k po pn (as_seen sn) pn.seen now ask (refused_with r) at (found_settled so sn first (lost_mend failed (held_of sn.found) (held_of sn.seen) r ends)) second (absent (held_of sn.seen)) (absent (held_of pn.seen))
+    (visited_both so sn ps k po pn (as_seen sn) pn.seen now ask (refused_with r)
+    (named-there so sn (as_seen sn) (length ps) k ask user (found_settled so sn first (lost_mend failed (held_of sn.found) (held_of sn.seen) r ends)) known g) (refused_mute po pn r) at (found_settled so sn first (lost_mend failed (held_of sn.found) (held_of sn.seen) r ends)) second (absent (held_of sn.seen)) (absent (held_of pn.seen))
     (asked_mean failed worse a a now ask (reply.Refused r) (λ why. inl why)
     (lost-token failed (held_of sn.seen) (held_of sn.seen) hs now ask known.token r (askable (held_of sn.seen) hs (length ps) now ask some (count_set ps k (held_of pn.seen)) may) known.caller_is (lost_again failed (held_of sn.found) (held_of sn.seen) r ends))))
 
 -- a look at the catalogue that didn't tell what was looked for, in a request that goes to shards
 pub unlooked_visited : (so sn : Seen) (ps : List Part) (now : ℕ) (ask : Ask) (user : User) (r : Refusal) → 0 < length ps → MayBeAsked ask now → IsKnownTo so ask user → asks_catalog ask.request ≡ false → TookTurn so sn
-    → (IsSettled (held_of sn.found) (held_of sn.seen) × (refusal_among sn.seen.list (length ps) user ask.request ≡ Some r)) ⊎ LookEnds (HasRisen sn.found.faults sn.seen.faults) (λ r. Err r) (λ (_ : List Record) (_ : Result (Unit {0}) Refusal). ⊥) (held_of sn.found) (held_of sn.seen) (Err r)
+    → (IsSettled (held_of sn.found) (held_of sn.seen) × (refusal_among sn.seen.list (length ps) user ask.request ≡ Some r)) ⊎ LookEnds (Fails sn.found sn.seen) (λ r. Err r) (λ (_ : List Record) (_ : Result (Unit {0}) Refusal). ⊥) (held_of sn.found) (held_of sn.seen) (Err r)
     → Visited (seats so ps) (seats sn ps) now ask (refusing r)
 unlooked_visited so sn ps now ask user r some may k other first (inl both) =
-    let failed = HasRisen sn.found.faults sn.seen.faults in
+    let failed = Fails sn.found sn.seen in
     let found = user_on so.seen.list sn.seen.list ask.caller user (took_sees so sn first).begins.begins k.known.found in
-    visited_records so sn ps (as_seen sn) now ask (refused_with r) (found_settled so sn first both.0.mends) (absent (held_of sn.seen))
+    visited_records so sn ps (as_seen sn) now ask (refused_with r) (refused_there ask.request r) (found_settled so sn first both.0.mends) (absent (held_of sn.seen))
     ((tokens_law failed).refused (lists (held_of sn.seen) (helds ps)) (held_of sn.seen) now ask user r (askable (held_of sn.seen) (helds ps) (length ps) now ask some (count_helds ps) may)
     (record { token = k.token; caller_is = k.caller_is; settled = settled_self (held_of sn.seen) both.0.no_doubt; found = found }) other (subst (λ (n : ℕ). refusal_among sn.seen.list n user ask.request ≡ Some r) (sym (count_helds ps)) both.1))
 unlooked_visited so sn ps now ask user r some may k other first (inr ends) =
-    let failed = HasRisen sn.found.faults sn.seen.faults in
-    visited_records so sn ps (as_seen sn) now ask (refused_with r) (found_settled so sn first (lost_mend failed (held_of sn.found) (held_of sn.seen) r ends)) (absent (held_of sn.seen))
+    let failed = Fails sn.found sn.seen in
+    visited_records so sn ps (as_seen sn) now ask (refused_with r) (refused_there ask.request r) (found_settled so sn first (lost_mend failed (held_of sn.found) (held_of sn.seen) r ends)) (absent (held_of sn.seen))
     (lost-token failed (held_of sn.seen) (held_of sn.seen) (helds ps) now ask k.token r (askable (held_of sn.seen) (helds ps) (length ps) now ask some (count_helds ps) may) k.caller_is (lost_again failed (held_of sn.found) (held_of sn.seen) r ends))

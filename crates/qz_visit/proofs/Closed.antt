@@ -23,9 +23,9 @@ use Rattle.qz_terms.proofs.Readings.{first_of-append}
 use Rattle.qz_turn.specs.declared.view.Tale.{Tale}
 use Rattle.qz_turn.specs.Passes.{Lock}
 use Rattle.qz_turn.specs.Tales.{Follows}
-use Rattle.qz_turn.specs.Turns.{Joins, Locked}
+use Rattle.qz_turn.specs.Turns.{Joins, Locked, note_of}
 use Rattle.qz_turn.proofs.Prefixes.{follows_self, follows_trans}
-use Rattle.qz_visit.specs.Closing.{AllJoin, AreClosed, AreLocked, ClosesBefore, IsClosed, KeepsAll, more, none}
+use Rattle.qz_visit.specs.Closing.{AllJoin, AreClosed, AreLocked, ClosesBefore, HasGrown, HaveGrown, IsClosed, KeepsAll, more, none}
 use Rattle.qz_visit.specs.Visits.{IsPlaced, seen_by}
 use Rattle.qz_visit.specs.Ways.{Part, Seen}
 
@@ -44,10 +44,10 @@ get_set_apart (z ∷ xs) (suc k) (suc j) x y is = elim (get_set_apart xs k j x y
     down : (j k : ℕ) → suc j ≡ suc k → j ≡ k
     down j k e = cc
 
-get-front : {A : Type 0} (xs : List A) (x : A) (k : ℕ) → k < length xs → slice_get (xs ++ x ∷ []) k ≡ slice_get xs k
-get-front [] x k within = absurd (omega arith)
-get-front (y ∷ ys) x zero within = refl
-get-front (y ∷ ys) x (suc k) within = get-front ys x k (let more : suc k < suc (length ys) = within in omega arith)
+get-front : {A : Type 0} (xs ys : List A) (k : ℕ) → k < length xs → slice_get (xs ++ ys) k ≡ slice_get xs k
+get-front [] ys k within = absurd (omega arith)
+get-front (x ∷ xs) ys zero within = refl
+get-front (x ∷ xs) ys (suc k) within = get-front xs ys k (let more : suc k < suc (length xs) = within in omega arith)
 
 length-one : {A : Type 0} (xs : List A) (x : A) → length (xs ++ x ∷ []) ≡ suc (length xs)
 length-one [] x = refl
@@ -78,7 +78,7 @@ joined_one before others now left o p q so at joins =
     let long = length-one left o in
     record {
       count = length-set now (length left) q ∙ so.count;
-      left_of = λ k within. sym (get-front left o k within) ∙ so.left_of k (omega (arith, within, long));
+      left_of = λ k within. sym (get-front left (o ∷ []) k within) ∙ so.left_of k (omega (arith, within, long));
       few = let few = so.few in omega (arith, few, long);
       same = λ k a b within one new. elim (get_set_apart now (length left) k q b new) [
         | inl both ↦ absurd (let e = both.0 in omega (arith, within, e))
@@ -121,6 +121,7 @@ pub record ClosedFrom {K : Type 0} (faults : K → ℕ) (c : List Record) (n : �
   pub long : length rest ≡ length left
   pub shards_are : shards ≡ others ++ reverse shards_done
   pub closed : AreClosed faults c n (length left) (seen_by passes_done) shards_done
+  pub grown : HaveGrown locks_done passes_done shards_done
 
 pub closed_none : {K : Type 0} (faults : K → ℕ) (c : List Record) (n : ℕ) (others : List (part.Keeping K)) (locks : List (Locked Placed)) (passes : List Part) → length passes ≡ length locks → ClosedFrom faults c n others locks locks passes passes others
 closed_none faults c n others locks passes long = record {
@@ -132,7 +133,16 @@ closed_none faults c n others locks passes long = record {
   long = long;
   shards_are = sym (append-nil others);
   closed = none (length locks);
+  grown = record { each = λ k l p s at there here. absurd cc };
 }
+
+grown-one : {K : Type 0} (l : Locked Placed) (p : Part) (s : part.Keeping K) (ls : List (Locked Placed)) (ps : List Part) (ss : List (part.Keeping K)) → HasGrown l p s.held.list → HaveGrown ls ps ss → HaveGrown (l ∷ ls) (p ∷ ps) (s ∷ ss)
+grown-one {K = K} l p s ls ps ss one rest = record { each = each }
+  where
+    each : (k : ℕ) (m : Locked Placed) (q : Part) (r : part.Keeping K) → slice_get (l ∷ ls) k ≡ Some m → slice_get (p ∷ ps) k ≡ Some q → slice_get (s ∷ ss) k ≡ Some r → HasGrown m q r.held.list
+    each zero m q r at there here =
+        subst (λ (x : part.Keeping K). HasGrown m q x.held.list) (one-of (Some s) s r refl here) (subst (λ (x : Part). HasGrown m x s.held.list) (one-of (Some p) p q refl there) (subst (λ (x : Locked Placed). HasGrown x p s.held.list) (one-of (Some l) l m refl at) one))
+    each (suc k) m q r at there here = rest.each k m q r at there here
 
 pub seam : {A : Type 0} (xs : List A) (x : A) (ys : List A) → slice_get (xs ++ x ∷ ys) (length xs) ≡ Some x
 seam [] x ys = refl
@@ -148,8 +158,8 @@ pass_there faults c n others locks left l passes rest p shards so =
 
 -- the shard behind one more lock
 pub closed_one : {K : Type 0} (faults : K → ℕ) (c d : List Record) (n : ℕ) (others : List (part.Keeping K)) (locks left : List (Locked Placed)) (l : Locked Placed) (passes rest : List Part) (p : Part) (shards : List (part.Keeping K)) (s : part.Keeping K)
-    → ClosedFrom faults c n others locks (left ++ l ∷ []) passes (rest ++ p ∷ []) shards → IsPrefix c d → IsClosed faults d n (length left) p.seen s → ClosedFrom faults d n others locks left passes rest (shards ++ s ∷ [])
-closed_one faults c d n others locks left l passes rest p shards s so longer is =
+    → ClosedFrom faults c n others locks (left ++ l ∷ []) passes (rest ++ p ∷ []) shards → IsPrefix c d → IsClosed faults d n (length left) p.seen s → HasGrown l p s.held.list → ClosedFrom faults d n others locks left passes rest (shards ++ s ∷ [])
+closed_one faults c d n others locks left l passes rest p shards s so longer is grown =
     let one = length-one left l in
     let next : length (left ++ l ∷ []) ≡ length left + 1 = omega (arith, one) in
     let done = seen_by so.passes_done in
@@ -162,16 +172,17 @@ closed_one faults c d n others locks left l passes rest p shards s so longer is 
       long = let long = so.long in omega (arith, long, length-one rest p, one);
       shards_are = ap (λ (l : List (part.Keeping _)). l ++ s ∷ []) so.shards_are ∙ append_assoc others (reverse so.shards_done) (s ∷ []) ∙ ap (λ (l : List (part.Keeping _)). others ++ l) (sym (reverse-append (s ∷ []) so.shards_done));
       closed = more (length left) p.seen s done so.shards_done is (all_on faults c d n (length left + 1) done so.shards_done longer (subst (λ (k : ℕ). AreClosed faults c n k done so.shards_done) next so.closed));
+      grown = grown-one l p s so.locks_done so.passes_done so.shards_done grown so.grown;
     }
 
 -- what was behind a lock of its place
-pub behind_closed : {K : Type 0} (faults : K → ℕ) (lock : Lock (Unit {0})) (n k : ℕ) (l : Locked Placed) (p : Part) (b : Behind K) (seen after : Seen) → (placed : IsPlaced lock n k l.lock) → Follows p.seen (tale_of b.shard.held (faults b.shard.keeper)) → IsTied placed.place b → Joins seen b.note after
+pub behind_closed : {K : Type 0} (faults : K → ℕ) (lock : Lock (Unit {0})) (n k : ℕ) (l : Locked Placed) (p : Part) (b : Behind K) (seen after : Seen) → (placed : IsPlaced lock n k l.lock) → Follows p.seen (tale_of b.shard.held (faults b.shard.keeper)) → IsTied placed.place b → Joins seen (note_of b.note) after
     → IsClosed faults after.seen.list n k p.seen b.shard
 behind_closed faults lock n k l p b seen after placed follows tied joins = record {
   index_is = tied.index_is ∙ placed.index_is;
   count_is = tied.count_is ∙ placed.count_is;
   follows = follows;
-  agree = stand_as (AllAgree after.seen.list) (AllAgree b.note.seen.list) b.shard.held (λ h all. agree-on b.note.seen.list after.seen.list h (joined-second seen b.note after joins) all) tied.agree;
+  agree = stand_as (AllAgree after.seen.list) (AllAgree b.note.seen.list) b.shard.held (λ h all. agree-on b.note.seen.list after.seen.list h (joined-second seen (note_of b.note) after joins) all) tied.agree;
 }
 
 pub closed_all : {K : Type 0} (faults : K → ℕ) (c : List Record) (n : ℕ) (others : List (part.Keeping K)) (locks : List (Locked Placed)) (passes rest : List Part) (shards : List (part.Keeping K)) → ClosedFrom faults c n others locks [] passes rest shards → n ≡ length passes + length others
@@ -187,6 +198,26 @@ closed_all faults c n others locks passes rest shards so count =
       closed = subst (λ (m : ℕ). AreClosed faults c m 0 (seen_by passes) so.shards_done) (count ∙ many) told;
     }
 
+pub count_closed : {K : Type 0} (faults : K → ℕ) (c : List Record) (n k : ℕ) (ts : List (Tale Record)) (ss : List (part.Keeping K)) → AreClosed faults c n k ts ss → length ss ≡ length ts
+count_closed faults c n _ _ _ (none k) = refl
+count_closed faults c n _ _ _ (more k t s ts ss one rest) = ap suc (count_closed faults c n (k + 1) ts ss rest)
+
+-- by how much they have grown
+pub grown_all : {K : Type 0} (faults : K → ℕ) (c : List Record) (n : ℕ) (others : List (part.Keeping K)) (locks : List (Locked Placed)) (passes rest : List Part) (shards : List (part.Keeping K)) → ClosedFrom faults c n others locks [] passes rest shards → HaveGrown locks passes (reverse shards)
+grown_all faults c n others locks passes rest shards so = record {
+  each = λ k l p s at there here.
+      let none_left : rest ≡ [] = nil_from_length rest so.long in
+      let all : passes ≡ so.passes_done = so.passes_are ∙ ap (λ (l : List Part). l ++ so.passes_done) none_left in
+      let turned : reverse shards ≡ so.shards_done ++ reverse others = ap reverse so.shards_are ∙ reverse-append others (reverse so.shards_done) ∙ ap (λ (l : List (part.Keeping _)). l ++ reverse others) (reverse-reverse so.shards_done) in
+      let lock : slice_get so.locks_done k ≡ Some l = subst (λ (x : List (Locked Placed)). slice_get x k ≡ Some l) so.locks_are at in
+      let pass : slice_get so.passes_done k ≡ Some p = subst (λ (x : List Part). slice_get x k ≡ Some p) all there in
+      let whole : slice_get (so.shards_done ++ reverse others) k ≡ Some s = subst (λ (x : List (part.Keeping _)). slice_get x k ≡ Some s) turned here in
+      let many = count_closed faults c n 0 (seen_by so.passes_done) so.shards_done so.closed in
+      let told = length-map so.passes_done (λ (q : Part). q.seen) in
+      let inside = slice_get_within so.passes_done k p pass in
+      so.grown.each k l p s lock pass (sym (get-front so.shards_done (reverse others) k (omega (arith, many, told, inside))) ∙ whole);
+}
+
 -- ---- the school that is given back
 
 closed-there : {K : Type 0} (faults : K → ℕ) (c : List Record) (n i k : ℕ) (ts : List (Tale Record)) (ss : List (part.Keeping K)) (s : part.Keeping K) → AreClosed faults c n i ts ss → slice_get ss k ≡ Some s → (s.index ≡ i + k) × ((s.count ≡ n) × EachMayStand (AllAgree c) s.held)
@@ -198,10 +229,6 @@ closed-there faults c n _ (suc k) _ _ s (more i t0 t ts ss one rest) at =
     let there = closed-there faults c n (i + 1) k ts ss s rest at in
     let sum : i + 1 + k ≡ i + suc k = omega arith in
     (there.0 ∙ sum, there.1)
-
-pub count_closed : {K : Type 0} (faults : K → ℕ) (c : List Record) (n k : ℕ) (ts : List (Tale Record)) (ss : List (part.Keeping K)) → AreClosed faults c n k ts ss → length ss ≡ length ts
-count_closed faults c n _ _ _ (none k) = refl
-count_closed faults c n _ _ _ (more k t s ts ss one rest) = ap suc (count_closed faults c n (k + 1) ts ss rest)
 
 pub closed_solo : {K : Type 0} (faults : K → ℕ) (c : records.Keeping K) (n : ℕ) (ts : List (Tale Record)) (ss : List (part.Keeping K)) → 0 < n → length ss ≡ n → catalog.shards c.held.list ≡ Some n → AreClosed faults c.held.list n 0 ts ss → solos.IsSolo c ss
 closed_solo faults c n ts ss some long founded closed = record {

@@ -3,12 +3,11 @@ use Rattle.std.proofs.Common.{◌≡◌, ◌⊎◌, inl, inr, ℕ, ◌%◌, Bool
 use Rattle.qz_catalog.specs.Keeping.{TellsJob, TellsPlan}
 use Rattle.qz_catalog_turns.specs.declared.replied.Replied.{Replied}
 use Rattle.qz_catalog_turns.specs.Owning.{Leaves, absent}
-use Rattle.qz_catalog_turns.specs.Turning.{TurnCalls, held_of}
+use Rattle.qz_catalog_turns.specs.Turning.{Fails, TurnCalls, held_of}
 use Rattle.qz_grading.specs.declared.refusal.AttemptId.{AttemptId}
 use Rattle.qz_grading.specs.declared.refusal.Refusal.{Refusal}
 use Rattle.qz_grading.specs.Behaviours.{first_some}
 use Rattle.qz_keeper.specs.Lists.{CallEnds, IsSettled, Looks, OneCall}
-use Rattle.qz_outside.specs.Causes.{HasRisen}
 use Rattle.qz_serial.specs.Calls.{LookEnds, ShardAnswers}
 use Rattle.qz_serial.proofs.Composing.{ends_mean, look_ends}
 use Rattle.qz_serial.proofs.Workers.{err-is}
@@ -45,10 +44,10 @@ seen-user : (so sn : Seen) (ask : Ask) (user : User) → SeesMore so sn → cata
 seen-user so sn ask user sees found = user_on so.seen.list sn.seen.list ask.caller user sees.begins.begins found
 
 -- a look at the shard that is its answer, and puts nothing
-look-answered : {A : Type 0} (c : List Record) (pn : Part) (now : ℕ) (ask : Ask) (user : User) (refused : Refusal → A) (Says : List Record → A → Type 0) (told : A) (said : Reply) → LookEnds (HasRisen pn.found.faults pn.seen.faults) refused Says (held_of pn.found) (held_of pn.seen) told
+look-answered : {A : Type 0} (c : List Record) (pn : Part) (now : ℕ) (ask : Ask) (user : User) (refused : Refusal → A) (Says : List Record → A → Type 0) (told : A) (said : Reply) → LookEnds (Fails pn.found pn.seen) refused Says (held_of pn.found) (held_of pn.seen) told
     → (Says pn.seen.list told → ShardAnswers c now user ask pn.seen.list said pn.seen.list) → ((r : Refusal) → told ≡ refused r → said ≡ reply.Refused r) → Answered c now ask user pn (put_none said)
 look-answered c pn now ask user refused Says told said ends means same =
-    let failed = HasRisen pn.found.faults pn.seen.faults in
+    let failed = Fails pn.found pn.seen in
     record {
       call = record {
         mended = held_of pn.seen;
@@ -62,7 +61,7 @@ look-answered c pn now ask user refused Says told said ends means same =
 
 planless-quiz : (so sn : Seen) (po pn : Part) (now : ℕ) (ask : Ask) (user : User) (quiz owner : ℕ) (whole : Bool) (r : Refusal) → catalog.user_of sn.seen.list ask.caller ≡ Some user → forbidden user ask.request ≡ None → NamesQuiz user ask.request quiz owner whole
     → TookTurn so sn → IsFoundBy po pn pn.seen
-    → (IsSettled (held_of sn.found) (held_of sn.seen) × (first_some (missing_quiz sn.seen.list quiz ∷ missing_user sn.seen.list owner ∷ []) ≡ Some r)) ⊎ LookEnds (HasRisen sn.found.faults sn.seen.faults) (λ r. Err r) (λ (_ : List Record) (_ : Result (Unit {0}) Refusal). ⊥) (held_of sn.found) (held_of sn.seen) (Err r)
+    → (IsSettled (held_of sn.found) (held_of sn.seen) × (first_some (missing_quiz sn.seen.list quiz ∷ missing_user sn.seen.list owner ∷ []) ≡ Some r)) ⊎ LookEnds (Fails sn.found sn.seen) (λ r. Err r) (λ (_ : List Record) (_ : Result (Unit {0}) Refusal). ⊥) (held_of sn.found) (held_of sn.seen) (Err r)
     → CameTo so sn po pn now ask user (refused_with r)
 planless-quiz so sn po pn now ask user quiz owner whole r found may names first second (inl both) =
     way.refused r first both.0 found (refused_quiz sn.seen.list ask.caller user ask.request quiz owner whole r found may names both.1) second refl
@@ -76,7 +75,7 @@ quiz_came so sn po pn now ask user quiz owner whole told known may names (way.un
 quiz_came so sn po pn now ask user quiz owner whole told known may names (way.planless r first untold second clear is) =
     let found = seen-user so sn ask user (took_sees so sn first) known.found in
     subst (CameTo so sn po pn now ask user) (sym is)
-    (planless-quiz so sn po pn now ask user quiz owner whole r found may names first second (untold_split (HasRisen sn.found.faults sn.seen.faults) (TellsPlan quiz owner whole) (held_of sn.found) (held_of sn.seen) r untold))
+    (planless-quiz so sn po pn now ask user quiz owner whole r found may names first second (untold_split (Fails sn.found sn.seen) (TellsPlan quiz owner whole) (held_of sn.found) (held_of sn.seen) r untold))
 
 -- ---- of an attempt
 
@@ -84,9 +83,9 @@ abbrev over : List Record → Holding
 over h = record { index = 0; count = 0; records = h }
 
 unfound-answer : (c : List Record) (pn : Part) (now : ℕ) (ask : Ask) (user : User) (attempt : AttemptId) (r : Refusal) → forbidden user ask.request ≡ None → attempt_named ask.request ≡ Some attempt
-    → OneCall (HasRisen pn.found.faults pn.seen.faults) (λ r. Err r) (Looks (TellsQuiz attempt)) (held_of pn.found) (held_of pn.seen) (Err r) → Answered c now ask user pn (refused_with r)
+    → OneCall (Fails pn.found pn.seen) (λ r. Err r) (Looks (TellsQuiz attempt)) (held_of pn.found) (held_of pn.seen) (Err r) → Answered c now ask user pn (refused_with r)
 unfound-answer c pn now ask user attempt r may named call =
-    let failed = HasRisen pn.found.faults pn.seen.faults in
+    let failed = Fails pn.found pn.seen in
     let ends = look_ends failed (λ r. Err r) (TellsQuiz attempt) (held_of pn.found) (held_of pn.seen) (Err r) call in
     look-answered c pn now ask user (λ r. Err r) (TellsQuiz attempt) (Err r) (reply.Refused r) ends
     (λ says. subst (λ (x : Refusal). ShardAnswers c now user ask pn.seen.list (reply.Refused x) pn.seen.list) (sym says.1) (absent_means c (over pn.seen.list) now user ask attempt may named says.0))
@@ -106,7 +105,7 @@ attempt-planned so sm sn po pm pn now ask user attempt q told known may named se
     way.answered whole mended (seen-user so sn ask user (took_sees so sn whole) known) (named_free sn.seen.list (over pn.seen.list) user ask.request attempt may named) (took_after po pm pn looks second) is
 attempt-planned so sm sn po pm pn now ask user attempt q told known may named sees looks of_quiz agree (way.planless r first untold second clear is) =
     subst (CameTo so sn po pn now ask user) (sym is)
-    (elim (untold_split (HasRisen sn.found.faults sn.seen.faults) (TellsPlan q attempt.user false) (held_of sn.found) (held_of sn.seen) r untold) [
+    (elim (untold_split (Fails sn.found sn.seen) (TellsPlan q attempt.user false) (held_of sn.found) (held_of sn.seen) r untold) [
       | inl both ↦ no_missing sm sn pm attempt q r (took_sees sm sn first) agree of_quiz both.1
       | inr ends ↦ way.untold r (took_after so sm sn sees first) ends (found_after po pm pn pn.seen looks second) refl
     ])
@@ -123,7 +122,7 @@ attempt_came so sn po pn now ask user attempt told known may named (way.of_quiz 
 pub live_came : (P : List Record → Type 0) (so : Seen) (po pn : Part) (now : ℕ) (ask : Ask) (user : User) (shard : ℕ) (attempt : AttemptId) (told : Reply) → ask.request ≡ request.Live shard attempt → forbidden user ask.request ≡ None
     → TurnCalls P reply.Refused (Looks (λ h t. t ≡ live_answer h attempt)) po pn told → CameTo so so po pn now ask user (put_none told)
 live_came P so po pn now ask user shard attempt told is may t =
-    let failed = HasRisen pn.found.faults pn.seen.faults in
+    let failed = Fails pn.found pn.seen in
     let says = λ (h : List Record) (t : Reply). t ≡ live_answer h attempt in
     let free : forbidden user (request.Live shard attempt) ≡ None = rw is at may in
     let ends = look_ends failed reply.Refused says (held_of pn.found) (held_of pn.seen) told t.calls.call in
@@ -134,17 +133,17 @@ live_came P so po pn now ask user shard attempt told is may t =
 
 -- what the shard does, from its mended list on
 pub step_ends : (c : List Record) (pn : Part) (now : ℕ) (ask : Ask) (user : User) (number shard : ℕ) (job : _) (told : Replied) → ask.request ≡ request.Work number shard → forbidden user ask.request ≡ None → catalog.job c number ≡ Some job
-    → (call : OneCall (HasRisen pn.found.faults pn.seen.faults) reply.Refused (λ h t g. IsWorked h now user.number job t g) (held_of pn.found) (held_of pn.seen) told.reply)
-    → CallEnds (HasRisen pn.found.faults pn.seen.faults) reply.Refused (ShardAnswers c now user ask) call.mended (held_of pn.seen) told.reply
+    → (call : OneCall (Fails pn.found pn.seen) reply.Refused (λ h t g. IsWorked h now user.number job t g) (held_of pn.found) (held_of pn.seen) told.reply)
+    → CallEnds (Fails pn.found pn.seen) reply.Refused (ShardAnswers c now user ask) call.mended (held_of pn.seen) told.reply
 step_ends c pn now ask user number shard job told is may there call =
-    let failed = HasRisen pn.found.faults pn.seen.faults in
+    let failed = Fails pn.found pn.seen in
     let free : forbidden user (request.Work number shard) ≡ None = rw is at may in
     let present = job_present c number shard job there in
     ends_mean failed failed reply.Refused (λ h t g. IsWorked h now user.number job t g) (ShardAnswers c now user ask) call.mended (held_of pn.seen) told.reply (λ why. why)
     (λ t l says. (says.reply ∙ sym (rw (is, free, present, there) refl), says.list ∙ sym (rw (is, free, present, there) refl))) call.ends
 
 step-answer : (c : List Record) (pn : Part) (now : ℕ) (ask : Ask) (user : User) (number shard : ℕ) (job : _) (told : Replied) → ask.request ≡ request.Work number shard → forbidden user ask.request ≡ None → catalog.job c number ≡ Some job
-    → (call : OneCall (HasRisen pn.found.faults pn.seen.faults) reply.Refused (λ h t g. IsWorked h now user.number job t g) (held_of pn.found) (held_of pn.seen) told.reply) → Leaves call.mended (held_of pn.seen) told.own → Answered c now ask user pn told
+    → (call : OneCall (Fails pn.found pn.seen) reply.Refused (λ h t g. IsWorked h now user.number job t g) (held_of pn.found) (held_of pn.seen) told.reply) → Leaves call.mended (held_of pn.seen) told.own → Answered c now ask user pn told
 step-answer c pn now ask user number shard job told is may there call leaves = record {
   call = record { mended = call.mended; mends = call.mends; ends = step_ends c pn now ask user number shard job told is may there call };
   leaves = leaves;
@@ -160,7 +159,7 @@ step_came so sn po pn now ask user number shard told known may is (way.jobless r
     let free : forbidden user (request.Work number shard) ≡ None = rw is at may in
     let rested = subst (λ (p : Part). IsFoundBy po p p.seen) (sym same) (found_rested po po (looked-self po)) in
     subst (CameTo so sn po pn now ask user) (sym said)
-    (elim (untold_split (HasRisen sn.found.faults sn.seen.faults) (TellsJob number) (held_of sn.found) (held_of sn.seen) r untold) [
+    (elim (untold_split (Fails sn.found sn.seen) (TellsJob number) (held_of sn.found) (held_of sn.seen) r untold) [
       | inl both ↦
           let missing = job_absent sn.seen.list number shard legal both.1.1 in
           way.refused r first both.0 (seen-user so sn ask user (took_sees so sn first) known.found) (rw both.1.0 (rw (is, free, missing) refl)) rested refl

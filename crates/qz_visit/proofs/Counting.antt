@@ -13,7 +13,7 @@ use Rattle.qz_terms.specs.Serial.{Held, is_catalog, is_part}
 use Rattle.qz_turn.specs.declared.view.Tale.{Tale}
 use Rattle.qz_visit.specs.declared.last.Last.{Last}
 use Rattle.qz_visit.specs.declared.last.Said.{Said}
-use Rattle.qz_visit.specs.Visits.{AreLeft, Asked, AsksInTurn, IsUnasked, Owns, Seats, Visited, own_if, own_kept, seen_by, seen_in, without_own}
+use Rattle.qz_visit.specs.Visits.{AreLeft, Asked, AsksInTurn, IsNamed, IsUnasked, Owns, Seats, Visited, own_if, own_kept, seen_by, seen_in, without_own}
 use Rattle.qz_visit.specs.Ways.{Part}
 use Rattle.qz_visit.proofs.Reporting.{count_found, count_told}
 
@@ -74,7 +74,7 @@ asked_by old new last now ask said v list_is own_is catalog parts in_turn = reco
     parts = v.parts;
     once = v.once;
     owns = subst (λ (p : Option ℕ). Owns v.found (seen_in new) p (own_kept last.put last.doubt)) (sym list_is) (subst (λ (o : OwnRecord). Owns v.found (seen_in new) said.list o) (sym own_is) v.owns);
-    named = subst (λ (p : Option ℕ). IfSome p (λ k. k < length old.parts)) (sym list_is) v.named;
+    named = subst (λ (p : Option ℕ). IsNamed v.found.records.list old.parts new.parts ask p said.reply) (sym list_is) v.named;
   };
   in_turn = in_turn;
   catalog = catalog ∙ left-count _ _ _ v.owns.records;

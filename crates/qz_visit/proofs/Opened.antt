@@ -107,12 +107,22 @@ module _ {K : Type 0} (faults : K → ℕ) (records : Lock (Unit {0})) (seats n 
     placed = record { each = λ k l at. absurd cc };
     own = record { count = refl; own = λ k l p at there. absurd cc };
     dealt = record { seats_are = λ k l at. absurd cc; numbers = λ k p at. absurd cc };
+    starts = record { each = λ k l s at there. absurd cc };
     seen = refl;
   }
+
+  as-many : (done : List (part.Keeping K)) (ls : List (Locked Placed)) (ps : List Part) → AreOpened faults records seats n done ls ps → length ls ≡ length done
+  as-many done ls ps so =
+      let long = so.own.count in
+      let one = length-map ps (λ (p : Part). p.seen) in
+      let two = length-map done (λ (s : part.Keeping K). tale_of s.held (faults s.keeper)) in
+      let both = ap length so.seen in
+      omega (arith, long, one, two, both)
 
   opened-one : (done : List (part.Keeping K)) (ls : List (Locked Placed)) (ps : List Part) (s : part.Keeping K) (l : Locked Placed) (p : Part) → AreOpened faults records seats n done ls ps → IsOpened faults records seats n (length ls) s l p → AreOpened faults records seats n (done ++ s ∷ []) (ls ++ l ∷ []) (ps ++ p ∷ [])
   opened-one done ls ps s l p so is =
       let long = so.own.count in
+      let many = as-many done ls ps so in
       record {
         placed = record {
           each = λ k m at. elim (get_push ls l m k at) [
@@ -143,6 +153,18 @@ module _ {K : Type 0} (faults : K → ℕ) (records : Lock (Unit {0})) (seats n 
             | inr new ↦ ap (λ (x : Part). x.numbers) (sym new.1 ∙ is.first)
           ];
         };
+        starts = record {
+          each = λ k m r at there. elim (get_push ls l m k at) [
+            | inl old ↦ elim (get_push done s r k there) [
+              | inl one ↦ so.starts.each k m r old one
+              | inr new ↦ absurd (let here = new.0 in let inside = slice_get_within ls k m old in omega (arith, here, inside, many))
+            ]
+            | inr last ↦ elim (get_push done s r k there) [
+              | inl one ↦ absurd (let here = last.0 in let inside = slice_get_within done k r one in omega (arith, here, inside, many))
+              | inr new ↦ ap (λ (x : Locked Placed). x.start) (sym last.1) ∙ is.start_is ∙ ap (λ (x : part.Keeping K). length x.held.list) new.1
+            ]
+          ];
+        };
         seen = map-append (λ (x : Part). x.seen) ps (p ∷ []) ∙ ap (λ (ts : List (Tale Record)). ts ++ p.seen ∷ []) so.seen ∙ ap (λ (x : Part). tales faults done ++ x.seen ∷ []) is.first ∙ sym (map-append (λ (x : part.Keeping K). tale_of x.held (faults x.keeper)) done (s ∷ []));
       }
 
@@ -164,12 +186,7 @@ module _ {K : Type 0} (faults : K → ℕ) (records : Lock (Unit {0})) (seats : 
   }
 
   pub many_opened : (n : ℕ) (done : List (part.Keeping K)) (ls : List (Locked Placed)) (ps : List Part) → AreOpened faults records seats n done ls ps → length ls ≡ length done
-  many_opened n done ls ps so =
-      let long = so.own.count in
-      let one = length-map ps (λ (p : Part). p.seen) in
-      let two = length-map done (λ (s : part.Keeping K). tale_of s.held (faults s.keeper)) in
-      let both = ap length so.seen in
-      omega (arith, long, one, two, both)
+  many_opened n done ls ps so = as-many faults records seats n done ls ps so
 
   pub next_there : (all left : List (part.Keeping K)) (ls : List (Locked Placed)) (ps : List Part) (s : part.Keeping K) → HalfOpens faults records seats all (left ++ s ∷ []) ls ps → slice_get all (length ls) ≡ Some s
   next_there all left ls ps s so =

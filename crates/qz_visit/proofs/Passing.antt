@@ -1,17 +1,17 @@
 -- What requests do to passes, and the lists that these tell.
-use Rattle.std.proofs.Common.{◌≡◌, ◌⊎◌, inl, inr, ℕ, zero, suc, List, [], ◌∷◌, ◌++◌, Some, None, length, map, refl, sym, ap, ◌∙◌, subst, append_assoc}
-use Rattle.std.specs.Prelude.{slice_get, slice_set}
+use Rattle.std.proofs.Common.{◌≡◌, ◌⊎◌, inl, inr, ⊎_elim, ℕ, ◌<◌, zero, suc, Bool, true, false, List, [], ◌∷◌, ◌++◌, Some, None, length, map, refl, sym, ap, ◌∙◌, subst, append_assoc}
+use Rattle.std.specs.Prelude.{◌&&◌, not, slice_get, slice_set}
 use Rattle.std.proofs.lemmas.List.Elements.{All-append, All-nil, All-push}
 use Rattle.std.proofs.lemmas.List.{length-map, map-set}
 use Rattle.std.proofs.lemmas.Option.{slice_get-map, slice_get_within}
 use Rattle.qz_catalog_turns.specs.declared.replied.OwnRecord.TheVariants as own
 use Rattle.qz_catalog_turns.specs.declared.replied.Replied.{Replied}
 use Rattle.qz_catalog_turns.specs.Owning.{Leaves, absent}
-use Rattle.qz_catalog_turns.specs.Turning.{IsLook, Looked, TurnCalls, held_of}
+use Rattle.qz_catalog_turns.specs.Turning.{Fails, IsLook, Looked, TurnCalls, held_of}
 use Rattle.qz_grading.specs.declared.refusal.Refusal.{Refusal}
 use Rattle.qz_keeper.specs.Lists.{Looks}
-use Rattle.qz_outside.specs.Causes.{HasRisen}
 use Rattle.qz_serial.specs.Once.{AskedOnce}
+use Rattle.qz_serial.specs.Paths.{goes_to_part}
 use Rattle.qz_serial.proofs.Composing.{look_ends}
 use Rattle.qz_serial.proofs.Seats.{set_get}
 use Rattle.qz_shard_turns.specs.Posing.{TurnIsOlder}
@@ -20,17 +20,24 @@ use Rattle.qz_shard_turns.proofs.Tying.{looked-self}
 use Rattle.qz_terms.specs.declared.ask.Ask.{Ask}
 use Rattle.qz_terms.specs.declared.plan.Plan.{Plan}
 use Rattle.qz_terms.specs.declared.record.Record.{Record}
+use Rattle.qz_terms.specs.declared.people.User.{User}
+use Rattle.qz_terms.specs.declared.reply.Done.{Done}
 use Rattle.qz_terms.specs.declared.reply.Reply.{Reply}
+use Rattle.qz_terms.specs.declared.reply.Reply.TheVariants as reply
 use Rattle.qz_terms.specs.declared.request.Request.{Request}
-use Rattle.qz_terms.specs.Serial.{Held, Lists, Mended}
+use Rattle.qz_terms.specs.declared.request.Request.TheVariants as request
+use Rattle.qz_terms.specs.Catalog.{user_of}
+use Rattle.qz_terms.specs.CatalogAnswer.{asks_catalog}
+use Rattle.qz_terms.specs.SchoolAnswer.{asked_part, part_of}
+use Rattle.qz_terms.specs.Serial.{Held, Lists, Mended, is_report}
 use Rattle.qz_turn.specs.declared.view.Tale.{Tale}
 use Rattle.qz_turn.specs.declared.view.Turn.{Turn}
 use Rattle.qz_turn.specs.Passes.{Standing}
 use Rattle.qz_turn.specs.Turns.{last_turn}
 use Rattle.qz_turn.proofs.Prefixes.{follows_self, follows_trans}
 use Rattle.qz_visit.specs.declared.last.Said.{Said}
-use Rattle.qz_visit.specs.Visits.{AreFoundBy, IsFoundBy, IsMendedTo, Rose, Seats, Tellings, TookTurn, Visited, at_part, lists_told, more, none, of_catalog, of_shard, seen_by}
-use Rattle.qz_visit.specs.Ways.{Part, Seen}
+use Rattle.qz_visit.specs.Visits.{AreFoundBy, IsFoundBy, IsMendedTo, Rose, Seats, TakesTurns, Tellings, TookTurn, Visited, at_part, lists_told, more, none, of_catalog, of_shard, refusing, seen_by}
+use Rattle.qz_visit.specs.Ways.{Part, Seen, refused_with}
 use Rattle.qz_visit.proofs.Owning.{as_seen, ends_mend, found_settled, leaves_none, leaves_there}
 
 -- ---- one pass
@@ -58,6 +65,13 @@ looked_on a b c one other = record {
 }
 
 -- ---- a turn, behind such
+
+takes-by : {K : Type 0} (a b : Standing Record K) (earlier : List (Turn Record)) → b.turns ≡ a.turns ++ (earlier ++ last_turn b ∷ []) → TakesTurns a b
+takes-by a b [] added = record { first = last_turn b; others = []; added = added }
+takes-by a b (t ∷ ts) added = record { first = t; others = ts ++ last_turn b ∷ []; added = added }
+
+pub takes_took : {K : Type 0} (a b : Standing Record K) → TookTurn a b → TakesTurns a b
+takes_took a b t = takes-by a b t.earlier t.added
 
 pub took_after : {K : Type 0} (a b c : Standing Record K) → HasLooked a b → TookTurn b c → TookTurn a c
 took_after a b c l t =
@@ -88,7 +102,7 @@ took_looked a b t mends = record {
 
 pub turn_mends : {A K : Type 0} (P : List Record → Type 0) (refused : Refusal → A) (Says : List Record → A → Type 0) (old new : Standing Record K) (told : A) → TurnCalls P refused (Looks Says) old new told → Mended (held_of new.found) (held_of new.seen)
 turn_mends P refused Says old new told t =
-    let failed = HasRisen new.found.faults new.seen.faults in
+    let failed = Fails new.found new.seen in
     ends_mend failed refused Says (held_of new.found) (held_of new.seen) told (look_ends failed refused Says (held_of new.found) (held_of new.seen) told t.calls.call)
 
 pub turn_looked : {A K : Type 0} (P : List Record → Type 0) (refused : Refusal → A) (Says : List Record → A → Type 0) (old new : Standing Record K) (told : A) → TurnCalls P refused (Looks Says) old new told → HasLooked old new
@@ -188,30 +202,77 @@ by_catalog told = record { reply = told.reply; list = None; own = told.own }
 pub asked_mean : (failed worse : Type 0) (a b : Lists) (now : ℕ) (ask : Ask) (told : Reply) → (failed → worse) → AskedOnce failed a b now ask told → AskedOnce worse a b now ask told
 asked_mean failed worse a b now ask told to once = record { asks = once.asks; cause = λ is. to (once.cause is); stands = once.stands; stays = once.stays; again = once.again }
 
+pub none-some : (k : ℕ) → None ≡ Some k → ⊥
+none-some k is = absurd cc
+
+-- whatever is accepted goes to the catalogue
+abbrev pub AcceptsThere : Request → Reply → Type 0
+AcceptsThere x told = (place : ℕ) (d : Done) → told ≡ reply.Ok place d → asks_catalog x ≡ true
+
+pub refused_there : (x : Request) (r : Refusal) → AcceptsThere x (reply.Refused r)
+refused_there x r = λ place d is. absurd cc
+
+-- and is no report
+no-report : (x : Request) → asks_catalog x ≡ true → is_report x ≡ true → ⊥
+no-report (request.Report quiz) catalog is = absurd cc
+no-report x catalog is = absurd cc
+
+not-both : (a r : Bool) → not a && not r ≡ true → r ≡ true → ⊥
+not-both true r goes is = absurd cc
+not-both false r goes is = let no : false ≡ true = rw is at goes in absurd cc
+
+-- what a shard accepts, it accepts in a turn
+abbrev pub Speaks : Part → Part → Reply → Type 0
+Speaks po pn told = (place : ℕ) (d : Done) → told ≡ reply.Ok place d → TakesTurns po pn
+
+pub refused_mute : (po pn : Part) (r : Refusal) → Speaks po pn (reply.Refused r)
+refused_mute po pn r = λ place d is. absurd cc
+
+pub turn_speaks : (po pn : Part) (told : Reply) → TookTurn po pn → Speaks po pn told
+turn_speaks po pn told t = λ place d is. takes_took po pn t
+
+-- a request of one whom the catalogue knows goes to this shard, of so many
+abbrev pub GoesThere : List Record → ℕ → Ask → ℕ → Type 0
+GoesThere c n ask k = (goes_to_part ask.request ≡ true) × (asked_part c n ask ≡ Some k)
+
+pub goes_other : (x : Request) → goes_to_part x ≡ true → asks_catalog x ≡ false
+goes_other x is = other (asks_catalog x) refl is
+  where
+    other : (b : _) → asks_catalog x ≡ b → goes_to_part x ≡ true → asks_catalog x ≡ false
+    other true is goes = let no : false ≡ true = rw is at goes in absurd cc
+    other false is goes = is
+
+pub goes_there : (c : List Record) (n k : ℕ) (ask : Ask) (user : User) → user_of c ask.caller ≡ Some user → goes_to_part ask.request ≡ true → part_of n user ask.request ≡ k → GoesThere c n ask k
+goes_there c n k ask user found goes part = (goes, rw (found, goes_other ask.request goes, part) refl)
+
 -- at the catalogue alone
-pub visited_records : (so sn : Seen) (ps : List Part) (found : Tale Record) (now : ℕ) (ask : Ask) (told : Replied) → IsFoundBy so sn found → Leaves (held_of found) (held_of sn.seen) told.own
-    → AskedOnce (HasRisen found.faults sn.seen.faults) (lists (held_of found) (helds ps)) (lists (held_of sn.seen) (helds ps)) now ask told.reply → Visited (seats so ps) (seats sn ps) now ask (by_catalog told)
-visited_records so sn ps found now ask told is leaves once =
+pub visited_records : (so sn : Seen) (ps : List Part) (found : Tale Record) (now : ℕ) (ask : Ask) (told : Replied) → AcceptsThere ask.request told.reply → IsFoundBy so sn found → Leaves (held_of found) (held_of sn.seen) told.own
+    → AskedOnce (Fails found sn.seen) (lists (held_of found) (helds ps)) (lists (held_of sn.seen) (helds ps)) now ask told.reply → Visited (seats so ps) (seats sn ps) now ask (by_catalog told)
+visited_records so sn ps found now ask told other is leaves once =
     let f : Tellings = record { records = found; parts = seen_by ps } in
     let g : Tellings = record { records = sn.seen; parts = seen_by ps } in
     record {
       found = f;
       records = is;
       parts = all_rested ps;
-      once = asked_mean (HasRisen found.faults sn.seen.faults) (Rose f g) (lists (held_of found) (helds ps)) (lists (held_of sn.seen) (helds ps)) now ask told.reply (λ why. of_catalog why) once;
+      once = asked_mean (Fails found sn.seen) (Rose f g) (lists (held_of found) (helds ps)) (lists (held_of sn.seen) (helds ps)) now ask told.reply (λ why. of_catalog why) once;
       owns = record { records = leaves; parts = λ k x y one other. leaves_none (seen_by ps) k x y one other };
-      named = tt;
+      named = record {
+        place = λ k is. absurd cc;
+        turned = λ k o n at d reads was now_is accepted. ⊎_elim (λ is. absurd (none-some k is)) (λ is. absurd (no-report ask.request (other at d accepted) is)) reads;
+        elsewhere = λ at d is accepted. rw (other at d accepted) refl;
+      };
     }
 
--- whatever it read, it left
-pub visited_still : (s : Seen) (ps : List Part) (now : ℕ) (ask : Ask) (told : Reply) → AskedOnce ⊥ (lists (held_of s.seen) (helds ps)) (lists (held_of s.seen) (helds ps)) now ask told → Visited (seats s ps) (seats s ps) now ask (by_catalog (put_none told))
-visited_still s ps now ask told once =
+-- whatever was read stays, and it is refused
+pub visited_still : (s : Seen) (ps : List Part) (now : ℕ) (ask : Ask) (r : Refusal) → AskedOnce ⊥ (lists (held_of s.seen) (helds ps)) (lists (held_of s.seen) (helds ps)) now ask (reply.Refused r) → Visited (seats s ps) (seats s ps) now ask (refusing r)
+visited_still s ps now ask r once =
     let a = lists (held_of s.seen) (helds ps) in
-    visited_records s s ps s.seen now ask (put_none told) (found_rested s s (looked-self s)) (absent (held_of s.seen)) (asked_mean ⊥ (HasRisen s.seen.faults s.seen.faults) a a now ask told (λ why. absurd why) once)
+    visited_records s s ps s.seen now ask (refused_with r) (refused_there ask.request r) (found_rested s s (looked-self s)) (absent (held_of s.seen)) (asked_mean ⊥ (Fails s.seen s.seen) a a now ask (reply.Refused r) (λ why. absurd why) once)
 
 -- a keeper failed, that of the catalogue or that of the shard
 abbrev pub Either : Tale Record → Seen → Tale Record → Part → Type 0
-Either found sn there pn = HasRisen found.faults sn.seen.faults ⊎ HasRisen there.faults pn.seen.faults
+Either found sn there pn = Fails found sn.seen ⊎ Fails there pn.seen
 
 rose-either : (sn : Seen) (ps : List Part) (k : ℕ) (po pn : Part) (found there : Tale Record) → slice_get ps k ≡ Some po → Either found sn there pn
     → let f : Tellings = record { records = found; parts = slice_set (seen_by ps) k there } in let g : Tellings = record { records = sn.seen; parts = seen_by (slice_set ps k pn) } in Rose f g
@@ -220,12 +281,24 @@ rose-either sn ps k po pn found there at (inr why) =
     let own = seen_there ps k po at in
     of_shard k there pn.seen (set_get (seen_by ps) k po.seen there own) (rw (seen_set ps k pn) (set_get (seen_by ps) k po.seen pn.seen own)) why
 
+pub part-is : (a b : Part) → Some a ≡ Some b → a ≡ b
+part-is a b is = cc
+
+turned-at : (ps : List Part) (k j : ℕ) (po pn o n : Part) → slice_get ps k ≡ Some po → k ≡ j → slice_get ps j ≡ Some o → slice_get (slice_set ps k pn) j ≡ Some n → TakesTurns po pn → TakesTurns o n
+turned-at ps k j po pn o n at same was is turned =
+    let first : slice_get ps k ≡ Some o = subst (λ (i : ℕ). slice_get ps i ≡ Some o) (sym same) was in
+    let second : slice_get (slice_set ps k pn) k ≡ Some n = subst (λ (i : ℕ). slice_get (slice_set ps k pn) i ≡ Some n) (sym same) is in
+    subst (λ (x : Part). TakesTurns x n) (part-is po o (sym at ∙ first)) (subst (λ (x : Part). TakesTurns po x) (part-is pn n (sym (set_get ps k po pn at) ∙ second)) turned)
+
+number-is : (k j : ℕ) → Some k ≡ Some j → k ≡ j
+number-is k j is = cc
+
 -- at the catalogue and at one shard
-pub visited_both : (so sn : Seen) (ps : List Part) (k : ℕ) (po pn : Part) (found there : Tale Record) (now : ℕ) (ask : Ask) (told : Replied) → slice_get ps k ≡ Some po → IsFoundBy so sn found → IsFoundBy po pn there
+pub visited_both : (so sn : Seen) (ps : List Part) (k : ℕ) (po pn : Part) (found there : Tale Record) (now : ℕ) (ask : Ask) (told : Replied) → GoesThere found.list (length ps) ask k → Speaks po pn told.reply → slice_get ps k ≡ Some po → IsFoundBy so sn found → IsFoundBy po pn there
     → Leaves (held_of found) (held_of sn.seen) own.Absent → Leaves (held_of there) (held_of pn.seen) told.own
     → AskedOnce (Either found sn there pn) (lists (held_of found) (slice_set (helds ps) k (held_of there))) (lists (held_of sn.seen) (slice_set (helds ps) k (held_of pn.seen))) now ask told.reply
     → Visited (seats so ps) (seats sn (slice_set ps k pn)) now ask (at_part k told)
-visited_both so sn ps k po pn found there now ask told at first second none_left leaves once =
+visited_both so sn ps k po pn found there now ask told goes speaks at first second none_left leaves once =
     let f : Tellings = record { records = found; parts = slice_set (seen_by ps) k there } in
     let g : Tellings = record { records = sn.seen; parts = seen_by (slice_set ps k pn) } in
     let worse = Rose f g in
@@ -241,5 +314,11 @@ visited_both so sn ps k po pn found there now ask told at first second none_left
         parts = λ j x y one other.
             leaves_there (seen_by ps) k j po.seen there pn.seen x y told.own (seen_there ps k po at) leaves one (subst (λ (ts : List (Tale Record)). slice_get ts j ≡ Some y) (seen_set ps k pn) other);
       };
-      named = slice_get_within ps k po at;
+      named = record {
+        place = λ j is. let same = number-is k j is in (goes.0, goes.1 ∙ is, subst (λ (i : ℕ). i < length ps) same (slice_get_within ps k po at));
+        turned = λ j o n here d reads was now_is accepted. ⊎_elim
+            (λ is. turned-at ps k j po pn o n at (number-is k j is) was now_is (speaks here d accepted))
+            (λ is. absurd (not-both (asks_catalog ask.request) (is_report ask.request) goes.0 is)) reads;
+        elsewhere = λ here d is accepted. absurd cc;
+      };
     }

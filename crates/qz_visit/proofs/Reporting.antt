@@ -1,5 +1,5 @@
 -- How a report comes out, by what the turns at the catalogue and at each shard came to.
-use Rattle.std.proofs.Common.{◌≡◌, ◌⊎◌, inl, inr, ℕ, zero, suc, ◌+◌, ◌<◌, List, [], ◌∷◌, ◌++◌, Option, Some, None, Result, Ok, Err, map, length, take, refl, sym, ap, ◌∙◌, subst, append-nil, append_assoc, arith}
+use Rattle.std.proofs.Common.{◌≡◌, ◌⊎◌, inl, inr, ℕ, zero, suc, ◌+◌, ◌<◌, false, List, [], ◌∷◌, ◌++◌, Option, Some, None, Result, Ok, Err, map, length, take, refl, sym, ap, ◌∙◌, subst, append-nil, append_assoc, arith}
 use Rattle.std.specs.List.{AllZip}
 use Rattle.std.specs.Prelude.{ℤ, flat_map, slice_get, slice_set}
 use Rattle.std.proofs.lemmas.List.{length-map, length-set, map-set, take_all}
@@ -7,18 +7,19 @@ use Rattle.std.proofs.lemmas.Option.{slice_get-map, slice_get_within}
 use Rattle.qz_catalog_turns.specs.declared.replied.OwnRecord.TheVariants as own
 use Rattle.qz_catalog_turns.specs.Headings.{IsHeading, TellsHeading}
 use Rattle.qz_catalog_turns.specs.Owning.{Leaves, absent}
-use Rattle.qz_catalog_turns.specs.Turning.{TurnCalls, held_of}
+use Rattle.qz_catalog_turns.specs.Turning.{Fails, TurnCalls, held_of}
 use Rattle.qz_catalog_turns.specs.declared.questions.Heading.{Heading}
 use Rattle.qz_grading.specs.declared.refusal.Refusal.{Refusal}
 use Rattle.qz_grading.specs.declared.refusal.Refusal.TheVariants as refusal
 use Rattle.qz_keeper.specs.Lists.{IsSettled, Looks}
-use Rattle.qz_outside.specs.Causes.{HasRisen}
 use Rattle.qz_serial.specs.Once.{AskedOnce}
+use Rattle.qz_serial.specs.Paths.{goes_to_part}
 use Rattle.qz_serial.specs.Reports.{IsReporting, MendedUpTo}
 use Rattle.qz_serial.proofs.Composing.{look_ends}
 use Rattle.qz_serial.proofs.Reports.{one_more, reports_law}
 use Rattle.qz_serial.proofs.Seats.{set_apart, set_get, set_twice}
 use Rattle.qz_shard.specs.Keeping.{TellsRows}
+use Rattle.qz_shard_turns.specs.Tying.{HasLooked}
 use Rattle.qz_school.specs.Answering.{MayBeAsked}
 use Rattle.qz_school.specs.Reports.{all_rows, named_row, rows_in, rows_in_order}
 use Rattle.qz_school.proofs.Calls.{look_told}
@@ -28,6 +29,7 @@ use Rattle.qz_terms.specs.declared.ask.Ask.{Ask}
 use Rattle.qz_terms.specs.declared.grades.Policy.{Policy}
 use Rattle.qz_terms.specs.declared.people.User.{User}
 use Rattle.qz_terms.specs.declared.record.Record.{Record}
+use Rattle.qz_terms.specs.declared.reply.Done.{Done}
 use Rattle.qz_terms.specs.declared.reply.Done.TheVariants as done
 use Rattle.qz_terms.specs.declared.reply.Reply.{Reply}
 use Rattle.qz_terms.specs.declared.reply.Reply.TheVariants as reply
@@ -40,12 +42,12 @@ use Rattle.qz_terms.specs.Serial.{Held, Mended, lists_of, stays}
 use Rattle.qz_turn.specs.declared.view.Tale.{Tale}
 use Rattle.qz_visit.specs.Reports.{PartsRead, RowsAre, RowsStop, short, untold}
 use Rattle.qz_visit.specs.Tokens.{IsKnownTo}
-use Rattle.qz_visit.specs.Visits.{AreFoundBy, IsFoundBy, Rose, Tellings, TookTurn, Visited, lists_told, more, none, of_shard, refusing, seen_by}
+use Rattle.qz_visit.specs.Visits.{AreFoundBy, IsFoundBy, Rose, TakesTurns, Tellings, TookTurn, Visited, lists_told, more, none, of_shard, refusing, seen_by}
 use Rattle.qz_visit.specs.Ways.{Part, Seen}
 use Rattle.qz_visit.proofs.Asking.{askable, settled_self, user_on, untold_split}
 use Rattle.qz_visit.proofs.Asking as asking
 use Rattle.qz_visit.proofs.Owning.{as_seen, ends_mend, found_settled, look_again}
-use Rattle.qz_visit.proofs.Passing.{all_rested, asked_mean, by_catalog, count_helds, found_after, found_looked, found_looks, helds, helds_set, lists, put_none, seats, seen_set, seen_there, took_sees, took_turned}
+use Rattle.qz_visit.proofs.Passing.{all_rested, asked_mean, by_catalog, count_helds, found_after, found_looked, found_looks, helds, helds_set, lists, part-is, put_none, seats, seen_set, seen_there, takes_took, took_after, took_sees, took_turned}
 
 -- ---- one shard more
 
@@ -92,7 +94,7 @@ mended-set i old parts x read = record {
     apart i k within same = absurd (omega (arith, within, same))
 
 pub read_none : (ps : List Part) → PartsRead 0 ps ps (seen_by ps)
-read_none ps = record { are = all_rested ps; same = refl; mended = (reports_law ⊥).begin (helds ps); legal = λ k p within at. absurd (omega (arith, within)) }
+read_none ps = record { are = all_rested ps; same = refl; mended = (reports_law ⊥).begin (helds ps); legal = λ k p within at. absurd (omega (arith, within)); turned = λ k o n within was at. absurd (omega (arith, within)) }
 
 told-there : (ts : List (Tale Record)) (k : ℕ) (t : Tale Record) → map held_of (slice_set ts k t) ≡ slice_set (map held_of ts) k (held_of t)
 told-there ts k t = map-set held_of ts k t
@@ -126,11 +128,34 @@ legal-at i k mid pn p before here within at = elim (get_set mid i k pn p at) [
     some-is : (a b : Part) → Some a ≡ Some b → a ≡ b
     some-is a b e = cc
 
+-- a turn more at one that was found so
+found-at : (os ns : List Part) (fs : List (Tale Record)) (k : ℕ) (o n : Part) → AreFoundBy os ns fs → map held_of fs ≡ helds ns → slice_get os k ≡ Some o → slice_get ns k ≡ Some n → HasLooked o n
+found-at _ _ _ k o n none same was is = absurd cc
+found-at _ _ _ zero o n (more a b f os ns fs one rest) same was is =
+    let first : a ≡ o = cc in
+    let second : b ≡ n = cc in
+    let still = one-head (held_of f) (held_of b.seen) (map held_of fs) (helds ns) same in
+    subst (λ (x : Part). HasLooked x n) first (subst (λ (x : Part). HasLooked a x) second (found_looks a b f one still))
+found-at _ _ _ (suc k) o n (more a b f os ns fs one rest) same was is = found-at os ns fs k o n rest (one-tail (held_of f) (held_of b.seen) (map held_of fs) (helds ns) same) was is
+
+turned-on : (i k : ℕ) (old mid : List Part) (found : List (Tale Record)) (po pn o q : Part) → PartsRead i old mid found → slice_get mid i ≡ Some po → TookTurn po pn → k < i + 1 → slice_get old k ≡ Some o → slice_get (slice_set mid i pn) k ≡ Some q → TakesTurns o q
+turned-on i k old mid found po pn o q read at took within was there = elim (lower i k within) [
+  | inl less ↦ read.turned k o q less was (sym (set_apart mid i k pn (λ same. absurd (omega (arith, less, same)))) ∙ there)
+  | inr same ↦
+      let own : slice_get (slice_set mid i pn) k ≡ Some pn = subst (λ (j : ℕ). slice_get (slice_set mid i pn) j ≡ Some pn) (sym same) (set_get mid i po pn at) in
+      let here : slice_get mid k ≡ Some po = subst (λ (j : ℕ). slice_get mid j ≡ Some po) (sym same) at in
+      let last : pn ≡ q = part-is pn q (sym own ∙ there) in
+      subst (λ (x : Part). TakesTurns o x) last (takes_took o pn (took_after o po pn (found-at old mid found k o po read.are read.same was here) took))
+]
+  where
+    lower : (i k : ℕ) → k < i + 1 → (k < i) ⊎ (k ≡ i)
+    lower i k within = grind (arith, within)
+
 -- the rows of one shard more
 pub read_more : (i quiz : ℕ) (policy : Policy) (old mid : List Part) (found : List (Tale Record)) (po pn : Part) (n : ℕ) (rows : List (ℕ × Option ℤ)) → PartsRead i old mid found → slice_get mid i ≡ Some po → n ≡ length mid
     → TurnCalls (IsLegal i n) (λ r. Err r) (Looks (TellsRows quiz policy)) po pn (Ok rows) → PartsRead (i + 1) old (slice_set mid i pn) (slice_set found i (as_seen pn))
 read_more i quiz policy old mid found po pn n rows read at long t =
-    let told = look_told (HasRisen pn.found.faults pn.seen.faults) (TellsRows quiz policy) (held_of pn.found) (held_of pn.seen) rows t.calls.call in
+    let told = look_told (Fails pn.found pn.seen) (TellsRows quiz policy) (held_of pn.found) (held_of pn.seen) rows t.calls.call in
     let next = one_more i (map held_of (slice_set found i (as_seen pn))) (slice_set (helds mid) i (held_of pn.seen)) (held_of pn.seen) (held_of pn.seen) (mended-to i mid found (as_seen pn) read.mended)
     (set_get (helds mid) i (held_of po.seen) (held_of pn.seen) (helds-there mid i po at)) (settled_self (held_of pn.seen) told.0.no_doubt) in
     let legal : IsLegal i (length mid) pn.seen.list = subst (λ (m : ℕ). IsLegal i m pn.seen.list) long t.calls.seen_may.without in
@@ -139,6 +164,7 @@ read_more i quiz policy old mid found po pn n rows read at long t =
       same = same-set i mid found pn read.same;
       mended = subst (MendedUpTo (i + 1) (map held_of (slice_set found i (as_seen pn)))) (set_twice (helds mid) i (held_of pn.seen) (held_of pn.seen) ∙ sym (helds_set mid i pn)) next;
       legal = λ k p within there. subst (λ (m : ℕ). IsLegal k m p.seen.list) (sym (length-set mid i pn)) (legal-at i k mid pn p read.legal legal within there);
+      turned = λ k o q within was there. turned-on i k old mid found po pn o q read at (took_turned (IsLegal i n) (λ r. Err r) (Looks (TellsRows quiz policy)) po pn (Ok rows) t) within was there;
     }
 
 flat-one : {A B : Type 0} (f : A → List B) (xs : List A) (k : ℕ) (x : A) → slice_get xs k ≡ Some x → flat_map f (take (suc k) xs) ≡ flat_map f (take k xs) ++ f x
@@ -164,7 +190,7 @@ lists-set ps k p = ap lists_of (helds_set ps k p) ∙ map-set (λ (h : Held). h.
 pub rows_more : (i quiz : ℕ) (policy : Policy) (mid : List Part) (po pn : Part) (P : List Record → Type 0) (all rows : List (ℕ × Option ℤ)) → slice_get mid i ≡ Some po → all ≡ all_rows (first_lists i mid) quiz policy
     → TurnCalls P (λ r. Err r) (Looks (TellsRows quiz policy)) po pn (Ok rows) → all ++ rows ≡ all_rows (first_lists (i + 1) (slice_set mid i pn)) quiz policy
 rows_more i quiz policy mid po pn P all rows at so_far t =
-    let told = look_told (HasRisen pn.found.faults pn.seen.faults) (TellsRows quiz policy) (held_of pn.found) (held_of pn.seen) rows t.calls.call in
+    let told = look_told (Fails pn.found pn.seen) (TellsRows quiz policy) (held_of pn.found) (held_of pn.seen) rows t.calls.call in
     let here : rows ≡ rows_in quiz policy pn.seen.list = ok-is rows (rows_in quiz policy pn.seen.list) told.1 in
     let ls = lists_of (helds mid) in
     let old = list-there (helds mid) i (held_of po.seen) (helds-there mid i po at) in
@@ -239,8 +265,8 @@ left-same fs ts k f s same one other =
 
 visited-all : (failed : Type 0) (so sn : Seen) (ps ns : List Part) (fs : List (Tale Record)) (now : ℕ) (ask : Ask) (told : Reply) → IsFoundBy so sn (as_seen sn) → AreFoundBy ps ns fs → map held_of fs ≡ helds ns
     → let f : Tellings = record { records = as_seen sn; parts = fs } in let g : Tellings = record { records = sn.seen; parts = seen_by ns } in
-    (failed → Rose f g) → AskedOnce failed (lists (held_of sn.seen) (map held_of fs)) (lists (held_of sn.seen) (helds ns)) now ask told → Visited (seats so ps) (seats sn ns) now ask (by_catalog (put_none told))
-visited-all failed so sn ps ns fs now ask told first are same to once =
+    (failed → Rose f g) → ((k : ℕ) (o n : Part) (at : ℕ) (d : Done) → slice_get ps k ≡ Some o → slice_get ns k ≡ Some n → told ≡ reply.Ok at d → TakesTurns o n) → ((at : ℕ) (d : Done) → told ≡ reply.Ok at d → goes_to_part ask.request ≡ false) → AskedOnce failed (lists (held_of sn.seen) (map held_of fs)) (lists (held_of sn.seen) (helds ns)) now ask told → Visited (seats so ps) (seats sn ns) now ask (by_catalog (put_none told))
+visited-all failed so sn ps ns fs now ask told first are same to turned other once =
     let f : Tellings = record { records = as_seen sn; parts = fs } in
     let g : Tellings = record { records = sn.seen; parts = seen_by ns } in
     record {
@@ -249,20 +275,20 @@ visited-all failed so sn ps ns fs now ask told first are same to once =
       parts = are;
       once = asked_mean failed (Rose f g) (lists_told f) (lists_told g) now ask told to once;
       owns = record { records = absent (held_of sn.seen); parts = λ k x y one other. left-same fs (seen_by ns) k x y same one other };
-      named = tt;
+      named = record { place = λ k is. absurd cc; turned = λ k o n at d reads was now_is accepted. turned k o n at d was now_is accepted; elsewhere = λ at d is accepted. other at d accepted };
     }
 
 -- memory was wanting behind some shards
 pub wants_report : (so sn : Seen) (ps ns : List Part) (fs : List (Tale Record)) (i now : ℕ) (ask : Ask) (user : User) (quiz : ℕ) → Reports so sn ps ask now user quiz → PartsRead i ps ns fs → Visited (seats so ps) (seats sn ns) now ask (refusing refusal.Memory)
 wants_report so sn ps ns fs i now ask user quiz w read =
-    visited-all ⊥ so sn ps ns fs now ask (reply.Refused refusal.Memory) (found_settled so sn w.found w.mended.mends) read.are read.same (λ no. absurd no)
+    visited-all ⊥ so sn ps ns fs now ask (reply.Refused refusal.Memory) (found_settled so sn w.found w.mended.mends) read.are read.same (λ no. absurd no) (λ k o n at d was now_is is. absurd cc) (λ at d is. absurd cc)
     ((reports_law ⊥).wanting (lists (held_of sn.seen) (map held_of fs)) (held_of sn.seen) (helds ns) i now ask user quiz (reporting so sn ps ns fs ask now user quiz w read.are) read.mended)
 
 -- a shard didn't tell its rows
 pub stopped_report : (so sn : Seen) (ps ns : List Part) (now : ℕ) (ask : Ask) (user : User) (quiz : ℕ) (policy : Policy) (r : Refusal) → Reports so sn ps ask now user quiz → RowsStop quiz policy ps ns r → Visited (seats so ps) (seats sn ns) now ask (refusing r)
 stopped_report so sn ps ns now ask user quiz policy r w (short i fs read memory) = rw memory (wants_report so sn ps ns fs i now ask user quiz w read)
 stopped_report so sn ps ns now ask user quiz policy r w (untold i mid fs po pn read at is call same) =
-    let failed = HasRisen pn.found.faults pn.seen.faults in
+    let failed = Fails pn.found pn.seen in
     let says = TellsRows quiz policy in
     let found = slice_set fs i (as_seen pn) in
     let ends = look_ends failed (λ r. Err r) says (held_of pn.found) (held_of pn.seen) (Err r) call in
@@ -275,7 +301,7 @@ stopped_report so sn ps ns now ask user quiz policy r w (untold i mid fs po pn r
     let old = tale-there fs i ps mid po read.are at in
     subst (λ (l : List Part). Visited (seats so ps) (seats sn l) now ask (refusing r)) (sym same)
     (visited-all failed so sn ps (slice_set mid i pn) found now ask (reply.Refused r) (found_settled so sn w.found w.mended.mends) are (same-set i mid fs pn read.same)
-    (λ why. of_shard i (as_seen pn) pn.seen (set_get fs i old.0 (as_seen pn) old.1) (rw (seen_set mid i pn) (set_get (seen_by mid) i po.seen pn.seen (seen_there mid i po at))) why) left)
+    (λ why. of_shard i (as_seen pn) pn.seen (set_get fs i old.0 (as_seen pn) old.1) (rw (seen_set mid i pn) (set_get (seen_by mid) i po.seen pn.seen (seen_there mid i po at))) why) (λ k o n here d was now_is is. absurd cc) (λ here d is. absurd cc) left)
   where
     tale-there : (fs : List (Tale Record)) (k : ℕ) (os ns : List Part) (n : Part) → AreFoundBy os ns fs → slice_get ns k ≡ Some n → (t : Tale Record) × (slice_get fs k ≡ Some t)
     tale-there _ k _ _ n none at = absurd cc
@@ -303,7 +329,7 @@ told_report so sn ps ns now ask user quiz heading all rows w h are rows_are =
     let fs = are.found in
     let long : length (map held_of fs) ≡ length ps = length-map fs held_of ∙ count_told ps ns fs are.read.are in
     let answer = report_done sn.seen.list (lists_of (helds ns)) quiz heading.policy heading.place rows heading.names all (rows_in_order all) (each-legal quiz heading.policy ps ns all are) h.policy.policy_is h.place h.names are.rows_are refl rows_are in
-    visited-all ⊥ so sn ps ns fs now ask told (found_settled so sn w.found w.mended.mends) are.read.are are.read.same (λ no. absurd no)
+    visited-all ⊥ so sn ps ns fs now ask told (found_settled so sn w.found w.mended.mends) are.read.are are.read.same (λ no. absurd no) (λ k o n at d was now_is is. are.read.turned k o n (slice_get_within ps k o was) was now_is) (λ at d is. rw w.request_is refl)
     ((reports_law ⊥).told (lists (held_of sn.seen) (map held_of fs)) (held_of sn.seen) (helds ns) now ask user quiz told (reporting so sn ps ns fs ask now user quiz w are.read.are)
     (subst (λ (n : ℕ). MendedUpTo n (map held_of fs) (helds ns)) (sym long) are.read.mended) answer)
 
@@ -317,7 +343,7 @@ missing-among c n user ask quiz r is may missing =
 pub headless_report : (so sn : Seen) (ps : List Part) (now : ℕ) (ask : Ask) (user : User) (quiz : ℕ) (r : Refusal) → 0 < length ps → MayBeAsked ask now → IsKnownTo so ask user → ask.request ≡ request.Report quiz → forbidden user ask.request ≡ None
     → TurnCalls IsLegalCatalog (λ r. Err r) (Looks (TellsHeading quiz)) so sn (Err r) → Visited (seats so ps) (seats sn ps) now ask (refusing r)
 headless_report so sn ps now ask user quiz r some may known is allowed t =
-    let failed = HasRisen sn.found.faults sn.seen.faults in
+    let failed = Fails sn.found sn.seen in
     let first = took_turned IsLegalCatalog (λ r. Err r) (Looks (TellsHeading quiz)) so sn (Err r) t in
     let ends = look_ends failed (λ r. Err r) (TellsHeading quiz) (held_of sn.found) (held_of sn.seen) (Err r) t.calls.call in
     asking.unlooked_visited so sn ps now ask user r some may known (rw is refl) first (elim (untold_split failed (TellsHeading quiz) (held_of sn.found) (held_of sn.seen) r ends) [

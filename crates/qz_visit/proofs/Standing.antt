@@ -6,12 +6,11 @@ use Rattle.std.proofs.lemmas.Option.{slice_get_read}
 use Rattle.qz_grading.specs.declared.refusal.AttemptId.{AttemptId}
 use Rattle.qz_catalog.specs.Keeping.{TellsJob}
 use Rattle.qz_catalog_turns.specs.declared.replied.Replied.{Replied}
-use Rattle.qz_catalog_turns.specs.Turning.{AddsTurn, Looked, TurnCalls, held_of}
+use Rattle.qz_catalog_turns.specs.Turning.{Fails, Looked, TurnCalls, held_of}
 use Rattle.qz_grading.specs.declared.refusal.Refusal.{Refusal}
 use Rattle.qz_grading.specs.declared.refusal.Refusal.TheVariants as refusal
 use Rattle.qz_grading.specs.declared.refusal.Thing.TheVariants as thing
 use Rattle.qz_keeper.specs.Lists.{Looks}
-use Rattle.qz_outside.specs.Causes.{HasRisen}
 use Rattle.qz_serial.proofs.Composing.{look_ends}
 use Rattle.qz_shard_turns.specs.Tying.{HasLooked, Placed, SeesMore}
 use Rattle.qz_school.specs.Answering.{MayBeAsked}
@@ -31,7 +30,7 @@ use Rattle.qz_terms.specs.SchoolAnswer.{part_of}
 use Rattle.qz_turn.specs.declared.view.Tale.{Tale}
 use Rattle.qz_turn.specs.declared.view.Turn.{Turn}
 use Rattle.qz_turn.specs.Passes.{Lock, Standing}
-use Rattle.qz_turn.specs.Turns.{Locked, UnderKey, last_turn}
+use Rattle.qz_turn.specs.Turns.{AddsTurn, Locked, UnderKey, last_turn}
 use Rattle.qz_visit.specs.Reports.{AreAt}
 use Rattle.qz_visit.specs.Tokens.{IsBeyond, IsKnownTo, going, step}
 use Rattle.qz_visit.specs.declared.last.Said.{Said}
@@ -134,7 +133,7 @@ going_visited s ps now ask user some may known free (step job shard work past) o
 pub step_untold : (so sn : Seen) (ps : List Part) (now : ℕ) (ask : Ask) (user : User) (number shard : ℕ) (r : Refusal) → 0 < length ps → MayBeAsked ask now → IsKnownTo so ask user → forbidden user ask.request ≡ None → ask.request ≡ request.Work number shard
     → TurnCalls IsLegalCatalog (λ r. Err r) (Looks (TellsJob number)) so sn (Err r) → Visited (seats so ps) (seats sn ps) now ask (refusing r)
 step_untold so sn ps now ask user number shard r some may known allowed is t =
-    let failed = HasRisen sn.found.faults sn.seen.faults in
+    let failed = Fails sn.found sn.seen in
     let free : forbidden user (request.Work number shard) ≡ None = rw is at allowed in
     let ends = look_ends failed (λ r. Err r) (TellsJob number) (held_of sn.found) (held_of sn.seen) (Err r) t.calls.call in
     unlooked_visited so sn ps now ask user r some may known (rw is refl) (took_turned IsLegalCatalog (λ r. Err r) (Looks (TellsJob number)) so sn (Err r) t)
@@ -148,7 +147,7 @@ step_untold so sn ps now ask user number shard r some may known allowed is t =
 pub step_visited : (so sn : Seen) (ps : List Part) (now : ℕ) (ask : Ask) (user : User) (number shard : ℕ) (job : Job) → 0 < length ps → MayBeAsked ask now → IsKnownTo so ask user → forbidden user ask.request ≡ None → ask.request ≡ request.Work number shard → length ps ≤ shard
     → TurnCalls IsLegalCatalog (λ r. Err r) (Looks (TellsJob number)) so sn (Ok job) → Visited (seats so ps) (seats sn ps) now ask (refusing (refusal.Unknown thing.Shard))
 step_visited so sn ps now ask user number shard job some may known allowed is past t =
-    let told = look_told (HasRisen sn.found.faults sn.seen.faults) (TellsJob number) (held_of sn.found) (held_of sn.seen) job t.calls.call in
+    let told = look_told (Fails sn.found sn.seen) (TellsJob number) (held_of sn.found) (held_of sn.seen) job t.calls.call in
     unlooked_visited so sn ps now ask user (refusal.Unknown thing.Shard) some may known (rw is refl) (took_turned IsLegalCatalog (λ r. Err r) (Looks (TellsJob number)) so sn (Ok job) t)
     (inl (told.0, work_nowhere sn.seen.list (length ps) ask user number shard job is allowed told.1.job_is past))
 

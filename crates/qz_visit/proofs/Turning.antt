@@ -3,11 +3,10 @@ use Rattle.std.proofs.Common.{◌≡◌, ℕ, Bool, List, Option, None, Some, Re
 use Rattle.qz_catalog.specs.Keeping.{TellsJob, TellsPlan}
 use Rattle.qz_catalog_turns.specs.declared.replied.Replied.{Replied}
 use Rattle.qz_catalog_turns.specs.Owning.{TurnReplies}
-use Rattle.qz_catalog_turns.specs.Turning.{TurnCalls, held_of}
+use Rattle.qz_catalog_turns.specs.Turning.{Fails, TurnCalls, held_of}
 use Rattle.qz_grading.specs.declared.refusal.AttemptId.{AttemptId}
 use Rattle.qz_grading.specs.declared.refusal.Refusal.{Refusal}
 use Rattle.qz_keeper.specs.Lists.{Looks}
-use Rattle.qz_outside.specs.Causes.{HasRisen}
 use Rattle.qz_serial.specs.Calls.{ShardAnswers}
 use Rattle.qz_serial.proofs.Composing.{look_ends, looks_are_calls}
 use Rattle.qz_serial.proofs.Workers.{err-is}
@@ -40,13 +39,13 @@ pub planned_none : (so s sn : Seen) (po p : Part) (now : ℕ) (ask : Ask) (user 
     → TurnCalls IsLegalCatalog (λ r. Err r) (Looks (TellsPlan quiz owner whole)) s sn (Err r) → Planned so sn po p now ask user quiz owner whole (refused_with r)
 planned_none so s sn po p now ask user quiz owner whole r sees looks clear t =
     way.planless r (took_after so s sn sees (took_turned IsLegalCatalog (λ r. Err r) (Looks (TellsPlan quiz owner whole)) s sn (Err r) t))
-    (look_ends (HasRisen sn.found.faults sn.seen.faults) (λ r. Err r) (TellsPlan quiz owner whole) (held_of sn.found) (held_of sn.seen) (Err r) t.calls.call) (found_rested po p looks) clear refl
+    (look_ends (Fails sn.found sn.seen) (λ r. Err r) (TellsPlan quiz owner whole) (held_of sn.found) (held_of sn.seen) (Err r) t.calls.call) (found_rested po p looks) clear refl
 
 -- it gave one, and the shard answers under it
 pub planned_told : (P : List Record → Type 0) (so s m sn : Seen) (po p pn : Part) (now : ℕ) (ask : Ask) (user : User) (quiz owner : ℕ) (whole : Bool) (plan : Plan) (told : Replied) → HasLooked so s → HasLooked po p
     → TurnCalls IsLegalCatalog (λ r. Err r) (Looks (TellsPlan quiz owner whole)) s m (Ok plan) → sn ≡ m → TurnReplies P reply.Refused (ShardAnswers m.seen.list now user ask) p pn told.reply told.own → Planned so sn po pn now ask user quiz owner whole told
 planned_told P so s m sn po p pn now ask user quiz owner whole plan told sees looks t same a =
-    let gave = look_told (HasRisen m.found.faults m.seen.faults) (TellsPlan quiz owner whole) (held_of m.found) (held_of m.seen) plan t.calls.call in
+    let gave = look_told (Fails m.found m.seen) (TellsPlan quiz owner whole) (held_of m.found) (held_of m.seen) plan t.calls.call in
     subst (λ (x : Seen). Planned so x po pn now ask user quiz owner whole told) (sym same)
     (way.under plan (took_after so s m sees (took_turned IsLegalCatalog (λ r. Err r) (Looks (TellsPlan quiz owner whole)) s m (Ok plan) t)) gave.0 gave.1
     (took_after po p pn looks (took_turned P reply.Refused (ShardAnswers m.seen.list now user ask) p pn told.reply a.turn)) (record { call = a.turn.calls.call; leaves = a.leaves }))
@@ -54,7 +53,7 @@ planned_told P so s m sn po p pn now ask user quiz owner whole plan told sees lo
 pub planned_pose : (so s m : Seen) (po p : Part) (index count : ℕ) (now : ℕ) (ask : Ask) (user : User) (quiz owner : ℕ) (whole : Bool) (plan : Plan) → HasLooked so s → HasLooked po p → MayPlan so.seen.list po.seen.list index count user quiz owner whole ask now
     → TurnCalls IsLegalCatalog (λ r. Err r) (Looks (TellsPlan quiz owner whole)) s m (Ok plan) → CanPose m.seen.list p.seen.list index count user plan ask now
 planned_pose so s m po p index count now ask user quiz owner whole plan sees looks may t =
-    let gave = look_told (HasRisen m.found.faults m.seen.faults) (TellsPlan quiz owner whole) (held_of m.found) (held_of m.seen) plan t.calls.call in
+    let gave = look_told (Fails m.found m.seen) (TellsPlan quiz owner whole) (held_of m.found) (held_of m.seen) plan t.calls.call in
     let later = sees_on so s m sees.sees (turn_sees IsLegalCatalog (λ r. Err r) (Looks (TellsPlan quiz owner whole)) s m (Ok plan) t) in
     can_pose so.seen.list m.seen.list po.seen.list p.seen.list index count user quiz owner whole ask now plan may later.begins.begins t.calls.seen_may.without looks.sees.begins.begins gave.1
 
@@ -63,12 +62,12 @@ planned_pose so s m po p index count now ask user quiz owner whole plan sees loo
 pub stepped_none : (so sn : Seen) (po : Part) (now : ℕ) (ask : Ask) (user : User) (number : ℕ) (r : Refusal) → TurnCalls IsLegalCatalog (λ r. Err r) (Looks (TellsJob number)) so sn (Err r) → Stepped so sn po po now ask user number (refused_with r)
 stepped_none so sn po now ask user number r t =
     way.jobless r (took_turned IsLegalCatalog (λ r. Err r) (Looks (TellsJob number)) so sn (Err r) t)
-    (look_ends (HasRisen sn.found.faults sn.seen.faults) (λ r. Err r) (TellsJob number) (held_of sn.found) (held_of sn.seen) (Err r) t.calls.call) t.calls.seen_may.without refl refl
+    (look_ends (Fails sn.found sn.seen) (λ r. Err r) (TellsJob number) (held_of sn.found) (held_of sn.seen) (Err r) t.calls.call) t.calls.seen_may.without refl refl
 
 pub stepped_told : (P : List Record → Type 0) (so m sn : Seen) (po pn : Part) (now : ℕ) (ask : Ask) (user : User) (number : ℕ) (job : Job) (told : Replied) → TurnCalls IsLegalCatalog (λ r. Err r) (Looks (TellsJob number)) so m (Ok job) → sn ≡ m
     → TurnReplies P reply.Refused (λ h t g. IsWorked h now user.number job t g) po pn told.reply told.own → Stepped so sn po pn now ask user number told
 stepped_told P so m sn po pn now ask user number job told t same w =
-    let gave = look_told (HasRisen m.found.faults m.seen.faults) (TellsJob number) (held_of m.found) (held_of m.seen) job t.calls.call in
+    let gave = look_told (Fails m.found m.seen) (TellsJob number) (held_of m.found) (held_of m.seen) job t.calls.call in
     subst (λ (x : Seen). Stepped so x po pn now ask user number told) (sym same)
     (way.taken job (took_turned IsLegalCatalog (λ r. Err r) (Looks (TellsJob number)) so m (Ok job) t) gave.0 gave.1 (took_turned P reply.Refused (λ h t g. IsWorked h now user.number job t g) po pn told.reply w.turn) w.turn.calls.call w.leaves)
 
@@ -78,7 +77,7 @@ stepped_told P so m sn po pn now ask user number job told t same w =
 turn-as : {A B K : Type 0} (P : List Record → Type 0) (refused : Refusal → A) (also : Refusal → B) (Says : List Record → A → Type 0) (Others : List Record → B → Type 0) (old new : Standing Record K) (told : A) (said : B) → TurnCalls P refused (Looks Says) old new told
     → (Says new.seen.list told → Others new.seen.list said) → ((r : Refusal) → told ≡ refused r → said ≡ also r) → TurnCalls P also (Looks Others) old new said
 turn-as P refused also Says Others old new told said t means same =
-    let failed = HasRisen new.found.faults new.seen.faults in
+    let failed = Fails new.found new.seen in
     record {
       begins = t.begins;
       grows = t.grows;
@@ -132,11 +131,11 @@ tried_none P so sn po pn now ask user attempt r same t = way.unfound r same (too
 pub tried_told : (P : List Record → Type 0) (so sm sn : Seen) (po pm pn : Part) (now : ℕ) (ask : Ask) (user : User) (attempt : AttemptId) (q : ℕ) (result : Result Replied Refusal) → HasLooked so sm → TurnCalls P (λ r. Err r) (Looks (TellsQuiz attempt)) po pm (Ok q) → AllAgree sm.seen.list pm.seen.list
     → MatchResult result (Planned sm sn pm pn now ask user q attempt.user false) (λ r. Planned sm sn pm pn now ask user q attempt.user false (refused_with r)) → MatchResult result (Tried so sn po pn now ask user attempt) (λ r. Tried so sn po pn now ask user attempt (refused_with r))
 tried_told P so sm sn po pm pn now ask user attempt q (Ok told) sees t agree planned =
-    let gave = look_told (HasRisen pm.found.faults pm.seen.faults) (TellsQuiz attempt) (held_of pm.found) (held_of pm.seen) q t.calls.call in
+    let gave = look_told (Fails pm.found pm.seen) (TellsQuiz attempt) (held_of pm.found) (held_of pm.seen) q t.calls.call in
     way.of_quiz q sm pm sees (turn_looked P (λ r. Err r) (TellsQuiz attempt) po pm (Ok q) t) gave.1 gave.0.no_doubt agree planned
 tried_told P so sm sn po pm pn now ask user attempt q (Err r) sees t agree planned =
-    let gave = look_told (HasRisen pm.found.faults pm.seen.faults) (TellsQuiz attempt) (held_of pm.found) (held_of pm.seen) q t.calls.call in
+    let gave = look_told (Fails pm.found pm.seen) (TellsQuiz attempt) (held_of pm.found) (held_of pm.seen) q t.calls.call in
     way.of_quiz q sm pm sees (turn_looked P (λ r. Err r) (TellsQuiz attempt) po pm (Ok q) t) gave.1 gave.0.no_doubt agree planned
 
 pub quiz_told : (P : List Record → Type 0) (po pm : Part) (attempt : AttemptId) (q : ℕ) → TurnCalls P (λ r. Err r) (Looks (TellsQuiz attempt)) po pm (Ok q) → history.quiz pm.seen.list attempt ≡ Some q
-quiz_told P po pm attempt q t = (look_told (HasRisen pm.found.faults pm.seen.faults) (TellsQuiz attempt) (held_of pm.found) (held_of pm.seen) q t.calls.call).1
+quiz_told P po pm attempt q t = (look_told (Fails pm.found pm.seen) (TellsQuiz attempt) (held_of pm.found) (held_of pm.seen) q t.calls.call).1

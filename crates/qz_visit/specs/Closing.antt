@@ -9,9 +9,9 @@ use Rattle.qz_terms.specs.declared.record.Record.{Record}
 use Rattle.qz_terms.specs.Catalog.{shards}
 use Rattle.qz_terms.specs.Legal.{AllAgree}
 use Rattle.qz_turn.specs.declared.view.Tale.{Tale}
-use Rattle.qz_turn.specs.Passes.{Lock}
+use Rattle.qz_turn.specs.Passes.{Lock, Standing}
 use Rattle.qz_turn.specs.Rule.{HasEvery}
-use Rattle.qz_turn.specs.Tales.{Follows}
+use Rattle.qz_turn.specs.Tales.{Follows, put_in}
 use Rattle.qz_turn.specs.Turns.{Joins, Locked}
 use Rattle.qz_visit.specs.Visits.{IsPlaced, Locks, Seats, Tellings}
 use Rattle.qz_visit.specs.Ways.{Part, Seen}
@@ -83,3 +83,18 @@ pub record ClosesBefore {K : Type 0} (faults : K → ℕ) (c : List Record) (tol
 pub record Closes {K : Type 0} (faults : K → ℕ) (told : Tellings) (a : School K) : Type 0 where
   pub records : Follows told.records (tale_of a.catalog.held (faults a.catalog.keeper))
   pub parts : AreClosed faults a.catalog.held.list (length a.parts) 0 told.parts a.parts
+
+-- ---- by how much the lists have grown
+
+-- The list behind a lock has as many records as when the lock was made, and as the turns of this pass put.
+abbrev pub HasGrown : {K : Type 0} → Locked K → Standing Record K → List Record → Type 0
+HasGrown l p h = length h ≡ l.start + put_in p.turns
+
+-- each of these shards, behind the lock at its place, by the turns of the pass there
+pub record HaveGrown {K : Type 0} (locks : List (Locked Placed)) (passes : List Part) (shards : List (part.Keeping K)) : Type 0 where
+  pub each : (k : ℕ) (l : Locked Placed) (p : Part) (s : part.Keeping K) → slice_get locks k ≡ Some l → slice_get passes k ≡ Some p → slice_get shards k ≡ Some s → HasGrown l p s.held.list
+
+-- the catalogue and each shard
+pub record HasGrownBy {K : Type 0} (s : Locks) (p : Seats) (a : School K) : Type 0 where
+  pub records : HasGrown s.records p.records a.catalog.held.list
+  pub parts : HaveGrown s.parts p.parts a.parts

@@ -31,6 +31,7 @@ half_told faults seen passes others = record { records = seen.seen; parts = seen
 pub record IsOpened {K : Type 0} (faults : K → ℕ) (records : Lock (Unit {0})) (seats count k : ℕ) (s : part.Keeping K) (l : Locked Placed) (p : Part) : Type 0 where
   pub placed : IsPlaced records count k l.lock
   pub seats_are : l.seats ≡ seats
+  pub start_is : l.start ≡ length s.held.list
   pub first : p ≡ first_pass l.lock (tale_of s.held (faults s.keeper)) seats
 
 -- each of these locks has so many seats, and its pass has every number
@@ -38,11 +39,16 @@ pub record AreDealt (seats : ℕ) (locks : List (Locked Placed)) (passes : List 
   pub seats_are : (k : ℕ) (l : Locked Placed) → slice_get locks k ≡ Some l → l.seats ≡ seats
   pub numbers : (k : ℕ) (p : Part) → slice_get passes k ≡ Some p → p.numbers ≡ below seats
 
+-- each of these locks was made over a list as long as that of the shard at its place
+pub record StartAt {K : Type 0} (locks : List (Locked Placed)) (parts : List (part.Keeping K)) : Type 0 where
+  pub each : (k : ℕ) (l : Locked Placed) (s : part.Keeping K) → slice_get locks k ≡ Some l → slice_get parts k ≡ Some s → l.start ≡ length s.held.list
+
 -- The first shards of a school, of so many, are behind these locks, and these are their first passes, which have seen what the shards tell.
 pub record AreOpened {K : Type 0} (faults : K → ℕ) (records : Lock (Unit {0})) (seats count : ℕ) (parts : List (part.Keeping K)) (locks : List (Locked Placed)) (passes : List Part) : Type 0 where
   pub placed : ArePlaced records count locks
   pub own : AreLocked locks passes
   pub dealt : AreDealt seats locks passes
+  pub starts : StartAt locks parts
   pub seen : seen_by passes ≡ tales faults parts
 
 -- The first of these shards are behind locks. The others are left, the last one first.
@@ -51,9 +57,11 @@ pub record HalfOpens {K : Type 0} (faults : K → ℕ) (records : Lock (Unit {0}
   pub all_is : all ≡ done ++ reverse left
   pub opened : AreOpened faults records seats (length all) done locks passes
 
--- A school is behind locks with so many seats each, and these are its first passes: they have every number, and have seen all of it.
+-- A school is behind locks with so many seats each, which were made over its lists, and these are its first passes: they have every number,
+-- and have seen all of it.
 pub record Opens {K : Type 0} (faults : K → ℕ) (seats : ℕ) (a : School K) (s : Locks) (p : Seats) : Type 0 where
   pub seats_are : s.records.seats ≡ seats
+  pub start_is : s.records.start ≡ length a.catalog.held.list
   pub records : p.records ≡ first_pass s.records.lock (tale_of a.catalog.held (faults a.catalog.keeper)) seats
   pub parts : AreOpened faults s.records.lock seats (length a.parts) a.parts s.parts p.parts
 

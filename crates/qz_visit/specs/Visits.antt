@@ -1,22 +1,24 @@
 -- A school behind locks as one who asks it sees it: a pass of each lock, what a request found of each list, and what it came to.
 use Rattle.std.specs.List.{All}
-use Rattle.std.specs.Prelude.{◌≡◌, ◌≢◌, ◌⊎◌, ℕ, ◌+◌, ◌-◌, ◌<◌, ◌≤◌, Bool, true, false, List, [], ◌∷◌, ◌++◌, length, map, slice_get, sum_by, Option, None, Some, IfSome, Result, MatchResult}
+use Rattle.std.specs.Prelude.{◌≡◌, ◌≢◌, ◌⊎◌, ℕ, ◌+◌, ◌-◌, ◌<◌, ◌≤◌, Bool, true, false, List, [], ◌∷◌, ◌++◌, length, map, slice_get, sum_by, Option, None, Some, Result, MatchResult}
 use Rattle.qz_terms.specs.declared.limits.TheConstants.{MOST_SHARDS}
 use Rattle.qz_catalog_turns.specs.declared.replied.OwnRecord.{OwnRecord}
 use Rattle.qz_catalog_turns.specs.declared.replied.OwnRecord.TheVariants as own
 use Rattle.qz_catalog_turns.specs.declared.replied.Replied.{Replied}
 use Rattle.qz_catalog_turns.specs.Owning.{Leaves}
-use Rattle.qz_catalog_turns.specs.Turning.{held_of, IsLook, Looked}
+use Rattle.qz_catalog_turns.specs.Turning.{Fails, IsLook, Looked, held_of}
 use Rattle.qz_grading.specs.declared.refusal.Refusal.{Refusal}
-use Rattle.qz_outside.specs.Causes.{HasRisen}
 use Rattle.qz_serial.specs.Once.{AskedOnce}
+use Rattle.qz_serial.specs.Paths.{goes_to_part}
 use Rattle.qz_shard_turns.specs.Tying.{Placed}
 use Rattle.qz_terms.specs.declared.ask.Ask.{Ask}
 use Rattle.qz_terms.specs.declared.people.Caller.TheVariants as caller
 use Rattle.qz_terms.specs.declared.record.Record.{Record}
+use Rattle.qz_terms.specs.declared.reply.Done.{Done}
 use Rattle.qz_terms.specs.declared.reply.Reply.{Reply}
 use Rattle.qz_terms.specs.declared.reply.Reply.TheVariants as reply
-use Rattle.qz_terms.specs.Serial.{Lists, Mended, is_catalog, is_part}
+use Rattle.qz_terms.specs.SchoolAnswer.{asked_part}
+use Rattle.qz_terms.specs.Serial.{Lists, Mended, is_catalog, is_part, is_report}
 use Rattle.qz_turn.specs.declared.view.Tale.{Tale}
 use Rattle.qz_turn.specs.declared.view.Turn.{Turn}
 use Rattle.qz_turn.specs.Passes.{Lock, Standing}
@@ -112,10 +114,10 @@ pub data AreFoundBy : List (Standing Record Placed) → List (Standing Record Pl
   none : AreFoundBy [] [] []
   more : (old new : Standing Record Placed) (found : Tale Record) (os ns : List (Standing Record Placed)) (fs : List (Tale Record)) → IsFoundBy old new found → AreFoundBy os ns fs → AreFoundBy (old ∷ os) (new ∷ ns) (found ∷ fs)
 
--- A keeper failed: between what was found of its list and what is seen of it its count rose.
+-- a keeper failed, that of the catalogue's list or that of a shard's
 pub data Rose (found seen : Tellings) : Type 0 where
-  of_catalog : HasRisen found.records.faults seen.records.faults → Rose found seen
-  of_shard : (k : ℕ) (f s : Tale Record) → slice_get found.parts k ≡ Some f → slice_get seen.parts k ≡ Some s → HasRisen f.faults s.faults → Rose found seen
+  of_catalog : Fails found.records seen.records → Rose found seen
+  of_shard : (k : ℕ) (f s : Tale Record) → slice_get found.parts k ≡ Some f → slice_get seen.parts k ≡ Some s → Fails f s → Rose found seen
 
 -- the record that a request put, at the list where it went; at no other list it has one
 abbrev pub own_if : Bool → OwnRecord → OwnRecord
@@ -128,15 +130,28 @@ pub record Owns (found seen : Tellings) (part : Option ℕ) (o : OwnRecord) : Ty
   pub records : Leaves (held_of found.records) (held_of seen.records) (own_if (is_catalog part) o)
   pub parts : (k : ℕ) (f s : Tale Record) → slice_get found.parts k ≡ Some f → slice_get seen.parts k ≡ Some s → Leaves (held_of f) (held_of s) (own_if (is_part k part) o)
 
+-- the pass took a turn, or more
+pub record TakesTurns {K : Type 0} (old new : Standing Record K) : Type 0 where
+  pub first : Turn Record
+  pub others : List (Turn Record)
+  pub added : new.turns ≡ old.turns ++ first ∷ others
+
+-- Where a shard is told, the request goes there, and it is one of those that there are. What is accepted there was answered in a turn of this
+-- request, and a report in a turn at each shard. Where none is told, what was accepted goes to no shard alone.
+pub record IsNamed (c : List Record) (old new : List (Standing Record Placed)) (ask : Ask) (list : Option ℕ) (told : Reply) : Type 0 where
+  pub place : (k : ℕ) → list ≡ Some k → (goes_to_part ask.request ≡ true) × (asked_part c (length old) ask ≡ Some k) × (k < length old)
+  pub turned : (k : ℕ) (o n : Standing Record Placed) (at : ℕ) (d : Done) → (list ≡ Some k) ⊎ (is_report ask.request ≡ true) → slice_get old k ≡ Some o → slice_get new k ≡ Some n → told ≡ reply.Ok at d → TakesTurns o n
+  pub elsewhere : (at : ℕ) (d : Done) → list ≡ None → told ≡ reply.Ok at d → goes_to_part ask.request ≡ false
+
 -- A request of one who holds these passes. Over the lists that it found it comes to what it may come to, and leaves those that its passes see.
--- A keeper is said to have failed only where the count of a list rose while the request was at it. The shard that is told is there.
+-- A keeper is said to have failed only where the count of a list rose while the request was at it, of which a record is in doubt since.
 pub record Visited (old new : Seats) (now : ℕ) (ask : Ask) (told : Said) : Type 0 where
   pub found : Tellings
   pub records : IsFoundBy old.records new.records found.records
   pub parts : AreFoundBy old.parts new.parts found.parts
   pub once : AskedOnce (Rose found (seen_in new)) (lists_told found) (lists_told (seen_in new)) now ask told.reply
   pub owns : Owns found (seen_in new) told.list told.own
-  pub named : IfSome told.list (λ k. k < length old.parts)
+  pub named : IsNamed found.records.list old.parts new.parts ask told.list told.reply
 
 -- what was said by the shard at this place
 abbrev pub at_part : ℕ → Replied → Said
@@ -177,13 +192,7 @@ own_kept false false = own.Absent
 abbrev pub said_by : Reply → Last → Said
 said_by told last = record { reply = told; list = last.list; own = own_kept last.put last.doubt }
 
--- the pass took a turn, or more
-pub record TakesTurns {K : Type 0} (old new : Standing Record K) : Type 0 where
-  pub first : Turn Record
-  pub others : List (Turn Record)
-  pub added : new.turns ≡ old.turns ++ first ∷ others
-
--- what is asked by a token takes a turn at the catalogue: who asks is looked for there anew
+-- what is asked by a token takes a turn at the catalogue
 abbrev pub AsksInTurn : {K : Type 0} → Standing Record K → Standing Record K → Ask → Type 0
 AsksInTurn old new ask = (token : List ℕ) → ask.caller ≡ caller.Token token → TakesTurns old new
 

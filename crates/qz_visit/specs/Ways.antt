@@ -5,11 +5,10 @@ use Rattle.qz_catalog.specs.Keeping.{IsJob, IsPlan, TellsJob, TellsPlan}
 use Rattle.qz_catalog_turns.specs.declared.replied.OwnRecord.TheVariants as own
 use Rattle.qz_catalog_turns.specs.declared.replied.Replied.{Replied}
 use Rattle.qz_catalog_turns.specs.Owning.{Leaves}
-use Rattle.qz_catalog_turns.specs.Turning.{held_of}
+use Rattle.qz_catalog_turns.specs.Turning.{Fails, held_of}
 use Rattle.qz_grading.specs.declared.refusal.AttemptId.{AttemptId}
 use Rattle.qz_grading.specs.declared.refusal.Refusal.{Refusal}
 use Rattle.qz_keeper.specs.Lists.{IsSettled, Looks, OneCall}
-use Rattle.qz_outside.specs.Causes.{HasRisen}
 use Rattle.qz_serial.specs.Calls.{LookEnds, ShardAnswers}
 use Rattle.qz_shard.specs.Keeping.{TellsQuiz}
 use Rattle.qz_shard.specs.Works.{IsWorked}
@@ -74,7 +73,7 @@ replied_of (Err r) = refused_with r
 
 -- a call that the shard answers, in its pass's last turn, and the record of its own that it leaves
 pub record Answered (c : List Record) (now : ℕ) (ask : Ask) (user : User) (pn : Part) (told : Replied) : Type 0 where
-  pub call : OneCall (HasRisen pn.found.faults pn.seen.faults) reply.Refused (ShardAnswers c now user ask) (held_of pn.found) (held_of pn.seen) told.reply
+  pub call : OneCall (Fails pn.found pn.seen) reply.Refused (ShardAnswers c now user ask) (held_of pn.found) (held_of pn.seen) told.reply
   pub leaves : Leaves call.mended (held_of pn.seen) told.own
 
 -- the catalogue, in its pass's last turn, was mended
@@ -83,7 +82,7 @@ IsMended sn = IsSettled (held_of sn.found) (held_of sn.seen)
 
 -- a look at the catalogue, in its pass's last turn, that didn't tell what was looked for
 abbrev pub Untold : {A : Type 0} → (List Record → Result A Refusal → Type 0) → Seen → Refusal → Type 0
-Untold Says sn r = LookEnds (HasRisen sn.found.faults sn.seen.faults) (λ r. Err r) Says (held_of sn.found) (held_of sn.seen) (Err r)
+Untold Says sn r = LookEnds (Fails sn.found sn.seen) (λ r. Err r) Says (held_of sn.found) (held_of sn.seen) (Err r)
 
 -- A request under the plan of a quiz for a user: the catalogue gave the plan and the shard answered, or the catalogue gave none.
 pub data Planned (so sn : Seen) (po pn : Part) (now : ℕ) (ask : Ask) (user : User) (quiz owner : ℕ) (whole : Bool) (told : Replied) : Type 0 where
@@ -93,7 +92,7 @@ pub data Planned (so sn : Seen) (po pn : Part) (now : ℕ) (ask : Ask) (user : U
 -- A request that names an attempt: the shard didn't tell its quiz, and nothing else was asked; or it did, in a list that agrees with what the catalogue's pass
 -- has seen then, and the request was asked under the plan of that quiz.
 pub data Tried (so sn : Seen) (po pn : Part) (now : ℕ) (ask : Ask) (user : User) (attempt : AttemptId) (told : Replied) : Type 0 where
-  unfound : (r : Refusal) → sn ≡ so → TookTurn po pn → OneCall (HasRisen pn.found.faults pn.seen.faults) (λ r. Err r) (Looks (TellsQuiz attempt)) (held_of pn.found) (held_of pn.seen) (Err r) → told ≡ refused_with r
+  unfound : (r : Refusal) → sn ≡ so → TookTurn po pn → OneCall (Fails pn.found pn.seen) (λ r. Err r) (Looks (TellsQuiz attempt)) (held_of pn.found) (held_of pn.seen) (Err r) → told ≡ refused_with r
       → Tried so sn po pn now ask user attempt told
   of_quiz : (q : ℕ) (sm : Seen) (pm : Part) → HasLooked so sm → HasLooked po pm → history.quiz pm.seen.list attempt ≡ Some q → pm.seen.doubt ≡ None → AllAgree sm.seen.list pm.seen.list
       → Planned sm sn pm pn now ask user q attempt.user false told → Tried so sn po pn now ask user attempt told
@@ -101,7 +100,7 @@ pub data Tried (so sn : Seen) (po pn : Part) (now : ℕ) (ask : Ask) (user : Use
 -- A step of a job: the catalogue gave the job and the shard took the step, or the catalogue gave none.
 pub data Stepped (so sn : Seen) (po pn : Part) (now : ℕ) (ask : Ask) (user : User) (number : ℕ) (told : Replied) : Type 0 where
   taken : (job : Job) → TookTurn so sn → IsMended sn → IsJob sn.seen.list number job → TookTurn po pn
-      → (call : OneCall (HasRisen pn.found.faults pn.seen.faults) reply.Refused (λ h t g. IsWorked h now user.number job t g) (held_of pn.found) (held_of pn.seen) told.reply) → Leaves call.mended (held_of pn.seen) told.own → Stepped so sn po pn now ask user number told
+      → (call : OneCall (Fails pn.found pn.seen) reply.Refused (λ h t g. IsWorked h now user.number job t g) (held_of pn.found) (held_of pn.seen) told.reply) → Leaves call.mended (held_of pn.seen) told.own → Stepped so sn po pn now ask user number told
   jobless : (r : Refusal) → TookTurn so sn → Untold (TellsJob number) sn r → IsLegalCatalog sn.seen.list → pn ≡ po → told ≡ refused_with r → Stepped so sn po pn now ask user number told
 
 -- ---- a request of a user with a token

@@ -4,7 +4,7 @@ ghost use Rattle.std.specs.Prelude.{◌≡◌, ◌+◌, ◌<◌, ◌≤◌, Some
 ghost use Rattle.qz_school.specs.Solos.{IsSolo, school_of};
 ghost use Rattle.qz_terms.specs.Catalog as catalog;
 ghost use Rattle.qz_turn.specs.Rule.{HasEvery};
-ghost use Rattle.qz_visit.specs.Closing.{AllJoin, AreClosed, AreLocked, ArePasses, ArePlaced, Closes, ClosesBefore, HasFounding, HaveEach, HaveEvery, JoinsAll, KeepsAll};
+ghost use Rattle.qz_visit.specs.Closing.{AllJoin, AreClosed, AreLocked, ArePasses, ArePlaced, Closes, ClosesBefore, HasFounding, HasGrown, HasGrownBy, HaveEach, HaveEvery, HaveGrown, JoinsAll, KeepsAll};
 ghost use Rattle.qz_visit.specs.Opening.{half_told, tales};
 ghost use Rattle.qz_visit.specs.Visits.{seen_by, seen_in};
 
@@ -33,8 +33,8 @@ fn join_parts<K: Keeper>(
     }
 }
 
-/// Closes the locks of the first shards, and joins what they saw of the catalogue into its pass. The other shards stand with the last one
-/// first. All shards come back in order.
+/// Closes the locks of the first shards, and joins what they saw of the catalogue into its pass, which has its own turns alone. The other shards
+/// stand with the last one first. All shards come back in order, the first ones with what the turns of their passes put.
 fn close_parts<K: Keeper>(
     records: &Turns<Records<K>>,
     seen: &mut Pass<Records<K>>,
@@ -50,14 +50,18 @@ fn close_parts<K: Keeper>(
     requires room { vec_len parts + vec_len shards ≤ vec_capacity shards }
     ensures closed { ClosesBefore K.faults seen.new.seen.list (seen_by passes.items)
         shards.items result.items }
+    ensures grown { HaveGrown parts.items passes.items result.items }
     ensures seen { KeepsAll seen.old seen.new }
+    ensures turns { seen.new.turns ≡ seen.old.turns }
 {
     while let Some(turns) = parts.pop() {
         let Some(pass) = passes.pop() else {
             unreachable!()
         };
-        let (shard, note) = turns.close(pass).into_parts();
-        records.join(seen, note);
+        let (shard, mut note) = turns.close(pass).into_parts();
+        // A note has no turns, whatever is known of the one that it is made from.
+        let bare = records.note(&mut note);
+        records.join(seen, bare);
         shards.push_reserved(shard);
     }
     parts.destroy_empty();
@@ -65,7 +69,8 @@ fn close_parts<K: Keeper>(
     shards
 }
 
-/// The catalogue and the shards in order, of which the first are behind locks. The others stand with the last one first.
+/// The catalogue and the shards in order, of which the first are behind locks. The others stand with the last one first. Nobody put a record
+/// behind a lock but the turns of these passes.
 pub(crate) fn close_all<K: Keeper>(
     records: Turns<Records<K>>,
     mut seen: Pass<Records<K>>,
@@ -87,6 +92,8 @@ pub(crate) fn close_all<K: Keeper>(
     ensures closes { Closes K.faults (half_told K.faults seen passes.items shards.items)
         (school_of result.0 result.1.items) }
     ensures solo { IsSolo result.0 result.1.items }
+    ensures grown { HasGrown records seen result.0.held.list }
+    ensures parts_grown { HaveGrown parts.items passes.items result.1.items }
 {
     let shards = close_parts(&records, &mut seen, parts, passes, shards);
     let catalog = records.close(seen).into_catalog();
@@ -121,6 +128,7 @@ impl<K: Keeper> School<K> {
         requires founded { HasFounding self seats }
         ensures closes { Closes K.faults (seen_in seats) (school_of result.0 result.1.items) }
         ensures solo { IsSolo result.0 result.1.items }
+        ensures grown { HasGrownBy self seats (school_of result.0 result.1.items) }
     {
         let School {
             records,
@@ -134,8 +142,8 @@ impl<K: Keeper> School<K> {
         close_all(records, seen, room, parts, passes)
     }
 
-    /// The catalogue and the shards in order, from the passes that have every number. Each list goes on from what they have seen. It takes
-    /// no memory.
+    /// The catalogue and the shards in order, from the passes that have every number. Each list goes on from what they have seen, and has as
+    /// many records as when the school was opened and as the turns of its pass put: nobody else put any. It takes no memory.
     pub fn close(self, passes: Passes<K>) -> (Catalog<K>, Vec<Shard<K>>)
         requires own { ArePasses self passes.seats }
         requires every { HaveEvery self passes.seats }
@@ -143,6 +151,7 @@ impl<K: Keeper> School<K> {
         ensures closes { Closes K.faults (seen_in passes.seats)
             (school_of result.0 result.1.items) }
         ensures solo { IsSolo result.0 result.1.items }
+        ensures grown { HasGrownBy self passes.seats (school_of result.0 result.1.items) }
     {
         self.close_seats(passes.seats)
     }

@@ -20,7 +20,7 @@ pub struct Last {
     pub catalog: u64,
     /// The same of each shard's list, in order.
     pub parts: Listed<u64>,
-    /// The shard that the request went to, and `None` for the catalogue.
+    /// The shard that the request went to. `None`: the catalogue, a report, or a request that was refused before it went to a shard.
     pub list: Option<u8>,
     /// Whether the request's own record stands next in that list.
     pub put: bool,

@@ -65,9 +65,10 @@ impl<K: Keeper> School<K> {
     /// The reply to a request, at this moment by the clock, in seconds since 1970. It waits for its turns.
     ///
     /// The reply is the answer over the lists that its passes see then, without the record that the request put. A list that the request
-    /// reads is mended first. Of all turns that the request takes at a list only the last puts a record, and what is asked by a token is
-    /// looked for in a turn at the catalogue. `KeepFault` comes only where a keeper failed in a turn of this very request. `Passes::last` tells how long
-    /// those lists are, and what became of that record.
+    /// reads is mended first. Of all turns that the request takes at a list only the last puts a record. What is asked by a token takes a turn
+    /// at the catalogue, and what a shard accepts it accepts in a turn of this call. `KeepFault` comes only where the keeper of a list failed in
+    /// a turn of this very request, and a record of that list is in doubt since. `Passes::last` tells how long those lists are, which shard
+    /// the request went to, and what became of that record.
     pub fn ask<R: Wait>(
         &self,
         rt: &R,

@@ -1,6 +1,7 @@
-use Rattle.std.proofs.Common.{sym, subst}
+use Rattle.std.proofs.Common.{◌+◌, ◌∙◌, ap, sym, subst}
 use Rattle.qz_catalog.specs.Keeping.{Keeping}
 use Rattle.qz_school.specs.Solos.{IsSolo}
+use Rattle.qz_turn.specs.Tales.{put_in}
 use Rattle.qz_visit.proofs.Opened.{closes_again, solo_again}
 use Rattle.qz_visit.proofs.closing.close_all.Goals as goal
 
@@ -23,3 +24,7 @@ returns-clause-closes g c =
     let all = c.close_parts-shards.result.items in
     rw c.into_catalog-catalog.ensures
     (closes_again g.K.Keeper.faults c.args.seen c.close_parts-shards.new.seen cat c.args.passes.items c.args.shards.items all e.closed e.seen c.close.ensures.follows c.requires.left)
+
+pub returns-clause-grown : goal.returns-clause-grown
+returns-clause-grown g c =
+    rw c.into_catalog-catalog.ensures (c.close.ensures.grown ∙ ap (λ (ts : _). c.args.records.start + put_in ts) c.close_parts-shards.ensures.turns)

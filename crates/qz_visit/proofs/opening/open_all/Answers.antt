@@ -90,7 +90,8 @@ returns-in-Ok-opened-clause-opened g c =
     let opened = whole_opened half c.in-Ok-opened.ensures.all in
     let first = c.open_parts-opened.ensures.seen ∙ c.in-Ok.ensures.pass in
     let seen = rw c.new.ensures at first in
-    record { seats_are = c.in-Ok.ensures.lock.1; records = seen; parts = opened }
+    let start = c.in-Ok.ensures.lock.2 ∙ ap (λ (x : records.Keeping _). length x.held.list) c.new.ensures in
+    record { seats_are = c.in-Ok.ensures.lock.1; start_is = start; records = seen; parts = opened }
 
 pub returns-in-Err-opened-clause-refused : goal.returns-in-Err-opened-clause-refused
 returns-in-Err-opened-clause-refused g c =

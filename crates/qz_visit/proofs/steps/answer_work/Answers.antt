@@ -1,7 +1,6 @@
 use Rattle.std.proofs.lemmas.Result.{err_from_is_err_and}
 use Rattle.qz_catalog.specs.Keeping.{TellsJob}
-use Rattle.qz_catalog_turns.specs.Turning.{held_of}
-use Rattle.qz_outside.specs.Causes.{HasRisen}
+use Rattle.qz_catalog_turns.specs.Turning.{Fails, held_of}
 use Rattle.qz_school.proofs.Calls.{look_told}
 use Rattle.qz_terms.specs.Legal.{IsLegal}
 use Rattle.qz_visit.proofs.Asking.{user_on}
@@ -18,7 +17,7 @@ pub work-requires-clause-job : goal.work-requires-clause-job
 work-requires-clause-job g c =
     let m = c.job.new.pass in
     let t = c.in_ok-job.ensures in
-    let gave = look_told (HasRisen m.found.faults m.seen.faults) (TellsJob c.args.number) (held_of m.found) (held_of m.seen) c.in_ok-job.job t.calls.call in
+    let gave = look_told (Fails m.found m.seen) (TellsJob c.args.number) (held_of m.found) (held_of m.seen) c.in_ok-job.job t.calls.call in
     let sees = turn_sees _ _ _ c.args.seen.now m _ t in
     record {
       legal = t.calls.seen_may.without;

@@ -52,3 +52,7 @@ returns-clause-closes g c =
     let all = c.close_all.result in
     let closed = subst (λ (ts : List (Tale Record)). AreClosed g.K.Keeper.faults all.0.held.list (length all.1.items) 0 ts all.1.items) no_tales c.close_all.ensures.closes.parts in
     rw (← c.seats.view_is) (record { records = c.close_all.ensures.closes.records; parts = closed })
+
+pub returns-clause-grown : goal.returns-clause-grown
+returns-clause-grown g c =
+    rw (← c.seats.view_is, ← c.self.view_is) (record { records = c.close_all.ensures.grown; parts = c.close_all.ensures.parts_grown })

@@ -1,8 +1,7 @@
 use Rattle.std.proofs.Common.{length}
 use Rattle.std.proofs.lemmas.Result.{err_from_is_err_and}
 use Rattle.qz_catalog_turns.specs.Headings.{TellsHeading}
-use Rattle.qz_catalog_turns.specs.Turning.{held_of}
-use Rattle.qz_outside.specs.Causes.{HasRisen}
+use Rattle.qz_catalog_turns.specs.Turning.{Fails, held_of}
 use Rattle.qz_school.proofs.Calls.{look_told}
 use Rattle.qz_visit.proofs.Passing.{took_turned}
 use Rattle.qz_visit.proofs.Reporting.{Reports, headless_report, stopped_report, told_report, wants_report}
@@ -31,7 +30,7 @@ returns-in_err-all g c =
     let own = rw (← c.passes.view_is, ← c.self.view_is) at c.requires.own in
     let known = rw (← c.passes.view_is) at c.requires.known in
     let t = c.in_ok-heading.ensures in
-    let told = look_told (HasRisen sn.found.faults sn.seen.faults) (TellsHeading c.args.quiz) (held_of sn.found) (held_of sn.seen) c.in_ok-heading.heading t.calls.call in
+    let told = look_told (Fails sn.found sn.seen) (TellsHeading c.args.quiz) (held_of sn.found) (held_of sn.seen) c.in_ok-heading.heading t.calls.call in
     let w : Reports so sn ps c.args.ask.now c.args.moment c.args._user.now c.args.quiz = record {
       some = some_part _ _ so ps c.self.invariant.0 own;
       may = c.requires.asked;
@@ -53,7 +52,7 @@ returns-in_err-rows g c =
     let own = rw (← c.passes.view_is, ← c.self.view_is) at c.requires.own in
     let known = rw (← c.passes.view_is) at c.requires.known in
     let t = c.in_ok-heading.ensures in
-    let told = look_told (HasRisen sn.found.faults sn.seen.faults) (TellsHeading c.args.quiz) (held_of sn.found) (held_of sn.seen) c.in_ok-heading.heading t.calls.call in
+    let told = look_told (Fails sn.found sn.seen) (TellsHeading c.args.quiz) (held_of sn.found) (held_of sn.seen) c.in_ok-heading.heading t.calls.call in
     let w : Reports so sn ps c.args.ask.now c.args.moment c.args._user.now c.args.quiz = record {
       some = some_part _ _ so ps c.self.invariant.0 own;
       may = c.requires.asked;
@@ -75,7 +74,7 @@ returns g c =
     let own = rw (← c.passes.view_is, ← c.self.view_is) at c.requires.own in
     let known = rw (← c.passes.view_is) at c.requires.known in
     let t = c.in_ok-heading.ensures in
-    let told = look_told (HasRisen sn.found.faults sn.seen.faults) (TellsHeading c.args.quiz) (held_of sn.found) (held_of sn.seen) c.in_ok-heading.heading t.calls.call in
+    let told = look_told (Fails sn.found sn.seen) (TellsHeading c.args.quiz) (held_of sn.found) (held_of sn.seen) c.in_ok-heading.heading t.calls.call in
     let w : Reports so sn ps c.args.ask.now c.args.moment c.args._user.now c.args.quiz = record {
       some = some_part _ _ so ps c.self.invariant.0 own;
       may = c.requires.asked;
