@@ -1,9 +1,9 @@
 -- A pass searches each shard for attempts to settle.
-use Rattle.std.proofs.Common.{◌≡◌, ℕ, ◌+◌, ◌-◌, ◌^◌, ◌<◌, ◌≤◌, Bool, true, false, List, [], ◌∷◌, ◌++◌, Option, Some, None, length, refl, sym, ap, ◌∙◌, subst, eqb, eq-eqb, eqb-true, append-nil, length-append, arith}
+use Rattle.std.proofs.Common.{◌≡◌, ℕ, ◌+◌, ◌-◌, ◌^◌, ◌<◌, ◌≤◌, Bool, true, false, List, [], ◌∷◌, ◌++◌, Option, Some, None, length, refl, sym, ap, ◌∙◌, subst, eq-eqb, eqb-true, append-nil, length-append, arith}
 use Rattle.std.specs.Prelude.{◌==◌, Result, Ok, Err}
 use Rattle.std.proofs.lemmas.Bool.{eqb-false}
 use Rattle.qz_asking.specs.Asking.{Answerer}
-use Rattle.qz_asking.specs.Following.{Follows}
+use Rattle.qz_asking.specs.Following.{Follows, stays}
 use Rattle.qz_asking.proofs.Following.{follows_on}
 use Rattle.qz_grading.specs.declared.refusal.AttemptId.{AttemptId}
 use Rattle.qz_grading.specs.declared.refusal.Refusal.{Refusal}
@@ -21,8 +21,9 @@ use Rattle.qz_terms.specs.Serial.{Lists}
 use Rattle.qz_regrading.specs.declared.ends.LoopEnd.{LoopEnd}
 use Rattle.qz_regrading.specs.declared.ends.LoopEnd.TheVariants as ends
 use Rattle.qz_regrading.specs.declared.met.Met.{Met}
-use Rattle.qz_regrading.specs.Loops.{EndsBy, Regrades}
-use Rattle.qz_regrading.specs.Parts.{IsPass, LooksBehind, MeetsFaults, MeetsIfThere, MeetsQuietly, MeetsSettling, MeetsSweeping, SearchesShard, faults_of, faults_told, told_in}
+use Rattle.qz_regrading.specs.Loops.{EndsBy, MakesPasses, Regrades}
+use Rattle.qz_regrading.specs.Loops as loops
+use Rattle.qz_regrading.specs.Parts.{IsPass, LooksBehind, MeetsFaults, MeetsIfThere, MeetsQuietly, MeetsSettling, MeetsSweeping, SearchesShard, faults_told, told_in}
 use Rattle.qz_regrading.specs.Passes.{Meets, MetEnds, met_with}
 use Rattle.qz_regrading.specs.Workers.{KeepsParts}
 use Rattle.qz_regrading.proofs.Meeting.{meets-quiet, meets-refusal, missing-is}
@@ -256,19 +257,18 @@ module _ {D C : Type 0} (tells : C → ℕ → C → Type 0) (answers : D → D 
   pub pass_counted : (a b : Answerer D C) (count other : ℕ) (m : Met) → other ≡ count → WorksSo tells answers (IsPass count m) a b → WorksSo tells answers (IsPass other m) a b
   pass_counted a b count other m same p = subst (λ (n : ℕ). WorksSo tells answers (IsPass n m) a b) (sym same) p
 
-  -- passes one after the other
-  pub no_pass : (a : Answerer D C) → WorksSo tells answers (λ ws. Unit {0}) a a
-  no_pass a = record { asked = []; works = working.none a; so = tt }
+  -- ---- passes one after the other
 
-  pub one_pass : (a b c : Answerer D C) (count : ℕ) (m : Met) → WorksSo tells answers (λ ws. Unit {0}) a b → WorksSo tells answers (IsPass count m) b c → WorksSo tells answers (λ ws. Unit {0}) a c
-  one_pass a b c count m = so_on tells answers (λ ws. Unit {0}) (IsPass count m) (λ ws. Unit {0}) a b c (λ xs ys p q. tt)
+  passes_follow : (lists : D → Lists) (a b : Answerer D C) → MakesPasses tells answers lists a b → Follows answers a.desk b.desk
+  passes_follow lists a _ (loops.none _) = stays a.desk
+  passes_follow lists a b (loops.more _ m _ ws before one sweeps) = follows_on answers a.desk m.desk b.desk (passes_follow lists a m before) (works_follow tells answers m b ws one)
+
+  -- they lead on by requests alone
+  pub regrades_follow : (lists : D → Lists) (a b : Answerer D C) (end : LoopEnd) → Regrades tells answers lists a b end → Follows answers a.desk b.desk
+  regrades_follow lists a b end r = follows_on answers a.desk r.between.desk b.desk (passes_follow lists a r.between r.before) (works_follow tells answers r.between b r.last r.works)
 
 -- how it ended
 pub ended_by : (m : Met) (end : LoopEnd) (ws : List Worked) → MetEnds m end → counts_to m.faults ≡ counts_to (keep_faults ws) → EndsBy end ws
 ended_by m ends.Done ws is met = (let clean = is.0 in omega (arith, clean, met))
 ended_by m (ends.Left faults) ws is met = (let same = is.0 in let within = is.2 in omega (arith, same, within, met))
 ended_by m ends.Short ws is met = (let clean = is.0 in omega (arith, clean, met))
-
--- passes lead on by requests alone
-pub regrades_follow : {D C : Type 0} (tells : C → ℕ → C → Type 0) (answers : D → D → ℕ → Ask → Reply → Type 0) (lists : D → Lists) (a b : Answerer D C) (end : LoopEnd) → Regrades tells answers lists a b end → Follows answers a.desk b.desk
-regrades_follow tells answers lists a b end r = follows_on answers a.desk r.between.desk b.desk (works_follow tells answers a r.between r.before r.worked) (works_follow tells answers r.between b r.last r.works)

@@ -1,7 +1,6 @@
 -- What requests of a worker come to, one part after the other.
-use Rattle.std.proofs.Common.{◌≡◌, ℕ, ◌+◌, ◌-◌, ◌^◌, ◌<◌, ◌≤◌, min, Bool, true, false, List, [], ◌∷◌, ◌++◌, Option, Some, None, length, refl, sym, ap, ◌∙◌, subst, eqb, eq-eqb, eqb-true, append-nil, append_assoc, length-append, arith}
-use Rattle.std.specs.Prelude.{◌==◌, Result, Ok, Err, filter, filter_map}
-use Rattle.std.proofs.lemmas.Bool.{eqb-false}
+use Rattle.std.proofs.Common.{◌≡◌, ℕ, ◌+◌, true, List, [], ◌∷◌, ◌++◌, Some, length, refl, sym, ap, ◌∙◌, subst, append-nil, append_assoc, length-append, arith}
+use Rattle.std.specs.Prelude.{filter}
 use Rattle.std.proofs.lemmas.List.Elements.{filter-append, filter_map-append}
 use Rattle.qz_asking.specs.Asking.{Answerer, Asks}
 use Rattle.qz_asking.specs.Following.{Follows, asked, stays}
@@ -10,22 +9,16 @@ use Rattle.qz_grading.specs.declared.refusal.Refusal.{Refusal}
 use Rattle.qz_grading.specs.declared.refusal.Refusal.TheVariants as refusal
 use Rattle.qz_grading.specs.declared.refusal.Thing.{Thing}
 use Rattle.qz_terms.specs.declared.ask.Ask.{Ask}
-use Rattle.qz_terms.specs.declared.limits.TheConstants.{MOST_SHARDS}
 use Rattle.qz_terms.specs.declared.reply.Done.{Done}
-use Rattle.qz_terms.specs.declared.reply.Done.TheVariants as done
 use Rattle.qz_terms.specs.declared.reply.Reply.{Reply}
 use Rattle.qz_terms.specs.declared.reply.Reply.TheVariants as reply
 use Rattle.qz_terms.specs.declared.request.Request.{Request}
 use Rattle.qz_terms.specs.declared.request.Request.TheVariants as request
 use Rattle.qz_terms.specs.Catalog.{worker}
 use Rattle.qz_terms.specs.Cause.{may_ask}
-use Rattle.qz_terms.specs.Serial.{Lists}
-use Rattle.qz_regrading.specs.declared.ends.LoopEnd.{LoopEnd}
-use Rattle.qz_regrading.specs.declared.ends.LoopEnd.TheVariants as ends
 use Rattle.qz_regrading.specs.declared.met.Met.{Met}
-use Rattle.qz_regrading.specs.Loops.{EndsBy, Regrades}
-use Rattle.qz_regrading.specs.Parts.{IsPass, IsQuiet, IsWork, LooksBehind, MeetsFaults, MeetsQuietly, MeetsSettling, MeetsSweeping, SearchesShard, faults_of, faults_told, told_in}
-use Rattle.qz_regrading.specs.Passes.{MetEnds, met_with, missing_thing}
+use Rattle.qz_regrading.specs.Parts.{IsQuiet, IsWork, MeetsFaults, MeetsQuietly, MeetsSettling, faults_of}
+use Rattle.qz_regrading.specs.Passes.{met_with, missing_thing}
 use Rattle.qz_regrading.specs.Workers.{worker_asks}
 use Rattle.qz_regrading.specs.Working.{IsSearched, Look, LooksOn, Next, NoMore, Nothing, Sweeps, Told, Worked, Works, WorksSo, before_all, counts_to, found_by, found_in, is_keep_fault, keep_faults, look_by, looks_at, next_of, settled_by, settled_in, told_by}
 use Rattle.qz_regrading.specs.Working as working

@@ -16,12 +16,16 @@ EndsBy ends.Done ws = keep_faults ws ≡ 0
 EndsBy (ends.Left faults) ws = faults ≡ counts_to (keep_faults ws)
 EndsBy ends.Short ws = keep_faults ws ≡ 0
 
--- A worker's passes lead from one desk and clock to another: those before the last, and the last one, which searched every shard for attempts
--- to settle and ended so.
+-- Passes of a worker lead from one desk and clock to another, one after the other, each of which searched every shard for attempts to settle.
+pub data MakesPasses {D C : Type 0} (tells : C → ℕ → C → Type 0) (answers : D → D → ℕ → Ask → Reply → Type 0) (lists : D → Lists) : Answerer D C → Answerer D C → Type 0 where
+  none : (a : Answerer D C) → MakesPasses tells answers lists a a
+  more : (a b c : Answerer D C) (asked : List Worked) → MakesPasses tells answers lists a b → Works tells answers b asked c → Sweeps (length (lists c.desk).parts) asked → MakesPasses tells answers lists a c
+
+-- A worker's passes lead from one desk and clock to another: those before the last, and the last one, which searched every shard as well and
+-- ended so.
 pub record Regrades {D C : Type 0} (tells : C → ℕ → C → Type 0) (answers : D → D → ℕ → Ask → Reply → Type 0) (lists : D → Lists) (a b : Answerer D C) (end : LoopEnd) : Type 0 where
-  pub before : List Worked
   pub between : Answerer D C
-  pub worked : Works tells answers a before between
+  pub before : MakesPasses tells answers lists a between
   pub last : List Worked
   pub works : Works tells answers between last b
   pub sweeps : Sweeps (length (lists b.desk).parts) last

@@ -11,7 +11,7 @@ use Rattle.qz_terms.specs.declared.request.Request.TheVariants as request
 use Rattle.qz_terms.specs.Serial.{Lists}
 use Rattle.qz_regrading.specs.declared.met.Met.{Met}
 use Rattle.qz_regrading.specs.Passes.{met_with, missing_thing}
-use Rattle.qz_regrading.specs.Working.{IsSearched, Next, NoMore, Nothing, Sweeps, Told, Worked, Works, counts_to, found_in, is_keep_fault, keep_faults, looks_at, settled_in, told_by}
+use Rattle.qz_regrading.specs.Working.{IsSearched, Next, NoMore, Nothing, Sweeps, Told, Worked, Works, counts_to, found_in, keep_faults, looks_at, settled_in, told_by}
 
 -- nothing is asked of attempts
 pub record IsQuiet (ws : List Worked) : Type 0 where

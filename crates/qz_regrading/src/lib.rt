@@ -12,4 +12,4 @@ mod worker;
 
 pub use ends::LoopEnd;
 pub use pass::regrade_loop;
-pub use stop::Stop;
+pub use stop::{Signal, Stop};

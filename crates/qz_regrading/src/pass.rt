@@ -11,7 +11,7 @@ use crate::met::Met;
 use crate::sweep::sweep;
 use crate::walk::walk;
 use crate::worker::count_jobs;
-use crate::{LoopEnd, Stop};
+use crate::{LoopEnd, Signal};
 use qz_links::Clock;
 use qz_terms::Desk;
 use std::alloc::Global;
@@ -40,8 +40,8 @@ fn pass<D: Desk, C: Clock>(alloc: Global, desk: &mut D, clock: &mut C) -> Met
     met
 }
 
-/// Makes passes until `stop` is set, then one more, and tells what that last one came to. Between two passes it rests, for 50 milliseconds at
-/// most, so that one who finds nothing to do keeps nobody off the desk.
+/// Makes passes until `stop` is seen set, then one more, and tells what that last one came to. Between two passes it rests, for 50 milliseconds
+/// at most, so that one who finds nothing to do keeps nobody off the desk.
 ///
 /// The desk takes whatever a worker may ask, at each moment that is allowed, and tells workers what they need; others may ask it in between.
 /// Each request is asked at the moment that the clock tells, or at 4,102,444,799 where it tells a later one.
@@ -55,13 +55,14 @@ fn pass<D: Desk, C: Clock>(alloc: Global, desk: &mut D, clock: &mut C) -> Met
 /// last pass, at least one, by which the desk's count of faults rose. With `Short` no keeper failed in the last pass, but memory was wanting,
 /// or the desk refused a request as no school does.
 ///
-/// Nothing but requests changes the desk. The call returns no sooner than `stop` is set.
-pub fn regrade_loop<W: Wait, D: Desk, C: Clock>(
+/// Nothing but passes changes the desk, one after the other, and each of them searches every shard for attempts to settle, those before the
+/// last as well. The call returns no sooner than `stop` was seen set.
+pub fn regrade_loop<W: Wait, D: Desk, C: Clock, S: Signal>(
     rt: &W,
     alloc: Global,
     desk: &mut D,
     clock: &mut C,
-    stop: &Stop,
+    stop: &S,
 ) -> LoopEnd
     requires takes { TakesWork D.takes }
     requires serves { ServesWorkers D.lists D.faults D.answers }
@@ -69,13 +70,14 @@ pub fn regrade_loop<W: Wait, D: Desk, C: Clock>(
     ensures regrades { Regrades C.tells D.answers D.lists
         (record { desk = desk.old; clock = clock.old })
         (record { desk = desk.new; clock = clock.new }) result }
+    ensures stopped { S.seen_set stop.now }
 {
-    for _ in 0..u64::MAX {
+    for _ in rt.forever() {
         if stop.is_set() {
-            break;
+            return pass(alloc, desk, clock).end();
         }
         pass(alloc, desk, clock);
         stop.rest(rt);
     }
-    pass(alloc, desk, clock).end()
+    unreachable!()
 }

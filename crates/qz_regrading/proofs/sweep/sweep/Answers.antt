@@ -1,5 +1,5 @@
 use Rattle.qz_regrading.proofs.Meeting.{meets-more, meets-none}
-use Rattle.qz_regrading.proofs.Searching.{below_more, below_none, swept_all, swept_most}
+use Rattle.qz_regrading.proofs.Searching.{below_more, below_none, swept_all}
 use Rattle.qz_regrading.proofs.sweep.sweep.Goals as goal
 
 pub loop-shard-init : goal.loop-shard-init

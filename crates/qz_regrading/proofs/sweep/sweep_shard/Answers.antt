@@ -1,5 +1,5 @@
-use Rattle.std.proofs.Common.{None, Some, refl, ap, ◌∙◌, arith}
-use Rattle.std.specs.Prelude.{Ok, Err}
+use Rattle.std.proofs.Common.{None, refl, ap, ◌∙◌, arith}
+use Rattle.std.specs.Prelude.{Ok}
 use Rattle.qz_terms.specs.declared.reply.Reply.TheVariants as reply
 use Rattle.qz_regrading.proofs.Meeting.{meets-more, meets-none, meets-quiet}
 use Rattle.qz_regrading.proofs.Searching.{meets_stop, searched_all, searched_on, searched_stop, searching_more, searching_none, stop_missing}
