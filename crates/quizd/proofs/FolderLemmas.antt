@@ -40,7 +40,7 @@ pub folder_none_out : {D : Type 0} (disks : Disks D) (folder : List ℕ) (serves
     → NoneOut old.files.is_out → FolderEnds disks folder serves kept old new before now s → NoneOut new.files.is_out
 folder_none_out disks folder serves kept old new before now s was e = by s e.by
   where
-    by : (t : Option Stop) → ServedFolder disks folder (λ a b. serves a b t) old new ⊎ Unserved folder kept old new before now t → NoneOut new.files.is_out
+    by : (t : Option Stop) → ServedFolder disks folder (λ a b. serves a b t) old new ⊎ Unserved disks folder kept old new before now t → NoneOut new.files.is_out
     by t (inl done) = elsewhere_none_out folder (length done.loaded.parts) old.files new.files was e.none_out done.back.others
     by None (inr not) = absurd not
     by (Some t) (inr not) = record { each = λ at. (unloaded-for folder old new before now t not.0).unloaded.stay.is_out at ∙ was.each at }

@@ -13,7 +13,7 @@ use Rattle.qz_script_schools.proofs.FolderLemmas.{not_raised, unserved_status}
 use Rattle.qz_school.specs.Solos.{School, faults_of}
 use Rattle.qz_serving.specs.Folders.{NoneServed}
 use Rattle.qz_serving.specs.Saying.{NoDoorFails, is_last_short}
-use Rattle.qz_serving.proofs.ServingLemmas.{Counts, Ends, closes_later, doors_as_many, last_done, none_failed, school_count, school_later}
+use Rattle.qz_serving.proofs.ServingLemmas.{Counts, Ends, closes_later, doors_as_many, last_done, none_failed, rises_as_often, school_count, school_later}
 use Rattle.qz_stations.specs.declared.ends.ServeEnd.{ServeEnd}
 use Rattle.qz_stations.specs.Passing.{ServesNone}
 use Rattle.qz_stations.specs.Stations.{Serving}
@@ -75,32 +75,32 @@ or-second true q is = absurd cc
 or-second false q is = is
 
 module _ {D R C : Type 0} (disks : Disks D) (workers regraders : ℕ) (serves : Serving R C) (doors after : List (R × C)) where
-  doors-status : (faults : R → ℕ) (before now : Sunk) (s : Option Stop) (a b : School (Ledger D)) → Counts serves faults
-      → AuditedDoors disks workers regraders serves doors after before now s a b ⊎ NoneServed disks doors after before now s a b → ¬ HasRisen before.faults now.faults → NoDoorFails faults doors after → Ran (status_of s)
-  doors-status faults before now s a b counts (inl some) sink quiet =
+  doors-status : (faults : R → ℕ) (old new : Shelved) (before now : Sunk) (s : Option Stop) (a b : School (Ledger D)) → Counts serves faults
+      → AuditedDoors disks workers regraders serves doors after old new before now s a b ⊎ NoneServed disks doors after before now s a b → ¬ HasRisen before.faults now.faults → NoDoorFails faults doors after → Ran (status_of s)
+  doors-status faults old new before now s a b counts (inl some) sink quiet =
       says-status before.holds now.holds before.faults now.faults some.end s some.says sink (none_failed (IsSound disks.sound) (journal_faults disks) serves faults workers regraders a b doors after (serve_end some.end) counts some.school.served quiet)
-  doors-status faults before now s a b counts (inr none) sink quiet = inr (inl (ap status_of none.memory))
+  doors-status faults old new before now s a b counts (inr none) sink quiet = inr (inl (ap status_of none.memory))
 
   pub audits_doors : (folder : List ℕ) (faults : R → ℕ) (old new : Shelved) (before now : Sunk) (s : Option Stop) → Counts serves faults
       → AuditFolderEnds disks folder workers regraders serves doors after old new before now s → AuditsDoors (NoDoorFails faults doors after) old new before now (status_of s)
   audits_doors folder faults old new before now s counts e = record { done = λ sink shelf quiet. by sink shelf quiet e.by }
     where
       by : ¬ HasRisen before.faults now.faults → ¬ HasRisen old.faults new.faults → NoDoorFails faults doors after
-          → ServedFolder disks folder (AuditedTogether disks workers regraders serves doors after old new before now s) old new ⊎ Unserved folder (after ≡ doors) old new before now s
+          → ServedFolder disks folder (AuditedTogether disks workers regraders serves doors after old new before now s) old new ⊎ Unserved disks folder (after ≡ doors) old new before now s
           → (status_of s ≡ 0) ⊎ ((status_of s ≡ 7) ⊎ ((status_of s ≡ 8) ⊎ (status_of s ≡ 11)))
       by sink shelf quiet (inl done) =
-          elim (doors-status faults before now s done.loaded done.closed counts done.served.ends sink quiet) [
+          elim (doors-status faults old new before now s done.loaded done.closed counts done.served.ends sink quiet) [
             | inl all ↦ inl all
             | inr other ↦ inr (inr other)
           ]
-      by sink shelf quiet (inr not) = inr (elim (unserved_status folder (after ≡ doors) old new before now s not sink shelf) [ inl refused ↦ inl refused | inr wanting ↦ inr (inl wanting) ])
+      by sink shelf quiet (inr not) = inr (elim (unserved_status disks folder (after ≡ doors) old new before now s not sink shelf) [ inl refused ↦ inl refused | inr wanting ↦ inr (inl wanting) ])
 
   -- what was audited, and what was said of it
   pub audited_of : {E : Type 0} (folder : List ℕ) (old new : Shelved) (before now : Sunk) (a b : School (Ledger D)) (audited : Result AuditEnd E) (s : Option Stop)
       → AuditEnds (IsSound disks.sound) (journal_faults disks) serves workers regraders a b doors after audited → IsGivenBack disks folder old new a b → SaysOf before.holds now.holds before.faults now.faults audited s
       → AuditedTogether disks workers regraders serves doors after old new before now s a b
   audited_of folder old new before now a b (Ok end) s so back says = record {
-    ends = inl (record { end = end; school = so; says = says });
+    ends = inl (record { end = end; school = so; as_often = rises_as_often disks workers regraders serves doors after folder old new a b (serve_end end) so.served back; says = says });
     worked = λ is some quiet.
         let done = subst (SaysAudited before.holds now.holds before.faults now.faults end) is says in
         let served = so.served in

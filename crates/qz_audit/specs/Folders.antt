@@ -7,21 +7,23 @@ use Rattle.qz_outside.specs.Causes.{HasRisen}
 use Rattle.qz_regrading.specs.Loops.{AllDone}
 use Rattle.qz_script_schools.specs.Folders.{Disks, FolderEnds, journal_faults}
 use Rattle.qz_school.specs.Solos.{School, lists_in}
-use Rattle.qz_serving.specs.Folders.{NoneServed}
+use Rattle.qz_serving.specs.Folders.{NoneServed, RisesAsOften}
 use Rattle.qz_stations.specs.Stations.{Serving}
 use Rattle.qz_audit.specs.declared.auditing.AuditEnd.{AuditEnd}
 use Rattle.qz_audit.specs.Audits.{Audits}
 use Rattle.qz_audit.specs.Saying.{SaysAudited}
 
--- Clerks served the first so many doors over it side by side, so many regraded beside them, and this was said of it.
-pub record AuditedDoors {D R C : Type 0} (disks : Disks D) (workers regraders : ℕ) (serves : Serving R C) (doors after : List (R × C)) (before now : Sunk) (s : Option Stop) (a b : School (Ledger D)) : Type 0 where
+-- Clerks served the first so many doors over it side by side, so many regraded beside them, and this was said of it. The shelf's count rose as
+-- often as the replies at any one door say that a keeper failed.
+pub record AuditedDoors {D R C : Type 0} (disks : Disks D) (workers regraders : ℕ) (serves : Serving R C) (doors after : List (R × C)) (old new : Shelved) (before now : Sunk) (s : Option Stop) (a b : School (Ledger D)) : Type 0 where
   pub end : AuditEnd
   pub school : Audits (IsSound disks.sound) (journal_faults disks) serves workers regraders a b doors after end
+  pub as_often : RisesAsOften school.served.beside old.faults new.faults
   pub says : SaysAudited before.holds now.holds before.faults now.faults end s
 
 -- The doors were served or not. Where all went well and somebody regraded, each job of the catalogue is done in each shard at the end.
 pub record AuditedTogether {D R C : Type 0} (disks : Disks D) (workers regraders : ℕ) (serves : Serving R C) (doors after : List (R × C)) (old new : Shelved) (before now : Sunk) (s : Option Stop) (a b : School (Ledger D)) : Type 0 where
-  pub ends : AuditedDoors disks workers regraders serves doors after before now s a b ⊎ NoneServed disks doors after before now s a b
+  pub ends : AuditedDoors disks workers regraders serves doors after old new before now s a b ⊎ NoneServed disks doors after before now s a b
   pub worked : s ≡ None → 0 < regraders → ¬ HasRisen old.faults new.faults → AllDone (lists_in b)
 
 -- the first so many of some doors were served over it while so many regraded, or all stay as they are

@@ -24,10 +24,12 @@ use std::thread::Threads;
 /// how many links were taken in all, and `gathered M`, how many records are new in all lists, where a note speaks for each; else `gap catalog PLACE`
 /// or `gap SHARD PLACE`, the first place for which none speaks. Answers the exit status.
 ///
+/// Where the files stand for the lists of a school it is the school of these, unless a fault or want of memory keeps it from being opened.
 /// With status 7 the files don't give a school, and one line says why; with status 6 the shelf failed, or the disk of a file; no link was taken
 /// then. With status 11 there is a gap. With status 10 a door failed, and the others were served. With status 8 memory was wanting, for the school,
 /// for a link, which has ended then, for the notes, for the last pass of the regraders, or for the lines. Afterwards each file is given back, and
 /// stands for its list. With status 0 and at least one regrader each job is done in each shard then, unless a file failed meanwhile.
+/// The shelf's count rose at least as often as the replies at any one door say that a keeper failed.
 pub fn audit_folder<
     W: Threads + Wait + Sync,
     O: Sink,

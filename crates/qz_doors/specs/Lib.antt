@@ -2,3 +2,4 @@ pub mod Answers
 pub mod Links
 pub mod Steps
 pub mod Doors
+pub mod Replying

@@ -70,14 +70,14 @@ module _ {D P L C : Type 0} (disks : Disks D) (tells : C → ℕ → C → Type 
   polls_all folder old new before now s e = record { done = λ sink shelf quiet. by sink shelf quiet e.by }
     where
       by : ¬ HasRisen before.faults now.faults → ¬ HasRisen old.faults new.faults → ¬ HasRisen at.entrance.faults after.entrance.faults
-          → ServedFolder disks folder (λ a b. PolledDoor disks tells peer links clocks at after before now s a b ⊎ NonePolled disks at after before now s a b) old new ⊎ Unserved folder (after ≡ at) old new before now s
+          → ServedFolder disks folder (λ a b. PolledDoor disks tells peer links clocks at after before now s a b ⊎ NonePolled disks at after before now s a b) old new ⊎ Unserved disks folder (after ≡ at) old new before now s
           → (status_of s ≡ 0) ⊎ ((status_of s ≡ 7) ⊎ (status_of s ≡ 8))
       by sink shelf quiet (inl done) =
           elim (polled-status before now s done.loaded done.closed done.served sink quiet) [
             | inl all ↦ inl all
             | inr wanting ↦ inr (inr wanting)
           ]
-      by sink shelf quiet (inr not) = inr (unserved_status folder (after ≡ at) old new before now s not sink shelf)
+      by sink shelf quiet (inr not) = inr (unserved_status disks folder (after ≡ at) old new before now s not sink shelf)
 
 pub unpolled_all : {P L : Type 0} (at after : At P L) (folder : List ℕ) (old new : Shelved) (before now : Sunk) (s : Stop) → UnloadedBy folder old new before now s → PollsAll at after old new before now (status_of (Some s))
 unpolled_all at after folder old new before now s u = record { done = λ sink shelf quiet. inr (not_raised folder old new before now s u sink shelf) }

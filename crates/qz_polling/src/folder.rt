@@ -40,6 +40,7 @@ fn say<O: Sink>(alloc: Global, sink: &mut O, served: Result<Served, NoMemory>) -
 /// there are clocks, and one that waits costs the others nothing. It ends when `links` of them were taken, none is left or the door fails, and
 /// those that were taken have ended. Nobody regrades. Writes `served N`, how many links were taken, and answers the exit status.
 ///
+/// Where the files stand for the lists of a school it is the school of these, unless a fault or want of memory keeps it from being opened.
 /// With status 7 the files don't give a school, and one line says why; with status 6 the shelf failed, or the disk of a file; no link was
 /// taken then. With status 8 memory was wanting: for the school, for a link, which has ended then, for the run, which took no more links then,
 /// or for the line. With status 10 the door failed, with 5 the sink. Afterwards each file is given back, and stands for its list.

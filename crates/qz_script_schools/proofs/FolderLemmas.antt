@@ -1,5 +1,5 @@
 -- A school whose lists keepers keep, as a desk; and how a command ends that serves the school of a folder.
-use Rattle.std.proofs.Common.{◌≡◌, ◌⊎◌, ℕ, ◌≤◌, List, length, Option, Some, None, is_some, IfSome, inl, inr, refl, sym, ◌∙◌, subst, arith}
+use Rattle.std.proofs.Common.{◌≡◌, ◌⊎◌, ℕ, ◌≤◌, List, length, Option, Some, None, is_some, IfSome, Ok, Err, inl, inr, refl, sym, ◌∙◌, subst, arith}
 use Rattle.std.specs.Io.KnownBytes.{Keeps}
 use Rattle.std.proofs.lemmas.List.{length-map}
 use Rattle.qz_asking.specs.Following.{Follows, asked, stays}
@@ -16,6 +16,7 @@ use Rattle.qz_loading.specs.Opening.{IsLoadedFrom}
 use Rattle.qz_folders.specs.Names.{catalog_name, part_name}
 use Rattle.qz_loading.specs.Places.{IsOut, KeepsElsewhere, catalog_place, part_place}
 use Rattle.qz_loading.proofs.Standing.{same_twice}
+use Rattle.qz_opening.specs.Restarting.{Reopens}
 use Rattle.qz_opening.specs.Unloaded.{IsUnloaded, UnloadedBy}
 use Rattle.qz_outside.specs.Causes.{HasRisen}
 use Rattle.qz_shard.specs.Keeping as part
@@ -112,8 +113,9 @@ given_back disks folder old new mid count a b alike loaded apart later same fell
 }
 
 pub served_ends : {D : Type 0} (disks : Disks D) (folder : List ℕ) (serves : School (Ledger D) → School (Ledger D) → Option Stop → Type 0) (kept : Type 0) (old new : Shelved) (before now : Sunk) (a b : School (Ledger D)) (s : Option Stop)
-    → IsGivenBack disks folder old new a b → serves a b s → NoneOutIn folder new.files → old.faults ≤ new.faults → FolderEnds disks folder serves kept old new before now s
-served_ends disks folder serves kept old new before now a b s back served inside later = record { by = inl (record { loaded = a; closed = b; back = back; served = served }); none_out = inside; later = later }
+    → Reopens folder old.files (Ok a) → IsGivenBack disks folder old new a b → serves a b s → NoneOutIn folder new.files → old.faults ≤ new.faults → FolderEnds disks folder serves kept old new before now s
+served_ends disks folder serves kept old new before now a b s restarts back served inside later =
+    record { by = inl (record { loaded = a; closed = b; restarts = restarts; back = back; served = served }); none_out = inside; later = later }
 
 -- ---- files that don't give a school
 
@@ -137,9 +139,9 @@ unloaded-for folder old new before now stop.Gap u = absurd u
 unloaded_none_out : (folder : List ℕ) (old new : Shelved) (before now : Sunk) (s : Stop) → UnloadedBy folder old new before now s → NoneOutIn folder new.files
 unloaded_none_out folder old new before now s u = (unloaded-for folder old new before now s u).unloaded.none_out
 
-pub unloaded_ends : {D : Type 0} (disks : Disks D) (folder : List ℕ) (serves : School (Ledger D) → School (Ledger D) → Option Stop → Type 0) (kept : Type 0) (old new : Shelved) (before now : Sunk) (s : Stop) → UnloadedBy folder old new before now s → kept → old.faults ≤ new.faults
+pub unloaded_ends : {D : Type 0} (disks : Disks D) (folder : List ℕ) (serves : School (Ledger D) → School (Ledger D) → Option Stop → Type 0) (kept : Type 0) (old new : Shelved) (before now : Sunk) (s : Stop) → UnloadedBy folder old new before now s → Reopens {D = D} folder old.files (Err s) → kept → old.faults ≤ new.faults
     → FolderEnds disks folder serves kept old new before now (Some s)
-unloaded_ends disks folder serves kept old new before now s u is later = record { by = inr (u, is); none_out = unloaded_none_out folder old new before now s u; later = later }
+unloaded_ends disks folder serves kept old new before now s u restarts is later = record { by = inr (u, restarts, is); none_out = unloaded_none_out folder old new before now s u; later = later }
 
 -- ---- all that nothing kept from being done
 
@@ -156,19 +158,19 @@ not_raised folder old new before now stop.TooLong u sink shelf = absurd u
 not_raised folder old new before now stop.DoorFault u sink shelf = absurd u
 not_raised folder old new before now stop.Gap u sink shelf = absurd u
 
-pub unserved_status : (folder : List ℕ) (kept : Type 0) (old new : Shelved) (before now : Sunk) (s : Option Stop) → Unserved folder kept old new before now s → ¬ HasRisen before.faults now.faults → ¬ HasRisen old.faults new.faults
+pub unserved_status : {D : Type 0} (disks : Disks D) (folder : List ℕ) (kept : Type 0) (old new : Shelved) (before now : Sunk) (s : Option Stop) → Unserved disks folder kept old new before now s → ¬ HasRisen before.faults now.faults → ¬ HasRisen old.faults new.faults
     → (status_of s ≡ 7) ⊎ (status_of s ≡ 8)
-unserved_status folder kept old new before now None u sink shelf = absurd u
-unserved_status folder kept old new before now (Some s) u sink shelf = not_raised folder old new before now s u.0 sink shelf
+unserved_status disks folder kept old new before now None u sink shelf = absurd u
+unserved_status disks folder kept old new before now (Some s) u sink shelf = not_raised folder old new before now s u.0 sink shelf
 
 pub serves_folder : {D : Type 0} (disks : Disks D) (folder : List ℕ) (limit : ℕ) (old new : Shelved) (before now : Outside) (s : Option Stop) → ScriptFolderEnds disks folder limit old new before now s → ServesFolder limit old new before now (status_of s)
 serves_folder disks folder limit old new before now s e = record { done = λ text is within source sink shelf. by text is within source sink shelf e.by }
   where
     by : (text : List ℕ) → before.left ≡ Some text → length text ≤ limit → ¬ HasRisen before.source_faults now.source_faults → ¬ HasRisen before.sink_faults now.sink_faults → ¬ HasRisen old.faults new.faults
-        → ServedFolder disks folder (ServedAlone disks (λ a b. ServeEnds limit a b before now s)) old new ⊎ Unserved folder (Keeps before.left now.left) old new (sunk before) (sunk now) s
+        → ServedFolder disks folder (ServedAlone disks (λ a b. ServeEnds limit a b before now s)) old new ⊎ Unserved disks folder (Keeps before.left now.left) old new (sunk before) (sunk now) s
         → (status_of s ≡ 0) ⊎ ((status_of s ≡ 7) ⊎ (status_of s ≡ 8))
     by text is within source sink shelf (inl done) = elim ((serves_all limit (seen_of disks done.loaded) (seen_of disks done.closed) before now s done.served.ends).done text is within source sink) [ inl all ↦ inl all | inr wanting ↦ inr (inr wanting) ]
-    by text is within source sink shelf (inr not) = inr (unserved_status folder (Keeps before.left now.left) old new (sunk before) (sunk now) s not sink shelf)
+    by text is within source sink shelf (inr not) = inr (unserved_status disks folder (Keeps before.left now.left) old new (sunk before) (sunk now) s not sink shelf)
 
 pub unserved_folder : (folder : List ℕ) (limit : ℕ) (old new : Shelved) (before now : Outside) (s : Stop) → UnloadedBy folder old new (sunk before) (sunk now) s → ServesFolder limit old new before now (status_of (Some s))
 unserved_folder folder limit old new before now s u = record { done = λ text is within source sink shelf. inr (not_raised folder old new (sunk before) (sunk now) s u sink shelf) }

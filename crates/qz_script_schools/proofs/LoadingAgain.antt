@@ -16,7 +16,7 @@ use Rattle.qz_loading.specs.Places.{catalog_place, part_place}
 use Rattle.qz_record.specs.Records.{IsRecord}
 use Rattle.qz_school.specs.Solos.{School, held_of, lists_in}
 use Rattle.qz_serial.proofs.Seats.{same_held}
-use Rattle.qz_script_schools.specs.Again.{AreLeft, AreRecords, AreSettled, IsLeft}
+use Rattle.qz_script_schools.specs.Again.{AreLeft, AreSettled, IsLeft}
 use Rattle.qz_script_schools.specs.Folders.{Disks, IsGivenBack, IsStanding}
 use Rattle.qz_shard.specs.Keeping as part
 use Rattle.qz_solo.specs.Restarting.{Restarts, StandsFor}
@@ -103,11 +103,12 @@ from-first : (k : ℕ) → k ≡ 0 + k
 from-first k = omega arith
 
 pub loaded_again : {D : Type 0} (disks : Disks D) (folder : List ℕ) (old new : Shelved) (a b : School (Ledger D)) (next : Files) (result : Result (School (Ledger D)) LoadFault)
-    → IsGivenBack disks folder old new a b → AreRecords (lists_in b) → AreLeft folder (length b.parts) old.files new.files next
+    → IsGivenBack disks folder old new a b → AreLeft folder (length b.parts) old.files new.files next
     → IfOk result (λ made. IsLoadedFrom disks.moment disks.left_at folder next made.catalog made.parts) → Restarts folder next result
     → MatchResult result (λ made. AreSettled (lists_in b) (lists_in made)) (λ cause. (cause ≡ Fault) ⊎ (cause ≡ Memory))
-loaded_again disks folder old new a b next result back records left loaded restarts =
+loaded_again disks folder old new a b next result back left loaded restarts =
     let at = catalog_place folder in
+    let records = back.school.records in
     let one = chosen b.catalog.held (old.files.file at) (new.files.file at) (next.file at) left.catalog back.catalog records.records in
     let all = chosen-from folder next 0 b.parts (λ k s is.
     subst (λ (n : ℕ). Chosen s.held (next.file (part_place folder n))) (from-first k) (chosen s.held (old.files.file (part_place folder k)) (new.files.file (part_place folder k)) (next.file (part_place folder k)) (left.parts k (slice_get_within b.parts k s is)) (back.parts.each k s is)

@@ -1,5 +1,5 @@
 -- How a command ends that serves the school of a folder: a school as it was loaded, and as it was given back.
-use Rattle.std.specs.Prelude.{◌≡◌, ◌⊎◌, ℕ, ◌≤◌, List, length, Option, Some, None, IfSome, slice_get}
+use Rattle.std.specs.Prelude.{◌≡◌, ◌⊎◌, ℕ, ◌≤◌, List, length, Option, Some, None, IfSome, Ok, Err, slice_get}
 use Rattle.std.specs.Io.KnownBytes.{Keeps}
 use Rattle.qz_disks.specs.Shelves.{File, Files, NoneOutIn}
 use Rattle.qz_ending.specs.declared.stop.Stop.{Stop}
@@ -9,6 +9,7 @@ use Rattle.qz_journal.specs.Journals.{IsSound, Ledger}
 use Rattle.qz_loading.specs.Closing.{StandForList}
 use Rattle.qz_loading.specs.Opening.{IsLoadedFrom}
 use Rattle.qz_loading.specs.Places.{KeepsElsewhere, catalog_place, part_place}
+use Rattle.qz_opening.specs.Restarting.{Reopens}
 use Rattle.qz_opening.specs.Unloaded.{UnloadedBy}
 use Rattle.qz_outside.specs.Causes.{HasRisen}
 use Rattle.qz_script.specs.Retries.{Seen}
@@ -63,10 +64,12 @@ pub record IsGivenBack {D : Type 0} (disks : Disks D) (folder : List ℕ) (old n
   -- so however often they failed while it was served, the shelf's count rose as often
   pub as_often : (n : ℕ) → HasRisenBy (disk_faults disks a) n (disk_faults disks b) → HasRisenBy old.faults n new.faults
 
--- it was served so, from what it was as it was loaded to what it was as it was given back
+-- It was served so, from what it was as it was loaded to what it was as it was given back. Where the files stand for the lists of a school, it
+-- was loaded with these.
 pub record ServedFolder {D : Type 0} (disks : Disks D) (folder : List ℕ) (serves : School (Ledger D) → School (Ledger D) → Type 0) (old new : Shelved) : Type 0 where
   pub loaded : School (Ledger D)
   pub closed : School (Ledger D)
+  pub restarts : Reopens folder old.files (Ok loaded)
   pub back : IsGivenBack disks folder old new loaded closed
   pub served : serves loaded closed
 
@@ -77,14 +80,15 @@ pub record ServedAlone {D : Type 0} (disks : Disks D) (serves : Seen → Seen �
 
 -- ---- how a command ends
 
--- the files don't give a school, and nothing else was done
-abbrev pub Unserved : List ℕ → Type 0 → Shelved → Shelved → Sunk → Sunk → Option Stop → Type 0
-Unserved folder stays old new before now None = ⊥
-Unserved folder stays old new before now (Some s) = UnloadedBy folder old new before now s × stays
+-- The files don't give a school, and nothing else was done. Where they stand for the lists of one, a fault or want of memory kept it from being
+-- opened.
+abbrev pub Unserved : {D : Type 0} → Disks D → List ℕ → Type 0 → Shelved → Shelved → Sunk → Sunk → Option Stop → Type 0
+Unserved disks folder stays old new before now None = ⊥
+Unserved {D} disks folder stays old new before now (Some s) = UnloadedBy folder old new before now s × Reopens {D = D} folder old.files (Err s) × stays
 
 -- The school of a folder was served so, or the files don't give one, and this stays. Each file is given back, and no count falls.
 pub record FolderEnds {D : Type 0} (disks : Disks D) (folder : List ℕ) (serves : School (Ledger D) → School (Ledger D) → Option Stop → Type 0) (stays : Type 0) (old new : Shelved) (before now : Sunk) (s : Option Stop) : Type 0 where
-  pub by : ServedFolder disks folder (λ a b. serves a b s) old new ⊎ Unserved folder stays old new before now s
+  pub by : ServedFolder disks folder (λ a b. serves a b s) old new ⊎ Unserved disks folder stays old new before now s
   pub none_out : NoneOutIn folder new.files
   pub later : old.faults ≤ new.faults
 

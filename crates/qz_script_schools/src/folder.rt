@@ -15,6 +15,7 @@ use std::alloc::Global;
 /// Answers the lines of a script over the school of a folder, of which no file is out, and answers the exit status.
 ///
 /// Each reply is written before the next line is read, and what it says is kept then: where a keeper of the lists failed the reply says so.
+/// Where the files stand for the lists of a school it is the school of these, unless a fault or want of memory keeps it from being opened.
 /// With status 7 the files don't give a school, and one line says why; with status 6 the shelf failed, or the disk of a file; nothing was
 /// read then. Afterwards each file is given back, and stands for its list, also where the script ended early.
 pub fn script_folder<S: Source, O: Sink, F: Shelf>(

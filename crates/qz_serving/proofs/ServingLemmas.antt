@@ -30,14 +30,15 @@ use Rattle.qz_school.specs.Answering.{IsServed}
 use Rattle.qz_school.specs.Solos.{School, faults_of, lists_in}
 use Rattle.qz_stations.specs.declared.ends.ServeEnd.{ServeEnd}
 use Rattle.qz_stations.specs.Passing.{Lasts, ServesNone, ServesSchool, with_clock}
-use Rattle.qz_stations.specs.Stations.{Serving}
+use Rattle.qz_stations.specs.Stations.{Serving, fault_replies, faults_in, faults_told}
+use Rattle.qz_stations.proofs.Faults.{in_more}
 use Rattle.qz_terms.specs.declared.record.Record.{Record}
 use Rattle.qz_turn.specs.declared.view.Tale.{Tale}
 use Rattle.qz_visit.specs.Closing.{AreClosed, Closes}
 use Rattle.qz_visit.specs.Closing as closing
 use Rattle.qz_visit.specs.Opening.{tales, told_by}
 use Rattle.qz_visit.specs.Visits.{Tellings}
-use Rattle.qz_serving.specs.Folders.{DoorsFolderEnds, NoneServed, ServedDoors, ServedTogether, ServesDoors}
+use Rattle.qz_serving.specs.Folders.{DoorsFolderEnds, NoneServed, RisesAsOften, ServedDoors, ServedTogether, ServesDoors}
 use Rattle.qz_served.specs.declared.saying.Served.{Served}
 use Rattle.qz_served.specs.Saying.{SaysServed}
 use Rattle.qz_serving.specs.Saying.{NoDoorFails, SaysOf, is_last_short, served_by}
@@ -51,20 +52,32 @@ closed-count faults c n _ _ _ (closing.more k t s ts ss is rest) = ap suc (close
 pub closes_count : {K : Type 0} (faults : K → ℕ) (a b : School K) → Closes faults (told_by faults a) b → length b.parts ≡ length a.parts
 closes_count faults a b c = closed-count faults b.catalog.held.list (length b.parts) 0 (tales faults a.parts) b.parts c.parts ∙ length-map a.parts (λ s. tale_of s.held (faults s.keeper))
 
-closed-later : {K : Type 0} (faults : K → ℕ) (c : List Record) (n k : ℕ) (xs ss : List (part.Keeping K)) → AreClosed faults c n k (tales faults xs) ss → sum_by (λ s. faults s.keeper) xs ≤ sum_by (λ s. faults s.keeper) ss
-closed-later faults c n _ [] _ (closing.none k) = omega arith
-closed-later faults c n _ (x ∷ xs) _ (closing.more k _ s _ ss is rest) =
+closed-later : {K : Type 0} (faults : K → ℕ) (c : List Record) (n k : ℕ) (ts : List (Tale Record)) (ss : List (part.Keeping K)) → AreClosed faults c n k ts ss → faults_in ts ≤ sum_by (λ s. faults s.keeper) ss
+closed-later faults c n _ _ _ (closing.none k) = omega arith
+closed-later faults c n _ _ _ (closing.more k t s ts ss is rest) =
     let first = is.follows.faults in
-    let others = closed-later faults c n (k + 1) xs ss rest in
-    let before = sum_by-cons (λ (y : part.Keeping _). faults y.keeper) x xs in
+    let others = closed-later faults c n (k + 1) ts ss rest in
+    let before = in_more t ts in
     let after = sum_by-cons (λ (y : part.Keeping _). faults y.keeper) s ss in
     omega arith
 
-pub closes_later : {K : Type 0} (faults : K → ℕ) (a b : School K) → Closes faults (told_by faults a) b → faults_of faults a ≤ faults_of faults b
-closes_later faults a b c =
+-- its keepers had not failed more often when somebody saw them
+seen-later : {K : Type 0} (faults : K → ℕ) (seen : Tellings) (b : School K) → Closes faults seen b → faults_told seen ≤ faults_of faults b
+seen-later faults seen b c =
     let first = c.records.faults in
-    let others = closed-later faults b.catalog.held.list (length b.parts) 0 a.parts b.parts c.parts in
+    let others = closed-later faults b.catalog.held.list (length b.parts) 0 seen.parts b.parts c.parts in
     omega arith
+
+told-parts : {K : Type 0} (faults : K → ℕ) (ss : List (part.Keeping K)) → faults_in (tales faults ss) ≡ sum_by (λ s. faults s.keeper) ss
+told-parts faults [] = refl
+told-parts faults (s ∷ ss) = rw (in_more (tale_of s.held (faults s.keeper)) (tales faults ss), sum_by-cons (λ (y : part.Keeping _). faults y.keeper) s ss, told-parts faults ss) refl
+
+-- how often its keepers had failed is told
+told-faults : {K : Type 0} (faults : K → ℕ) (a : School K) → faults_told (told_by faults a) ≡ faults_of faults a
+told-faults faults a = ap (λ (n : ℕ). faults a.catalog.keeper + n) (told-parts faults a.parts)
+
+pub closes_later : {K : Type 0} (faults : K → ℕ) (a b : School K) → Closes faults (told_by faults a) b → faults_of faults a ≤ faults_of faults b
+closes_later faults a b c = subst (λ (n : ℕ). n ≤ faults_of faults b) (told-faults faults a) (seen-later faults (told_by faults a) b c)
 
 -- ---- a school that was served and regraded
 
@@ -161,25 +174,25 @@ says-status old new before now served (Some stop.DoorFault) says sink quiet = ab
 says-status old new before now served (Some stop.Gap) says sink quiet = absurd says
 
 module _ {D R C : Type 0} (disks : Disks D) (workers regraders : ℕ) (serves : Serving R C) (doors after : List (R × C)) where
-  doors-status : (faults : R → ℕ) (before now : Sunk) (s : Option Stop) (a b : School (Ledger D)) → Counts serves faults
-      → ServedDoors disks workers regraders serves doors after before now s a b ⊎ NoneServed disks doors after before now s a b → ¬ HasRisen before.faults now.faults → NoDoorFails faults doors after → (status_of s ≡ 0) ⊎ (status_of s ≡ 8)
-  doors-status faults before now s a b counts (inl some) sink quiet =
+  doors-status : (faults : R → ℕ) (old new : Shelved) (before now : Sunk) (s : Option Stop) (a b : School (Ledger D)) → Counts serves faults
+      → ServedDoors disks workers regraders serves doors after old new before now s a b ⊎ NoneServed disks doors after before now s a b → ¬ HasRisen before.faults now.faults → NoDoorFails faults doors after → (status_of s ≡ 0) ⊎ (status_of s ≡ 8)
+  doors-status faults old new before now s a b counts (inl some) sink quiet =
       says-status before.holds now.holds before.faults now.faults (served_by some.end) s some.says sink (none_failed (IsSound disks.sound) (journal_faults disks) serves faults workers regraders a b doors after some.end counts some.school quiet)
-  doors-status faults before now s a b counts (inr none) sink quiet = inr (ap status_of none.memory)
+  doors-status faults old new before now s a b counts (inr none) sink quiet = inr (ap status_of none.memory)
 
   pub serves_doors : (folder : List ℕ) (faults : R → ℕ) (old new : Shelved) (before now : Sunk) (s : Option Stop) → Counts serves faults
       → DoorsFolderEnds disks folder workers regraders serves doors after old new before now s → ServesDoors (NoDoorFails faults doors after) old new before now (status_of s)
   serves_doors folder faults old new before now s counts e = record { done = λ sink shelf quiet. by sink shelf quiet e.by }
     where
       by : ¬ HasRisen before.faults now.faults → ¬ HasRisen old.faults new.faults → NoDoorFails faults doors after
-          → ServedFolder disks folder (ServedTogether disks workers regraders serves doors after old new before now s) old new ⊎ Unserved folder (after ≡ doors) old new before now s
+          → ServedFolder disks folder (ServedTogether disks workers regraders serves doors after old new before now s) old new ⊎ Unserved disks folder (after ≡ doors) old new before now s
           → (status_of s ≡ 0) ⊎ ((status_of s ≡ 7) ⊎ (status_of s ≡ 8))
       by sink shelf quiet (inl done) =
-          elim (doors-status faults before now s done.loaded done.closed counts done.served.ends sink quiet) [
+          elim (doors-status faults old new before now s done.loaded done.closed counts done.served.ends sink quiet) [
             | inl all ↦ inl all
             | inr wanting ↦ inr (inr wanting)
           ]
-      by sink shelf quiet (inr not) = inr (unserved_status folder (after ≡ doors) old new before now s not sink shelf)
+      by sink shelf quiet (inr not) = inr (unserved_status disks folder (after ≡ doors) old new before now s not sink shelf)
 
   -- ---- jobs
 
@@ -196,12 +209,29 @@ module _ {D R C : Type 0} (disks : Disks D) (workers regraders : ℕ) (serves : 
   last_done a left b folder old new doors' (Some (ends.Left n)) later back is short some quiet = absurd (quiet (left-risen a left b folder old new n later back is.1.ends.0 is.1.ends.1))
   last_done a left b folder old new doors' (Some ends.Short) later back is short some quiet = absurd cc
 
+  -- ---- replies
+
+  -- what was seen at a door begins what was given back
+  pub rises_as_often : (folder : List ℕ) (old new : Shelved) (a b : School (Ledger D)) (end : ServeEnd) (so : ServesSchool (IsSound disks.sound) (journal_faults disks) serves workers regraders a b doors after end) → IsGivenBack disks folder old new a b
+      → RisesAsOften so.beside old.faults new.faults
+  rises_as_often folder old new a b end so back = record { each = each }
+    where
+      last : disk_faults disks so.left ≤ disk_faults disks b
+      last = lasts_later serves.tells (IsSound disks.sound) (journal_faults disks) regraders so.left b so.after after end.last so.last
+
+      each : (k : ℕ) (e : DoorEnd) (there : slice_get so.beside.ends k ≡ Some e) → loops.HasRisenBy old.faults (fault_replies (serves.replies (so.beside.each k e there).going)) new.faults
+      each k e there =
+          let at = so.beside.each k e there in
+          let first = told-faults (journal_faults disks) a in
+          let seen = seen-later (journal_faults disks) at.seen so.left at.kept in
+          back.as_often (fault_replies (serves.replies at.going)) (λ few. let more = at.as_often (omega (arith, seen, last, few)) in omega (arith, more, first, seen, last))
+
   -- what was served, and what was said of it
   pub said_of : {E : Type 0} (folder : List ℕ) (old new : Shelved) (before now : Sunk) (a b : School (Ledger D)) (served : Result ServeEnd E) (s : Option Stop)
       → Ends (IsSound disks.sound) (journal_faults disks) serves workers regraders a b doors after served → IsGivenBack disks folder old new a b → SaysOf before.holds now.holds before.faults now.faults served s
       → ServedTogether disks workers regraders serves doors after old new before now s a b
   said_of folder old new before now a b (Ok end) s so back says = record {
-    ends = inl (record { end = end; school = so; says = says });
+    ends = inl (record { end = end; school = so; as_often = rises_as_often folder old new a b end so back; says = says });
     worked = λ is some quiet.
         let done = subst (SaysServed before.holds now.holds before.faults now.faults (served_by end)) is says in
         last_done a so.left b folder old new so.after end.last (closes_later (journal_faults disks) a so.left so.closes) back so.last (or-false (nat_lt 0 end.doors.short) (is_last_short end.last) done.2) some quiet;

@@ -23,10 +23,12 @@ use std::thread::Threads;
 /// jobs of the school meanwhile, by the first clocks, and once more when all have left. Writes `served N`, how many links were taken in all, and
 /// answers the exit status.
 ///
+/// Where the files stand for the lists of a school it is the school of these, unless a fault or want of memory keeps it from being opened.
 /// With status 7 the files don't give a school, and one line says why; with status 6 the shelf failed, or the disk of a file; no link was
 /// taken then. With status 8 memory was wanting, for the school, for a link, which has ended then, for the last pass of the regraders, or for the
 /// line; with status 10 a door failed, and the others were served. Afterwards each file is given back, and stands for its list. With status 0
 /// and at least one regrader each job is done in each shard then, unless a file failed meanwhile.
+/// The shelf's count rose at least as often as the replies at any one door say that a keeper failed.
 pub fn serve_folder<
     W: Threads + Wait + Sync,
     O: Sink,

@@ -14,7 +14,8 @@ use Rattle.qz_gather.specs.Clerks.{Answers, Clerk, noted, unasked}
 use Rattle.qz_grading.specs.declared.refusal.Refusal.TheVariants as refusal
 use Rattle.qz_http.specs.Items.{IsAskable}
 use Rattle.qz_regrading.specs.declared.ends.LoopEnd.{LoopEnd}
-use Rattle.qz_regrading.specs.Loops.{Regrades}
+use Rattle.qz_regrading.specs.Loops.{MakesPasses, Regrades}
+use Rattle.qz_regrading.specs.Loops as loops
 use Rattle.qz_regrading.specs.Workers.{worker_asks}
 use Rattle.qz_regrading.specs.Working.{Worked, Works}
 use Rattle.qz_regrading.specs.Working as working
@@ -25,6 +26,7 @@ use Rattle.qz_serial.specs.Once.{unsaid}
 use Rattle.qz_stations.specs.Noting.{clerk_sees, noting, quiet}
 use Rattle.qz_stations.specs.Posts.{HasRegraded, IsServed}
 use Rattle.qz_stations.specs.Stations.{serving_by}
+use Rattle.qz_stations.proofs.Faults.{door_faults}
 use Rattle.qz_terms.specs.declared.reply.Reply.{Reply}
 use Rattle.qz_terms.specs.declared.reply.Reply.TheVariants as reply
 use Rattle.qz_terms.specs.Kept.{is_moment}
@@ -116,12 +118,16 @@ module _ {S : Type 0} (answers : S → S → ℕ → Ask → Reply → Type 0) (
   works-beside tells a b _ (working.more _ m _ ws w before may one) =
       working.more (seen_by_clock a) (seen_by_clock m) (seen_by_clock b) ws w (works-beside tells a m ws before) may ((asks-beside tells).each m b (worker_asks w.request) w.reply one)
 
+  passes-beside : {C : Type 0} (tells : C → ℕ → C → Type 0) (a b : Answerer S C) → MakesPasses tells answers (λ (s : S). lists_told (see s)) a b → MakesPasses tells IsAskedBeside lists_told (seen_by_clock a) (seen_by_clock b)
+  passes-beside tells a _ (loops.none _) = loops.none (seen_by_clock a)
+  passes-beside tells a b (loops.more _ m _ ws before one sweeps) =
+      loops.more (seen_by_clock a) (seen_by_clock m) (seen_by_clock b) ws (passes-beside tells a m before) (works-beside tells m b ws one) sweeps
+
   regrades_seen : {C : Type 0} (tells : C → ℕ → C → Type 0) (a b : Answerer S C) (end : LoopEnd) → Regrades tells answers (λ (s : S). lists_told (see s)) a b end
       → Regrades tells IsAskedBeside lists_told (seen_by_clock a) (seen_by_clock b) end
   regrades_seen tells a b end r = record {
-    before = r.before;
     between = seen_by_clock r.between;
-    worked = works-beside tells a r.between r.before r.worked;
+    before = passes-beside tells a r.between r.before;
     last = r.last;
     works = works-beside tells r.between b r.last r.works;
     sweeps = r.sweeps;
@@ -139,19 +145,27 @@ module _ {D L C : Type 0} (tells : C → ℕ → C → Type 0) (peer : L → Pee
   pub visit_served : (a b : Visitor) → ServesDoor (Asks tells Visiting) peer most (entrance door) (entrance door') (record { desk = a; clock = clock }) (record { desk = b; clock = clock' }) end
       → IsServed (serving_by tells peer entrance most) (record { place = (door, clock); visit = a; notes = None; end = was }) (record { place = (door', clock'); visit = b; notes = None; end = end })
   visit_served a b served = record {
-    going = serves_seen Visiting (λ (v : Visitor). seen_in v.passes) visit_beside tells peer most (entrance door) (entrance door') (record { desk = a; clock = clock }) (record { desk = b; clock = clock' }) end served;
+    going = seen;
+    as_often = door_faults tells peer most (entrance door) (entrance door') (record { desk = seen_in a.passes; clock = clock }) (record { desk = seen_in b.passes; clock = clock' }) end seen;
     goes_on = visit_goes a b (by_door Visiting tells peer most (entrance door) (entrance door') (record { desk = a; clock = clock }) (record { desk = b; clock = clock' }) end served);
     notes = quiet;
   }
+    where
+      seen : ServesDoor (Asks tells IsAskedBeside) peer most (entrance door) (entrance door') (record { desk = seen_in a.passes; clock = clock }) (record { desk = seen_in b.passes; clock = clock' }) end
+      seen = serves_seen Visiting (λ (v : Visitor). seen_in v.passes) visit_beside tells peer most (entrance door) (entrance door') (record { desk = a; clock = clock }) (record { desk = b; clock = clock' }) end served
 
   -- by a clerk
   pub clerk_served : (a b : Clerk) → ServesDoor (Asks tells Answers) peer most (entrance door) (entrance door') (record { desk = a; clock = clock }) (record { desk = b; clock = clock' }) end
       → IsServed (serving_by tells peer entrance most) (record { place = (door, clock); visit = a.visit; notes = Some a.notes; end = was }) (record { place = (door', clock'); visit = b.visit; notes = Some b.notes; end = end })
   clerk_served a b served = record {
-    going = serves_seen Answers clerk_seen clerk_beside tells peer most (entrance door) (entrance door') (record { desk = a; clock = clock }) (record { desk = b; clock = clock' }) end served;
+    going = seen;
+    as_often = door_faults tells peer most (entrance door) (entrance door') (record { desk = clerk_seen a; clock = clock }) (record { desk = clerk_seen b; clock = clock' }) end seen;
     goes_on = clerk-goes a b (by_door Answers tells peer most (entrance door) (entrance door') (record { desk = a; clock = clock }) (record { desk = b; clock = clock' }) end served);
     notes = noting a.notes b.notes served;
   }
+    where
+      seen : ServesDoor (Asks tells IsAskedBeside) peer most (entrance door) (entrance door') (record { desk = clerk_seen a; clock = clock }) (record { desk = clerk_seen b; clock = clock' }) end
+      seen = serves_seen Answers clerk_seen clerk_beside tells peer most (entrance door) (entrance door') (record { desk = a; clock = clock }) (record { desk = b; clock = clock' }) end served
 
 -- ---- a post where somebody regraded
 

@@ -1,5 +1,6 @@
 pub mod Counting
 pub mod Lists
+pub mod Faults
 pub mod Asking
 pub mod TakingUp
 pub mod Leaving

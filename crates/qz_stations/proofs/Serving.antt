@@ -15,7 +15,7 @@ use Rattle.qz_serial.proofs.Seats.{within_there}
 use Rattle.qz_catalog.specs.Keeping as records
 use Rattle.qz_school.specs.Solos.{IsSolo, School, school_of}
 use Rattle.qz_shard.specs.Keeping as part
-use Rattle.qz_regrading.specs.Loops.{Regrades}
+use Rattle.qz_regrading.specs.Loops.{HasRisenBy, Regrades}
 use Rattle.qz_terms.specs.declared.ask.Ask.{Ask}
 use Rattle.qz_terms.specs.declared.reply.Reply.{Reply}
 use Rattle.qz_turn.specs.Rule.{HasEvery, below}
@@ -27,7 +27,7 @@ use Rattle.qz_visit.specs.Visits.{Locks, Seats, Tellings, Visitor, lists_told, s
 use Rattle.qz_visit.proofs.Holding.{every_held, from_map, goes_self, holds_on, holds_opened, seats_opened}
 use Rattle.qz_visit.proofs.Opened.{has_below}
 use Rattle.qz_stations.specs.Posts.{AreAmong, AreEach, AreManned, HasGoneOn, HasRegraded, HoldTheirs, HoldsEvery, IsCounted, IsHeldBy, IsServed, TakesIn, TakesUp, seen_at}
-use Rattle.qz_stations.specs.Stations.{Post, RegradesBeside, RegradesOnce, Serving, ServesAt, ServesBeside, all_ends, at_place, end_of, no_end}
+use Rattle.qz_stations.specs.Stations.{Post, RegradesBeside, RegradesOnce, Serving, ServesAt, ServesBeside, all_ends, at_place, end_of, fault_replies, faults_told, no_end}
 use Rattle.qz_stations.proofs.Lists.{get_longer}
 use Rattle.qz_stations.proofs.TakingUp.{hold_theirs}
 
@@ -166,6 +166,11 @@ regraded_kept tells told Kept Known count to so = record {
 pub stands : {P : Type 0} (ps : List (Post P)) (rest places : List P) (k : ℕ) (p : Post P) → places ≡ map at_place ps ++ rest → slice_get ps k ≡ Some p → slice_get places k ≡ Some (at_place p)
 stands ps rest places k p is at = subst (λ (l : List _). slice_get l k ≡ Some (at_place p)) (sym is) (get_longer (map at_place ps) rest k (at_place p) (slice_get-map at_place ps k ∙ rw at refl))
 
+-- a door was served, and its replies were counted
+abbrev Goes : {D C : Type 0} (serves : Serving D C) (old new : D × C) (told seen : Tellings) (end : DoorEnd) → Type 0
+Goes serves old new told seen end =
+    (going : serves.serves old.0 new.0 (record { desk = told; clock = old.1 }) (record { desk = seen; clock = new.1 }) end) × HasRisenBy (faults_told told) (fault_replies (serves.replies going)) (faults_told seen)
+
 module _ {D C : Type 0} (s : Locks) (count : ℕ) (told : Tellings) (numbers : List ℕ) (old rest : List (D × C)) (passes : Seats) (taken : List (Post (D × C))) (so : TakesUp s told numbers old rest passes taken) (serves : Serving D C) (left : List (Post (D × C))) (served : AreEach (IsServed serves) taken left) where
   -- all doors were served, each for what its passes saw
   pub beside : (first last : Seats) (new : List (D × C)) (end : DoorEnd) → length taken ≡ count → new ≡ map at_place left ++ rest → end ≡ all_ends (map (λ (p : Post (D × C)). p.end) left) → TakesIn s first last left
@@ -190,16 +195,19 @@ module _ {D C : Type 0} (s : Locks) (count : ℕ) (told : Tellings) (numbers : L
           let q = from_map (λ (p : Post (D × C)). p.end) left k e at in
           let p = was s told numbers old rest passes taken so (IsServed serves) left served k q.0 q.1.0 in
           let is = so.taken k p.0 p.1.0 in
+          let seen = seen_in q.0.visit.passes in
+          let goes : Goes serves p.0.place q.0.place told seen e =
+          subst (Goes serves p.0.place q.0.place told seen) (sym q.1.1) (subst (λ (t : Tellings). Goes serves p.0.place q.0.place t seen q.0.end) is.seen (p.1.1.going, p.1.1.as_often)) in
           record {
             door = p.0.place.0;
             served = q.0.place.0;
             clock = p.0.place.1;
             ticked = q.0.place.1;
-            seen = seen_in q.0.visit.passes;
+            seen = seen;
             before = stands taken rest old k p.0 so.places p.1.0;
             after = stands left rest new k q.0 doors q.1.0;
-            going = subst (λ (x : DoorEnd). serves.serves p.0.place.0 q.0.place.0 (record { desk = told; clock = p.0.place.1 }) (record { desk = seen_in q.0.visit.passes; clock = q.0.place.1 }) x) (sym q.1.1)
-                (subst (λ (t : Tellings). serves.serves p.0.place.0 q.0.place.0 (record { desk = t; clock = p.0.place.1 }) (record { desk = seen_in q.0.visit.passes; clock = q.0.place.1 }) q.0.end) is.seen p.1.1.going);
+            going = goes.0;
+            as_often = goes.1;
             kept = takes.each k q.0 q.1.0;
           }
 
@@ -225,7 +233,7 @@ beside_kept serves told Kept Known count old new end to so = record {
   ends = so.ends;
   count_is = so.count_is;
   end_is = so.end_is;
-  each = λ k e at. let is = so.each k e at in record { door = is.door; served = is.served; clock = is.clock; ticked = is.ticked; seen = is.seen; before = is.before; after = is.after; going = is.going; kept = to is.seen is.kept };
+  each = λ k e at. let is = so.each k e at in record { door = is.door; served = is.served; clock = is.clock; ticked = is.ticked; seen = is.seen; before = is.before; after = is.after; going = is.going; as_often = is.as_often; kept = to is.seen is.kept };
   others = so.others;
   as_many = so.as_many;
 }

@@ -5,9 +5,9 @@ use Rattle.qz_doors.specs.declared.door.DoorEnd.{DoorEnd}
 use Rattle.qz_gather.specs.Clerks.{Answers}
 use Rattle.qz_gather.specs.Notes.{AreTrueOf}
 use Rattle.qz_regrading.specs.declared.ends.LoopEnd.{LoopEnd}
-use Rattle.qz_regrading.specs.Loops.{Regrades}
+use Rattle.qz_regrading.specs.Loops.{HasRisenBy, Regrades}
 use Rattle.qz_stations.specs.Noting.{NotesOn, clerk_sees, none_yet}
-use Rattle.qz_stations.specs.Stations.{Post, Serving, at_place, no_end, notes_at}
+use Rattle.qz_stations.specs.Stations.{Post, Serving, at_place, fault_replies, faults_told, no_end, notes_at}
 use Rattle.qz_turn.specs.Rule.{HasEvery}
 use Rattle.qz_visit.specs.Holding.{GoesOn, Holds}
 use Rattle.qz_visit.specs.Seeing.{FollowAll, IsAskedBeside}
@@ -95,6 +95,7 @@ pub record TakesIn {P : Type 0} (s : Locks) (old new : Seats) (stations : List (
 -- what serving a door did
 pub record IsServed {D C : Type 0} (serves : Serving D C) (old new : Post (D × C)) : Type 0 where
   pub going : serves.serves old.place.0 new.place.0 (record { desk = seen_in old.visit.passes; clock = old.place.1 }) (record { desk = seen_in new.visit.passes; clock = new.place.1 }) new.end
+  pub as_often : HasRisenBy (faults_told (seen_in old.visit.passes)) (fault_replies (serves.replies going)) (faults_told (seen_in new.visit.passes))
   pub goes_on : GoesOn old.visit new.visit
   pub notes : NotesOn (λ a b. serves.notes old.place.0 new.place.0 (record { desk = a; clock = old.place.1 }) (record { desk = b; clock = new.place.1 }) new.end) old.visit new.visit old.notes new.notes
 

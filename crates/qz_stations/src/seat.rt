@@ -13,7 +13,7 @@ use qz_disks::Keeper;
 use qz_doors::{DoorEnd, serve_door};
 use qz_gather::{Book, Clerk, Note};
 use qz_links::{Clock, Door};
-use qz_regrading::{Stop, regrade_loop};
+use qz_regrading::{Signal, regrade_loop};
 use qz_text::Listed;
 use qz_visit::{Passes, Visit};
 use std::alloc::Global;
@@ -74,11 +74,18 @@ impl<'s, 'r, K: Keeper, W: Wait> Seat<'s, 'r, K, W> {
         }
     }
 
-    /// Makes passes of a worker that regrades until `stop` is set, and one more.
-    pub(crate) fn regrade<C: Clock>(&mut self, rt: &W, alloc: Global, clock: &mut C, stop: &Stop)
-        ensures { HasRegraded C.tells
+    /// Makes passes of a worker that regrades until `stop` is seen set, and one more.
+    pub(crate) fn regrade<C: Clock, S: Signal>(
+        &mut self,
+        rt: &W,
+        alloc: Global,
+        clock: &mut C,
+        stop: &S,
+    )
+        ensures regraded { HasRegraded C.tells
             (record { place = clock.old; visit = visit_of self.old; notes = notes_of self.old; end = no_end })
             (record { place = clock.new; visit = visit_of self.new; notes = notes_of self.new; end = no_end }) }
+        ensures stopped { S.seen_set stop.now }
     {
         match self {
             Seat::Visit(visit) => regrade_loop(rt, alloc, visit, clock, stop),

@@ -14,7 +14,7 @@ use qz_disks::Keeper;
 use qz_doors::DoorEnd;
 use qz_gather::Note;
 use qz_links::{Clock, Door};
-use qz_regrading::Stop;
+use qz_regrading::Signal;
 use qz_text::Listed;
 use qz_visit::{Passes, Visit};
 use std::alloc::Global;
@@ -102,13 +102,14 @@ pub(crate) fn serve<K: Keeper, W: Wait, R: Door, C: Clock>(
     station.end = station.seat.serve(alloc, door, clock, links);
 }
 
-/// Makes passes of a worker that regrades until `stop` is set, and one more.
-pub(crate) fn regrade<K: Keeper, W: Wait, C: Clock>(
+/// Makes passes of a worker that regrades until `stop` is seen set, and one more.
+pub(crate) fn regrade<K: Keeper, W: Wait, C: Clock, S: Signal>(
     station: &mut Station<K, W, C>,
     alloc: Global,
-    stop: &Stop,
+    stop: &S,
 )
-    ensures { HasRegraded C.tells station.old station.new }
+    ensures regraded { HasRegraded C.tells station.old station.new }
+    ensures stopped { S.seen_set stop.now }
 {
     station
         .seat

@@ -51,10 +51,10 @@ written-status text before now (Some stop.Gap) written quiet = absurd written
 pub says_all : {D : Type 0} (disks : Disks D) (folder : List ℕ) (quiz : ℕ) (old new : Shelved) (before now : Sunk) (s : Option Stop) → StatsEnds disks folder quiz old new before now s → SaysAll old new before now (status_of s)
 says_all disks folder quiz old new before now s ends = record { done = λ sink shelf. by sink shelf ends.by }
   where
-    by : ¬ HasRisen before.faults now.faults → ¬ HasRisen old.faults new.faults → ServedFolder disks folder (λ a b. Analysed quiz before now s a b) old new ⊎ Unserved folder (Unit {0}) old new before now s
+    by : ¬ HasRisen before.faults now.faults → ¬ HasRisen old.faults new.faults → ServedFolder disks folder (λ a b. Analysed quiz before now s a b) old new ⊎ Unserved disks folder (Unit {0}) old new before now s
         → (status_of s ≡ 0) ⊎ ((status_of s ≡ 7) ⊎ (status_of s ≡ 8))
     by sink shelf (inl done) = elim (written-status _ before now s done.served.written sink) [ inl all ↦ inl all | inr wanting ↦ inr (inr wanting) ]
-    by sink shelf (inr not) = inr (unserved_status folder (Unit {0}) old new before now s not sink shelf)
+    by sink shelf (inr not) = inr (unserved_status disks folder (Unit {0}) old new before now s not sink shelf)
 
 pub unsaid : (folder : List ℕ) (old new : Shelved) (before now : Sunk) (s : Stop) → UnloadedBy folder old new before now s → SaysAll old new before now (status_of (Some s))
 unsaid folder old new before now s u = record { done = λ sink shelf. inr (not_raised folder old new before now s u sink shelf) }

@@ -77,6 +77,7 @@ fn say<O: Sink>(sink: &mut O, told: Result<String, NoMemory>) -> u8
 /// Writes how each slot of a quiz was answered in its finished attempts, over the school of a folder, of which no file is out, and answers
 /// the exit status. So many workers, at least one, replay the records at once; what is written is the same for every number.
 ///
+/// Where the files stand for the lists of a school it is the school of these, unless a fault or want of memory keeps it from being opened.
 /// A quiz of which no attempt is finished, or that isn't there, has no line. With status 7 the files don't give a school, and one line says
 /// why; with status 6 the shelf failed, or the disk of a file, and with 8 memory was wanting: nothing was written. With status 5 the sink
 /// failed behind a front of the lines. Afterwards each file is given back, and stands for its list.

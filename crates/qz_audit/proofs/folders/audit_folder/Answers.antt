@@ -14,7 +14,7 @@ pub returns-in-Ok-clause-ended : goal.returns-in-Ok-clause-ended
 returns-in-Ok-clause-ended g c =
     let e = rw c.in-Ok.ensures.unwritten at c.say_audited.ensures in
     let back = given_back _ _ _ _ _ _ _ _ (λ name. g.met.F.Shelf.tells_alike c.args.shelf.now c.close.new.shelf (place c.args.folder.now name) (c.requires.none_out.each name) (c.close.ensures.none_out.each name)) c.in-Ok.ensures.loaded c.in-Ok.ensures.others c.open_school.ensures.later (audit_count _ _ _ _ _ _ _ _ _ c.audit_school-school.result.1 c.audit_school-school.ensures) (audit_later _ _ _ _ _ _ _ _ _ c.audit_school-school.result.1 c.audit_school-school.ensures) c.close.ensures.catalog c.close.ensures.parts c.close.ensures.school c.close.ensures.others c.close.ensures.faults in
-    record { stop = e.stop; status_is = e.status_is; cause = served_ends _ _ _ _ _ _ _ _ _ _ e.stop back (audited_of _ _ _ _ _ _ _ _ _ _ _ _ _ c.audit_school-school.result.1 e.stop c.audit_school-school.ensures back e.cause) c.close.ensures.none_out (omega (arith, c.open_school.ensures.later, c.close.ensures.faults.later)) }
+    record { stop = e.stop; status_is = e.status_is; cause = served_ends _ _ _ _ _ _ _ _ _ _ e.stop c.in-Ok.ensures.restarts back (audited_of _ _ _ _ _ _ _ _ _ _ _ _ _ c.audit_school-school.result.1 e.stop c.audit_school-school.ensures back e.cause) c.close.ensures.none_out (omega (arith, c.open_school.ensures.later, c.close.ensures.faults.later)) }
 
 pub returns-in-Ok-clause-complete : goal.returns-in-Ok-clause-complete
 returns-in-Ok-clause-complete g c =
@@ -28,7 +28,7 @@ pub returns-in-Err-clause-ended : goal.returns-in-Err-clause-ended
 returns-in-Err-clause-ended g c = record {
   stop = Some c.in-Err.stop;
   status_is = c.status.ensures;
-  cause = unloaded_ends _ _ _ _ _ _ _ _ c.in-Err.stop c.in-Err.ensures.unloaded refl c.open_school.ensures.later;
+  cause = unloaded_ends _ _ _ _ _ _ _ _ c.in-Err.stop c.in-Err.ensures.unloaded c.in-Err.ensures.restarts refl c.open_school.ensures.later;
 }
 
 pub returns-in-Err-clause-complete : goal.returns-in-Err-clause-complete

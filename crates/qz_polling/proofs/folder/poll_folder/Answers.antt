@@ -20,7 +20,7 @@ returns-in-Ok-clause-ended g c =
     record {
       stop = e.stop;
       status_is = e.status_is;
-      cause = served_ends _ _ _ _ _ _ _ _ _ _ e.stop back
+      cause = served_ends _ _ _ _ _ _ _ _ _ _ e.stop c.in-Ok.ensures.restarts back
           (polled_so _ _ _ _ _ (λ d. record { door = d; entrance = entrance_by g.P.ReadyDoor.left g.P.ReadyDoor.returned g.P.ReadyDoor.returns g.P.ReadyDoor.out g.P.ReadyDoor.faults d }) _ _ _ _ _ _ c.poll_school-school.result.1 e.stop closes c.poll_school-school.ensures.served e.cause)
           c.close.ensures.none_out (omega (arith, c.open_school.ensures.later, c.close.ensures.faults.later));
     }
@@ -34,7 +34,7 @@ pub returns-in-Err-clause-ended : goal.returns-in-Err-clause-ended
 returns-in-Err-clause-ended g c = record {
   stop = Some c.in-Err.stop;
   status_is = c.status.ensures;
-  cause = unloaded_ends _ _ _ _ _ _ _ _ c.in-Err.stop c.in-Err.ensures.unloaded refl c.open_school.ensures.later;
+  cause = unloaded_ends _ _ _ _ _ _ _ _ c.in-Err.stop c.in-Err.ensures.unloaded c.in-Err.ensures.restarts refl c.open_school.ensures.later;
 }
 
 pub returns-in-Err-clause-complete : goal.returns-in-Err-clause-complete

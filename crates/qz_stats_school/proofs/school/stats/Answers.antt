@@ -18,7 +18,7 @@ returns-in-Ok-clause-ended g c =
     record {
       stop = e.stop;
       status_is = e.status_is;
-      cause = served_ends _ _ _ _ _ _ _ _ a b e.stop back (record { same = same; written = said-written c.told-told.result _ _ _ e.stop told e.cause }) c.close.ensures.none_out (omega (arith, c.open_school.ensures.later, c.close.ensures.faults.later));
+      cause = served_ends _ _ _ _ _ _ _ _ a b e.stop c.in-Ok.ensures.restarts back (record { same = same; written = said-written c.told-told.result _ _ _ e.stop told e.cause }) c.close.ensures.none_out (omega (arith, c.open_school.ensures.later, c.close.ensures.faults.later));
     }
 
 pub returns-in-Ok-clause-complete : goal.returns-in-Ok-clause-complete
@@ -30,7 +30,7 @@ pub returns-in-Err-clause-ended : goal.returns-in-Err-clause-ended
 returns-in-Err-clause-ended g c = record {
   stop = Some c.in-Err.stop;
   status_is = c.status.ensures;
-  cause = unloaded_ends _ _ _ _ _ _ _ _ c.in-Err.stop c.in-Err.ensures.unloaded tt c.open_school.ensures.later;
+  cause = unloaded_ends _ _ _ _ _ _ _ _ c.in-Err.stop c.in-Err.ensures.unloaded c.in-Err.ensures.restarts tt c.open_school.ensures.later;
 }
 
 pub returns-in-Err-clause-complete : goal.returns-in-Err-clause-complete
