@@ -1,5 +1,6 @@
 -- A school whose lists keepers keep: what it is seen as, what it keeps, and what its keepers do.
-use Rattle.std.specs.Prelude.{◌≡◌, ℕ, ◌+◌, ◌<◌, List, length, map, slice_get, sum_by, Some}
+use Rattle.std.specs.List.{AllZip}
+use Rattle.std.specs.Prelude.{◌≡◌, ℕ, ◌+◌, ◌<◌, true, List, length, map, slice_get, sum_by, is_some, Some}
 use Rattle.qz_catalog.specs.Keeping as records
 use Rattle.qz_keeper.specs.Lists.{EachMayStand}
 use Rattle.qz_keeper.specs.Recording.{GoesOn, HasFailed}
@@ -51,10 +52,16 @@ pub record AreSound {K : Type 0} (sound : K → Type 0) (a : School K) : Type 0 
   pub catalog : sound a.catalog.keeper
   pub parts : (k : ℕ) (s : part.Keeping K) → slice_get a.parts k ≡ Some s → sound s.keeper
 
--- one of them failed
-abbrev pub Fails : {K : Type 0} → (K → Type 0) → (K → ℕ) → School K → School K → Type 0
-Fails sound faults a b = HasFailed (AreSound sound a) (faults_of faults a) (faults_of faults b)
+-- A keeper failed: its list's count rose, it isn't sound, and a record of that list is in doubt since.
+pub data Fails {K : Type 0} (sound : K → Type 0) (faults : K → ℕ) (a b : School K) : Type 0 where
+  of_catalog : HasFailed (sound a.catalog.keeper) (faults a.catalog.keeper) (faults b.catalog.keeper) → is_some b.catalog.held.doubt ≡ true → Fails sound faults a b
+  of_shard : (k : ℕ) (s t : part.Keeping K) → slice_get a.parts k ≡ Some s → slice_get b.parts k ≡ Some t → HasFailed (sound s.keeper) (faults s.keeper) (faults t.keeper) → is_some t.held.doubt ≡ true → Fails sound faults a b
 
--- whatever became of a call
-abbrev pub GoOn : {K : Type 0} → (K → Type 0) → (K → ℕ) → School K → School K → Type 0
-GoOn sound faults a b = GoesOn (AreSound sound a) (AreSound sound b) (faults_of faults a) (faults_of faults b)
+-- whatever became of the calls at one shard
+abbrev pub PartGoesOn : {K : Type 0} → (K → Type 0) → (K → ℕ) → part.Keeping K → part.Keeping K → Type 0
+PartGoesOn sound faults s t = GoesOn (sound s.keeper) (sound t.keeper) (faults s.keeper) (faults t.keeper)
+
+-- whatever became of calls: at the catalogue, and at each shard at its place, of which there are as many
+pub record GoOn {K : Type 0} (sound : K → Type 0) (faults : K → ℕ) (a b : School K) : Type 0 where
+  pub catalog : GoesOn (sound a.catalog.keeper) (sound b.catalog.keeper) (faults a.catalog.keeper) (faults b.catalog.keeper)
+  pub parts : AllZip (PartGoesOn sound faults) a.parts b.parts

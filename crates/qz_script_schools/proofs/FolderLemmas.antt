@@ -21,8 +21,8 @@ use Rattle.qz_opening.specs.Unloaded.{IsUnloaded, UnloadedBy}
 use Rattle.qz_outside.specs.Causes.{HasRisen}
 use Rattle.qz_shard.specs.Keeping as part
 use Rattle.qz_school.specs.Answering.{IsServed}
-use Rattle.qz_school.specs.Solos.{Fails, GoOn, School, faults_of, held_of, lists_in}
-use Rattle.qz_school.proofs.Keepers.{go_both, go_none}
+use Rattle.qz_school.specs.Solos.{GoOn, School, faults_of, held_of, lists_in}
+use Rattle.qz_school.proofs.Keepers.{fails_in_all, go_both, go_none, goes_in_all}
 use Rattle.qz_serial.specs.Once.{AskedOnce}
 use Rattle.qz_serial.proofs.Staying.{asks_grow}
 use Rattle.qz_solo.specs.Standing.{StandAsSchool}
@@ -37,12 +37,17 @@ use Rattle.qz_script.proofs.ScriptLemmas.{serves_all}
 -- ---- as a desk
 
 -- a keeper that is said to have failed has counted it
-by_count : {K : Type 0} (sound : K → Type 0) (faults : K → ℕ) (a b : School K) (now : ℕ) (ask : Ask) (r : Reply) → AskedOnce (Fails sound faults a b) (lists_in a) (lists_in b) now ask r
-    → AskedOnce (HasRisen (faults_of faults a) (faults_of faults b)) (lists_in a) (lists_in b) now ask r
-by_count sound faults a b now ask r o = record { asks = o.asks; cause = λ told. (o.cause told).rose; stands = o.stands; stays = o.stays; again = o.again }
+by_count : {K : Type 0} (sound : K → Type 0) (faults : K → ℕ) (a b : School K) (now : ℕ) (ask : Ask) (r : Reply) → IsServed sound faults a b now ask r → AskedOnce (HasRisen (faults_of faults a) (faults_of faults b)) (lists_in a) (lists_in b) now ask r
+by_count sound faults a b now ask r s = record {
+  asks = s.once.asks;
+  cause = λ told. (fails_in_all sound faults a b s.goes_on (s.once.cause told)).rose;
+  stands = s.once.stands;
+  stays = s.once.stays;
+  again = s.once.again;
+}
 
 pub school_answers_once : {K : Type 0} (sound : K → Type 0) (faults : K → ℕ) → AnswersOnce lists_in (faults_of faults) (IsServed sound faults)
-school_answers_once sound faults = record { once = λ a b now ask r s. by_count sound faults a b now ask r s.once; later = λ a b now ask r s. s.goes_on.later }
+school_answers_once sound faults = record { once = by_count sound faults; later = λ a b now ask r s. (goes_in_all sound faults a b s.goes_on).later }
 
 -- ---- what requests leave
 
@@ -59,6 +64,9 @@ follows_count sound faults a b (asked _ m _ now ask r front last) = served-count
 pub follows_goes : {K : Type 0} (sound : K → Type 0) (faults : K → ℕ) (a b : School K) → Follows (IsServed sound faults) a b → GoOn sound faults a b
 follows_goes sound faults a _ (stays _) = go_none sound faults a
 follows_goes sound faults a b (asked _ m _ now ask r front last) = go_both sound faults a m b (follows_goes sound faults a m front) last.goes_on
+
+pub follows_later : {K : Type 0} (sound : K → Type 0) (faults : K → ℕ) (a b : School K) → Follows (IsServed sound faults) a b → faults_of faults a ≤ faults_of faults b
+follows_later sound faults a b on = (goes_in_all sound faults a b (follows_goes sound faults a b on)).later
 
 -- ---- the shelf
 

@@ -18,7 +18,7 @@ use Rattle.qz_serial.proofs.Seats.{set_same}
 use Rattle.qz_school.specs.Answering.{IsServed}
 use Rattle.qz_solo.specs.Memory.{AreClear, is_memory}
 use Rattle.qz_school.specs.Solos.{AreSound, School, held_of, lists_in}
-use Rattle.qz_school.proofs.Keepers.{get_set}
+use Rattle.qz_school.proofs.Keepers.{fails_in_all, get_set}
 use Rattle.qz_solo.proofs.Standing.{held_there, lists_part}
 
 -- ---- a mending of them does nothing
@@ -80,7 +80,7 @@ followed a b now ask r clear once some =
 pub sound_once : {K : Type 0} (sound : K → Type 0) (faults : K → ℕ) (a b : School K) (now : ℕ) (ask : Ask) (r : Reply) → AreSound sound a → IsServed sound faults a b now ask r → AskedOnce ⊥ (lists_in a) (lists_in b) now ask r
 sound_once sound faults a b now ask r is served = record {
   asks = served.once.asks;
-  cause = λ told. (served.once.cause told).unsound is;
+  cause = λ told. (fails_in_all sound faults a b served.goes_on (served.once.cause told)).unsound is;
   stands = served.once.stands;
   stays = served.once.stays;
   again = served.once.again;

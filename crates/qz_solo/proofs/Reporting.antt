@@ -29,14 +29,14 @@ use Rattle.qz_serial.specs.Calls.{LookEnds, looked, unlooked, unread}
 use Rattle.qz_serial.specs.Once.{AskedOnce}
 use Rattle.qz_serial.specs.Paths.{IsKnown}
 use Rattle.qz_serial.specs.Reports.{IsReporting, MendedUpTo, with_parts}
-use Rattle.qz_serial.proofs.Composing.{calls_mean, look_ends}
+use Rattle.qz_serial.proofs.Composing.{look_ends}
 use Rattle.qz_serial.proofs.Reports.{one_more, one_zip, reports_law}
 use Rattle.qz_serial.proofs.Seats.{set_apart, set_get}
 use Rattle.qz_school.specs.Answering.{IsServed, MayBeAsked, PartLooks}
 use Rattle.qz_school.specs.Reports.{PartsRead, RowsAre, RowsStop, all_rows, rows_in, short, untold}
 use Rattle.qz_school.specs.Solos.{Fails, IsSolo, School, held_of, lists_in}
 use Rattle.qz_school.proofs.Calls.{look_told, stands_mended}
-use Rattle.qz_school.proofs.Keepers.{fails_part, fails_then, get_set, go_both, go_none, go_part}
+use Rattle.qz_school.proofs.Keepers.{call_blames, fails_part, fails_then, get_set, go_both, go_none, go_part}
 use Rattle.qz_solo.proofs.Serving.{askable}
 use Rattle.qz_solo.proofs.Standing.{count_held, held_set, held_there}
 use Rattle.qz_school.proofs.Rows.{EachLegal}
@@ -236,7 +236,7 @@ report_stopped sound faults c ss gs now ask user quiz policy r w (untold i mid s
     let worse = Fails sound faults a b in
     let go = read.goes_on c in
     let says = Looks (part.TellsRows quiz policy) in
-    let call_so = (calls_mean failed worse (λ r. Err r) says says).each s.held g.held (Err r) (λ why. fails_then sound faults a m b go (fails_part sound faults c mid i s g is why)) (λ h t l x. x) call.call in
+    let call_so = call_blames failed worse (λ r. Err r) says says s.held g.held (Err r) (λ why. fails_then sound faults a m b go (fails_part sound faults c mid i s g is why)) (λ h t l x. x) call.call in
     let once = (reports_law worse).rows (lists_in a) c.held s.held g.held (held_of mid) i now ask user quiz (rows_in quiz policy) (Err r) (reporting c ss ask now user quiz w) read.mended (held_there mid i s is) call_so in
     subst (λ (ps : List (part.Keeping _)). IsServed sound faults (record { catalog = c; parts = ss }) (record { catalog = c; parts = ps }) now ask (reply.Refused r)) (sym same) (record {
       once = subst (λ (l : Lists). AskedOnce worse (lists_in a) l now ask (reply.Refused r)) (ap (with_parts c.held) (sym (held_set mid i g))) once;

@@ -28,7 +28,7 @@ use Rattle.qz_serial.proofs.Tokens.{tokens_law}
 use Rattle.qz_school.specs.Answering.{IsServed, MayBeAsked, PartAnswers, PartTells, Serves}
 use Rattle.qz_school.specs.Planning.{asks_shard}
 use Rattle.qz_school.specs.Solos.{Fails, IsSolo, School, held_of, lists_in}
-use Rattle.qz_school.proofs.Keepers.{fails_part, fails_records, fails_then, go_both, go_none, go_part, go_records}
+use Rattle.qz_school.proofs.Keepers.{call_blames, fails_part, fails_records, fails_then, go_both, go_none, go_part, go_records}
 use Rattle.qz_solo.proofs.Standing.{count_held, held_there, lists_both}
 
 pub askable : {K : Type 0} (c : records.Keeping K) (ss : List (part.Keeping K)) (ask : Ask) (now : ℕ) → IsSolo c ss → MayBeAsked ask now → let a : School K = record { catalog = c; parts = ss } in IsAskable (lists_in a) ask
@@ -50,7 +50,7 @@ user-told sound faults c d ss now ask token told solo may by call =
     let b : School _ = record { catalog = d; parts = ss } in
     let failed = HasFailed (sound c.keeper) (faults c.keeper) (faults d.keeper) in
     (tokens_law (Fails sound faults a b)).user (lists_in a) d.held now ask token told (askable c ss ask now solo may) by
-    ((calls_mean failed (Fails sound faults a b) (λ r. Err r) (Looks (FindsUser token)) (Looks (FindsUser token))).each c.held d.held told (fails_records sound faults c d ss) (λ h t g is. is) call.call)
+    (call_blames failed (Fails sound faults a b) (λ r. Err r) (Looks (FindsUser token)) (Looks (FindsUser token)) c.held d.held told (fails_records sound faults c d ss) (λ h t g is. is) call.call)
 
 pub user_untold : {K : Type 0} (sound : K → Type 0) (faults : K → ℕ) (c d : records.Keeping K) (ss : List (part.Keeping K)) (now : ℕ) (ask : Ask) (token : List ℕ) (r : Refusal) → IsSolo c ss → MayBeAsked ask now → ask.caller ≡ caller.Token token
     → RecordsAnswer sound faults (λ r. Err r) (Looks (FindsUser token)) c d (Err r) → IsServed sound faults (record { catalog = c; parts = ss }) (record { catalog = d; parts = ss }) now ask (reply.Refused r)
@@ -99,7 +99,7 @@ records_served sound faults c d ss now ask user told solo may known of_catalog c
     let failed = HasFailed (sound c.keeper) (faults c.keeper) (faults d.keeper) in
     record {
       once = (tokens_law (Fails sound faults a b)).records (lists_in a) c.held d.held now ask user told (askable c ss ask now solo may) known of_catalog
-          ((calls_mean failed (Fails sound faults a b) reply.Refused (records.IsTold now user ask) (CatalogAnswers now user ask)).each c.held d.held told (fails_records sound faults c d ss) (λ h t g is. (is.reply, is.list)) call.call);
+          (call_blames failed (Fails sound faults a b) reply.Refused (records.IsTold now user ask) (CatalogAnswers now user ask) c.held d.held told (fails_records sound faults c d ss) (λ h t g is. (is.reply, is.list)) call.call);
       goes_on = go_records sound faults c d ss call.goes_on;
     }
 
@@ -161,7 +161,7 @@ part_served sound faults c ss k s g now ask user told solo is may known goes cal
       among = subst (λ (n : ℕ). refusal_among c.held.list n user ask.request ≡ None) (sym (count_held ss)) goes.among;
       part = subst (λ (n : ℕ). part_of n user ask.request ≡ k) (sym (count_held ss)) goes.part_is;
     } in
-    let other = (calls_mean failed worse reply.Refused (ShardAnswers c.held.list now user ask) (ShardAnswers c.held.list now user ask)).each s.held g.held told (fails_part sound faults c ss k s g is) (λ h t l x. x) call.call in
+    let other = call_blames failed worse reply.Refused (ShardAnswers c.held.list now user ask) (ShardAnswers c.held.list now user ask) s.held g.held told (fails_part sound faults c ss k s g is) (λ h t l x. x) call.call in
     record {
       once = subst (λ (l : Lists). AskedOnce worse (lists_in a) l now ask told) (sym (lists_both c c ss k g))
           ((tokens_law worse).shard (lists_in a) c.held s.held g.held k now ask user told (askable c ss ask now solo may) known going (held_there ss k s is) other);

@@ -10,6 +10,7 @@ use Rattle.qz_grading.specs.declared.refusal.Thing.TheVariants as thing
 use Rattle.qz_grading.specs.Behaviours.{first_some}
 use Rattle.qz_keeper.specs.Lists.{EachMayStand, IsSettled, Looks, OneCall}
 use Rattle.qz_keeper.specs.Recording.{GoesOn, HasFailed}
+use Rattle.qz_keeper.proofs.Calls.{call_doubts}
 use Rattle.qz_shard.specs.Keeping as part
 use Rattle.qz_terms.specs.declared.ask.Ask.{Ask}
 use Rattle.qz_terms.specs.declared.people.Caller.TheVariants as caller
@@ -33,14 +34,14 @@ use Rattle.qz_serial.specs.Once.{AskedOnce}
 use Rattle.qz_serial.specs.Paths.{with_both, with_part}
 use Rattle.qz_serial.specs.Workers.{FindsJob, FindsPlan, IsWorkers}
 use Rattle.qz_serial.proofs.Acting.{asked_once}
-use Rattle.qz_serial.proofs.Composing.{calls_mean, look_ends, looks_are_calls}
+use Rattle.qz_serial.proofs.Composing.{look_ends, looks_are_calls}
 use Rattle.qz_serial.proofs.Seats.{all_stay, set_get, set_twice}
 use Rattle.qz_serial.proofs.Settling.{settling_law}
 use Rattle.qz_serial.proofs.Workers.{workers_law}
 use Rattle.qz_school.specs.Answering.{IsServed, MayBeAsked, PartAnswers, PartLooks}
 use Rattle.qz_school.specs.Solos.{Fails, GoOn, IsSolo, School, held_of, lists_in}
 use Rattle.qz_school.proofs.Calls.{look_told, means_there, stand_as}
-use Rattle.qz_school.proofs.Keepers.{fails_part, fails_records, fails_then, go_both, go_none, go_part, go_records}
+use Rattle.qz_school.proofs.Keepers.{call_blames, fails_part, fails_records, fails_then, go_both, go_none, go_part, go_records}
 use Rattle.qz_school.proofs.Planning.{plan_there}
 use Rattle.qz_solo.proofs.Serving.{RecordsAnswer, askable}
 use Rattle.qz_solo.proofs.Standing.{count_held, held_there, lists_both, lists_part}
@@ -86,7 +87,7 @@ jobs_served sound faults c d ss now ask told solo may by is call =
     let failed = HasFailed (sound c.keeper) (faults c.keeper) (faults d.keeper) in
     record {
       once = (workers_law (Fails sound faults a b)).jobs (lists_in a) d.held now ask told (worker_asks c ss ask now request.Jobs solo may by is)
-          ((calls_mean failed (Fails sound faults a b) reply.Refused (records.IsTold now worker ask) (CatalogAnswers now worker ask)).each c.held d.held told (fails_records sound faults c d ss) (λ h t g says. (says.reply, says.list)) call.call);
+          (call_blames failed (Fails sound faults a b) reply.Refused (records.IsTold now worker ask) (CatalogAnswers now worker ask) c.held d.held told (fails_records sound faults c d ss) (λ h t g says. (says.reply, says.list)) call.call);
       goes_on = go_records sound faults c d ss call.goes_on;
     }
 
@@ -113,7 +114,7 @@ live_served sound faults c ss k s g now ask shard attempt told solo there may by
     record {
       once = subst (λ (l : Lists). AskedOnce worse (lists_in a) l now ask told) (sym (lists_part c ss k g))
           ((workers_law worse).live (lists_in a) s.held g.held now ask k attempt told (worker_asks c ss ask now (request.Live k attempt) solo may by own) (held_there ss k s there)
-          ((calls_mean failed worse reply.Refused says says).each s.held g.held told (fails_part sound faults c ss k s g there) (λ h t l x. x) call.call));
+          (call_blames failed worse reply.Refused says says s.held g.held told (fails_part sound faults c ss k s g there) (λ h t l x. x) call.call));
       goes_on = go_part sound faults c ss k s g there call.goes_on;
     }
 
@@ -126,11 +127,13 @@ finds-job c number shard (Err r) legal is = job_absent c number shard legal is.1
 finds-same : (c : List Record) (x y : Request) (told : Result Job Refusal) → x ≡ y → FindsJob y c told → FindsJob x c told
 finds-same c x y told is finds = subst (λ (z : Request). FindsJob z c told) (sym is) finds
 
-job-call : {K : Type 0} (sound : K → Type 0) (faults : K → ℕ) (worse : Type 0) (c d : records.Keeping K) (x : Request) (number shard : ℕ) (told : Result Job Refusal) → (HasFailed (sound c.keeper) (faults c.keeper) (faults d.keeper) → worse) → x ≡ request.Work number shard → EachMayStand IsLegalCatalog c.held
+job-call : {K : Type 0} (sound : K → Type 0) (faults : K → ℕ) (worse : Type 0) (c d : records.Keeping K) (x : Request) (number shard : ℕ) (told : Result Job Refusal) → (HasFailed (sound c.keeper) (faults c.keeper) (faults d.keeper) × (is_some d.held.doubt ≡ true) → worse) → x ≡ request.Work number shard → EachMayStand IsLegalCatalog c.held
     → RecordsAnswer sound faults (λ r. Err r) (Looks (records.TellsJob number)) c d told → OneCall worse (λ r. Err r) (Looks (FindsJob x)) c.held d.held told
 job-call sound faults worse c d x number shard told to is legal call =
-    means_there (HasFailed (sound c.keeper) (faults c.keeper) (faults d.keeper)) worse (λ r. Err r) (Looks (records.TellsJob number)) (Looks (FindsJob x)) c.held d.held told to
-    (stand_as (λ h. (t : Result Job Refusal) (g : List Record) → Looks (records.TellsJob number) h t g → Looks (FindsJob x) h t g) IsLegalCatalog c.held (λ h own t g says. (finds-same h x (request.Work number shard) t is (finds-job h number shard t own says.0), says.1)) legal) call.call
+    let failed = HasFailed (sound c.keeper) (faults c.keeper) (faults d.keeper) in
+    means_there (failed × (is_some d.held.doubt ≡ true)) worse (λ r. Err r) (Looks (records.TellsJob number)) (Looks (FindsJob x)) c.held d.held told to
+    (stand_as (λ h. (t : Result Job Refusal) (g : List Record) → Looks (records.TellsJob number) h t g → Looks (FindsJob x) h t g) IsLegalCatalog c.held (λ h own t g says. (finds-same h x (request.Work number shard) t is (finds-job h number shard t own says.0), says.1)) legal)
+    (call_doubts failed (λ r. Err r) (Looks (records.TellsJob number)) c.held d.held told call.call)
 
 job-told : {K : Type 0} (sound : K → Type 0) (faults : K → ℕ) (c d : records.Keeping K) (ss : List (part.Keeping K)) (now : ℕ) (ask : Ask) (number shard : ℕ) (told : Result Job Refusal) → IsSolo c ss → MayBeAsked ask now → ask.caller ≡ caller.Worker → ask.request ≡ request.Work number shard → EachMayStand IsLegalCatalog c.held
     → RecordsAnswer sound faults (λ r. Err r) (Looks (records.TellsJob number)) c d told
@@ -173,8 +176,8 @@ pub go_two : {K : Type 0} (sound : K → Type 0) (faults : K → ℕ) (c d : rec
     → GoOn sound faults (record { catalog = c; parts = ss }) (record { catalog = d; parts = slice_set ss k g })
 go_two sound faults c d ss k s g is first then = go_both sound faults (record { catalog = c; parts = ss }) (record { catalog = d; parts = ss }) (record { catalog = d; parts = slice_set ss k g }) (go_records sound faults c d ss first) (go_part sound faults d ss k s g is then)
 
-pub fails_second : {K : Type 0} (sound : K → Type 0) (faults : K → ℕ) (c d : records.Keeping K) (ss : List (part.Keeping K)) (k : ℕ) (s g : part.Keeping K) → slice_get ss k ≡ Some s → GoesOn (sound c.keeper) (sound d.keeper) (faults c.keeper) (faults d.keeper) → HasFailed (sound s.keeper) (faults s.keeper) (faults g.keeper)
-    → Fails sound faults (record { catalog = c; parts = ss }) (record { catalog = d; parts = slice_set ss k g })
+pub fails_second : {K : Type 0} (sound : K → Type 0) (faults : K → ℕ) (c d : records.Keeping K) (ss : List (part.Keeping K)) (k : ℕ) (s g : part.Keeping K) → slice_get ss k ≡ Some s → GoesOn (sound c.keeper) (sound d.keeper) (faults c.keeper) (faults d.keeper)
+    → HasFailed (sound s.keeper) (faults s.keeper) (faults g.keeper) × (is_some g.held.doubt ≡ true) → Fails sound faults (record { catalog = c; parts = ss }) (record { catalog = d; parts = slice_set ss k g })
 fails_second sound faults c d ss k s g is first why = fails_then sound faults (record { catalog = c; parts = ss }) (record { catalog = d; parts = ss }) (record { catalog = d; parts = slice_set ss k g }) (go_records sound faults c d ss first) (fails_part sound faults d ss k s g is why)
 
 pub work_served : {K : Type 0} (sound : K → Type 0) (faults : K → ℕ) (c d : records.Keeping K) (ss : List (part.Keeping K)) (k : ℕ) (s g : part.Keeping K) (now : ℕ) (ask : Ask) (number shard : ℕ) (job : Job) (told : Reply) → IsSolo c ss → slice_get ss k ≡ Some s → MayBeAsked ask now → ask.caller ≡ caller.Worker
@@ -190,7 +193,7 @@ work_served sound faults c d ss k s g now ask number shard job told solo there m
     record {
       once = subst (λ (l : Lists). AskedOnce worse (lists_in a) l now ask told) (sym (lists_both c d ss k g))
           ((workers_law worse).work (lists_in a) d.held s.held g.held now ask number k told (worker_asks c ss ask now (request.Work number k) solo may by own) found.settled (missing-none d.held.list ask.request number k job own found.is_job.job_is) (held_there ss k s there)
-          ((calls_mean failed worse reply.Refused says says).each s.held g.held told (fails_second sound faults c d ss k s g there on) (λ h t l x. x) call.call));
+          (call_blames failed worse reply.Refused says says s.held g.held told (fails_second sound faults c d ss k s g there on) (λ h t l x. x) call.call));
       goes_on = go_two sound faults c d ss k s g there on call.goes_on;
     }
 
@@ -228,7 +231,7 @@ quiz_unsettled sound faults c ss now ask attempt k s m r w call =
     let worse = Fails sound faults a b in
     let says = Looks (part.TellsQuiz attempt) in
     let once = (settling_law worse).quiz (lists_in a) s.held m.held now ask attempt (Err r) (settles c ss ask now attempt k s w) (own-held c ss ask now attempt k s w)
-    ((calls_mean failed worse (λ r. Err r) says says).each s.held m.held (Err r) (fails_part sound faults c ss k s m w.there) (λ h t l x. x) call.call) in
+    (call_blames failed worse (λ r. Err r) says says s.held m.held (Err r) (fails_part sound faults c ss k s m w.there) (λ h t l x. x) call.call) in
     record {
       once = subst (λ (l : Lists). AskedOnce worse (lists_in a) l now ask (reply.Refused r)) (ap (λ (j : ℕ). with_part (lists_in a) j m.held) (own-place c ss ask now attempt k s w) ∙ sym (lists_part c ss k m)) once;
       goes_on = go_part sound faults c ss k s m w.there call.goes_on;
@@ -264,7 +267,7 @@ plan_unsettled sound faults c d ss now ask attempt q k s m r w found on agree ca
     let worse = Fails sound faults a b in
     let go = go_part sound faults c ss k s m w.there on in
     let says = Looks (records.TellsPlan q attempt.user false) in
-    let other = (calls_mean failed worse (λ r. Err r) says says).each c.held d.held (Err r) (λ why. fails_then sound faults a n b go (fails_records sound faults c d ms why)) (λ h t l x. x) call.call in
+    let other = call_blames failed worse (λ r. Err r) says says c.held d.held (Err r) (λ why. fails_then sound faults a n b go (fails_records sound faults c d ms why)) (λ h t l x. x) call.call in
     let once = (settling_law worse).plan (lists_in a) s.held m.held d.held now ask attempt (Err r) (settles c ss ask now attempt k s w) (own-held c ss ask now attempt k s w) found.settled (some-start m.held.list attempt q (history.start m.held.list attempt) refl found.of_quiz)
     (plan-call worse c d m.held.list ask.request attempt q r agree found.of_quiz other) in
     record {
@@ -289,9 +292,9 @@ settle_served sound faults c d ss now ask attempt q k s m g told w found on mend
     let twice : slice_set ms k g ≡ gs = set_twice ss k m g in
     let go = go_both sound faults a n p (go_part sound faults c ss k s m w.there on) (go_records sound faults c d ms went) in
     let last : GoOn sound faults p b = subst (λ (l : List (part.Keeping _)). let z : School _ = record { catalog = d; parts = l } in GoOn sound faults p z) twice (go_part sound faults d ms k m g there call.goes_on) in
-    let fails : failed → Fails sound faults p b = λ why. subst (λ (l : List (part.Keeping _)). let z : School _ = record { catalog = d; parts = l } in Fails sound faults p z) twice (fails_part sound faults d ms k m g there why) in
+    let fails : failed × (is_some g.held.doubt ≡ true) → Fails sound faults p b = λ why. subst (λ (l : List (part.Keeping _)). let z : School _ = record { catalog = d; parts = l } in Fails sound faults p z) twice (fails_part sound faults d ms k m g there why) in
     let says = ShardAnswers d.held.list now worker ask in
-    let other = (calls_mean failed worse reply.Refused says says).each m.held g.held told (λ why. fails_then sound faults a p b go (fails why)) (λ h t l x. x) call.call in
+    let other = call_blames failed worse reply.Refused says says m.held g.held told (λ why. fails_then sound faults a p b go (fails why)) (λ h t l x. x) call.call in
     let once = (settling_law worse).settle (lists_in a) s.held m.held d.held g.held now ask attempt told (settles c ss ask now attempt k s w) (own-held c ss ask now attempt k s w) found.settled (some-start m.held.list attempt q (history.start m.held.list attempt) refl found.of_quiz) mended other in
     record {
       once = subst (λ (l : Lists). AskedOnce worse (lists_in a) l now ask told) (ap (λ (j : ℕ). with_both (lists_in a) d.held j g.held) (own-place c ss ask now attempt k s w) ∙ sym (lists_both c d ss k g)) once;

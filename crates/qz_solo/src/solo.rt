@@ -20,7 +20,8 @@ use std::marker::Model;
 /// user's shard is that with the user's number modulo the number of shards.
 ///
 /// A list that a request reads is mended first: the record in doubt, if there is one, is taken where its keeper keeps it, and else
-/// dropped. A request is refused with `KeepFault` only where a keeper failed in that very request.
+/// dropped. A request is refused with `KeepFault` only where the keeper of a list failed in that very request, and a record of that list is
+/// in doubt since.
 #[derive(Drop)]
 pub struct Solo<K: Keeper> {
     pub(crate) catalog: Catalog<K>,

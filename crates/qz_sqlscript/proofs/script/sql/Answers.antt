@@ -1,6 +1,6 @@
 use Rattle.std.proofs.Common.{Err, ◌∙◌, Some, ap, inl, inr, arith}
 use Rattle.std.proofs.KnownBytes.{Keeps-refl}
-use Rattle.qz_script_schools.proofs.FolderLemmas.{follows_count, follows_goes, school_answers_once}
+use Rattle.qz_script_schools.proofs.FolderLemmas.{follows_count, follows_later, school_answers_once}
 use Rattle.qz_script_schools.proofs.SoloLemmas.{takes_lines}
 use Rattle.qz_sqlfolders.proofs.Given.{elsewhere-both}
 use Rattle.qz_sqlscript.proofs.SqlLemmas.{answers_all, given_back, one_part}
@@ -18,10 +18,9 @@ close-requires-clause-one g c = follows_count _ _ _ _ c.serve-status.ensures.fol
 pub returns-in-Ok-clause-ended : goal.returns-in-Ok-clause-ended
 returns-in-Ok-clause-ended g c =
     let e = c.serve-status.ensures.ended in
-    let goes = follows_goes _ _ _ _ c.serve-status.ensures.follows in
     let steady = c.in-Ok.ensures.steady in
     let rise = rw steady at c.close.ensures.faults in
-    let back = given_back _ _ _ _ _ _ _ _ c.in-Ok.ensures.loaded c.close.ensures.stored goes.later rise in
+    let back = given_back _ _ _ _ _ _ _ _ c.in-Ok.ensures.loaded c.close.ensures.stored (follows_later _ _ _ _ c.serve-status.ensures.follows) rise in
     record {
       stop = e.stop;
       status_is = e.status_is;
