@@ -1,5 +1,5 @@
 -- A school that was served by clerks, whose notes were gathered.
-use Rattle.std.proofs.Common.{◌≡◌, ℕ, ◌+◌, ◌-◌, ◌≤◌, List, Option, Result, Ok, Err, length, refl, sym, ap, ◌∙◌, subst, arith}
+use Rattle.std.proofs.Common.{◌≡◌, ℕ, ◌+◌, ◌-◌, ◌≤◌, List, ◌++◌, Option, Result, Ok, Err, length, refl, sym, ap, ◌∙◌, subst, arith}
 use Rattle.qz_gather.specs.declared.note.Note.{Note}
 use Rattle.qz_gather.specs.Notes.{AreTrueOf}
 use Rattle.qz_gathering.specs.declared.gathering.GatherFault.{GatherFault}
@@ -12,10 +12,11 @@ use Rattle.qz_stations.specs.Noting.{AreBooksOf, ServesNoting}
 use Rattle.qz_stations.specs.Passing.{Lasts, ServesNone}
 use Rattle.qz_stations.specs.Stations.{Serving}
 use Rattle.qz_stations.proofs.Books.{noted_kept, works_kept}
+use Rattle.qz_stations.proofs.Putting.{grown_with}
 use Rattle.qz_stations.proofs.Serving.{beside_kept, regraded_kept}
 use Rattle.qz_terms.specs.Serial.{Lists}
 use Rattle.qz_visit.specs.declared.last.Last.{Last}
-use Rattle.qz_visit.specs.Closing.{Closes}
+use Rattle.qz_visit.specs.Closing.{Closes, HasGrownBy}
 use Rattle.qz_visit.specs.Opening.{told_by}
 use Rattle.qz_visit.specs.Visits.{Locks, Seats, Tellings, seen_in}
 use Rattle.qz_visit.proofs.Seeing.{closes_from}
@@ -31,7 +32,7 @@ finds a b base notes (Err (fault.Gap list place)) more g = g
 finds a b base notes (Err fault.Memory) more g = tt
 
 module _ {K D C : Type 0} (sound : K → Type 0) (faults : K → ℕ) (serves : Serving D C) (workers regraders : ℕ) (a left b : School K) (school : Locks) (passes : Seats) (base : Last) (old after new : List (D × C)) (end : DoorEnd) (books : List (List Note)) (last : Option LoopEnd)
-    (n : ServesNoting faults serves workers regraders a school passes base old after end books) (c : Closes faults (seen_in passes) left) where
+    (n : ServesNoting faults serves workers regraders a school passes base old after end books) (c : Closes faults (seen_in passes) left) (grown : HasGrownBy school passes left) where
   -- each list goes on from what it was
   pub goes_on : Closes faults (told_by faults a) left
   goes_on = closes_from faults (told_by faults a) (seen_in passes) left n.follows c
@@ -45,6 +46,7 @@ module _ {K D C : Type 0} (sound : K → Type 0) (faults : K → ℕ) (serves : 
       after = after;
       beside = beside_kept serves (told_by faults a) _ _ workers old after end (λ t on. closes_from faults t (seen_in passes) left on c) n.beside;
       regraded = regraded_kept serves.tells (told_by faults a) _ _ regraders (λ t on. closes_from faults t (seen_in passes) left on c) n.regraded;
+      grows = grown_with school a left passes (n.beside.lasts ++ n.regraded.lasts) n.starts n.own grown n.puts;
       last = lasts;
     };
     books = books;

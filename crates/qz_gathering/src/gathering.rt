@@ -3,7 +3,7 @@
 ghost use Rattle.qz_gather.specs.Notes.{AreTrueOf};
 ghost use Rattle.qz_gathering.specs.Gathering.{EachTrueOf, Gathers, all_notes};
 ghost use Rattle.qz_school.specs.Solos.{lists_in};
-ghost use Rattle.qz_visit.specs.Closing.{ArePasses, Closes, HasFounding, HaveEvery};
+ghost use Rattle.qz_visit.specs.Closing.{ArePasses, Closes, HasFounding, HasGrownBy, HaveEvery};
 ghost use Rattle.qz_visit.specs.Opening.{told_by};
 ghost use Rattle.qz_visit.specs.Visits.{seen_in};
 
@@ -30,7 +30,8 @@ pub enum GatherFault {
 /// `base` tells how many records of each list were there before anything was asked.
 ///
 /// All notes come back, one's after the other's, where each place behind those of `base` has a note that speaks for it. Where memory was wanting
-/// or there is a gap, the school is closed all the same, and each note is true of its lists.
+/// or there is a gap, the school is closed all the same, and each note is true of its lists. Each list is longer by what the turns of its pass
+/// put.
 pub fn gather<K: Keeper>(
     alloc: Global,
     school: School<K>,
@@ -43,6 +44,7 @@ pub fn gather<K: Keeper>(
     requires founded { HasFounding school passes.seats }
     requires true_of { EachTrueOf (seen_in passes.seats) books.items }
     ensures closes { Closes K.faults (seen_in passes.seats) result.0 }
+    ensures grown { HasGrownBy school passes.seats result.0 }
     ensures true_of { AreTrueOf (told_by K.faults result.0) (all_notes books.items) }
     ensures gathers { Gathers (lists_in result.0) base.now (all_notes books.items) result.1 }
 {

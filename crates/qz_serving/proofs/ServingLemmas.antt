@@ -5,6 +5,7 @@ use Rattle.std.specs.List.{list_any}
 use Rattle.std.proofs.lemmas.Bool.{true≢false}
 use Rattle.std.proofs.lemmas.List.{length-map}
 use Rattle.std.proofs.lemmas.List.Sums.{sum_by-cons}
+use Rattle.std.proofs.lemmas.Option.{slice_get_within}
 use Rattle.std.proofs.lemmas.Slice.Eq.{bytes_eq-Decides}
 use Rattle.qz_catalog_turns.specs.Turning.{tale_of}
 use Rattle.qz_disks.specs.Shelves.{ChangesAt, Files, NoneOutIn, Place, place}
@@ -24,8 +25,9 @@ use Rattle.qz_regrading.specs.Loops.{AllDone}
 use Rattle.qz_regrading.specs.Loops as loops
 use Rattle.qz_regrading.proofs.Searching.{regrades_follow}
 use Rattle.qz_script_schools.specs.Folders.{Disks, FolderEnds, IsGivenBack, ServedFolder, Unserved, disk_faults, journal_faults}
-use Rattle.qz_script_schools.proofs.FolderLemmas.{follows_count, follows_goes, not_raised, unloaded-for, unserved_status}
+use Rattle.qz_script_schools.proofs.FolderLemmas.{follows_count, follows_later, not_raised, unloaded-for, unserved_status}
 use Rattle.qz_shard.specs.Keeping as part
+use Rattle.qz_serial.proofs.Seats.{within_there}
 use Rattle.qz_school.specs.Answering.{IsServed}
 use Rattle.qz_school.specs.Solos.{School, faults_of, lists_in}
 use Rattle.qz_stations.specs.declared.ends.ServeEnd.{ServeEnd}
@@ -37,7 +39,7 @@ use Rattle.qz_turn.specs.declared.view.Tale.{Tale}
 use Rattle.qz_visit.specs.Closing.{AreClosed, Closes}
 use Rattle.qz_visit.specs.Closing as closing
 use Rattle.qz_visit.specs.Opening.{tales, told_by}
-use Rattle.qz_visit.specs.Visits.{Tellings}
+use Rattle.qz_visit.specs.Visits.{Seats, Tellings, seen_in}
 use Rattle.qz_serving.specs.Folders.{DoorsFolderEnds, NoneServed, RisesAsOften, ServedDoors, ServedTogether, ServesDoors}
 use Rattle.qz_served.specs.declared.saying.Served.{Served}
 use Rattle.qz_served.specs.Saying.{SaysServed}
@@ -88,7 +90,7 @@ lasts_count tells sound faults regraders a b doors after (Some end) is = follows
 
 lasts_later : {K R C : Type 0} (tells : C → ℕ → C → Type 0) (sound : K → Type 0) (faults : K → ℕ) (regraders : ℕ) (a b : School K) (doors after : List (R × C)) (last : Option LoopEnd) → Lasts tells sound faults regraders a b doors after last → faults_of faults a ≤ faults_of faults b
 lasts_later tells sound faults regraders a b doors after None is = let same = ap (λ (x : School _). faults_of faults x) is.1 in omega (arith, same)
-lasts_later tells sound faults regraders a b doors after (Some end) is = (follows_goes sound faults a b (regrades_follow tells (IsServed sound faults) lists_in _ _ end is.1.regrades)).later
+lasts_later tells sound faults regraders a b doors after (Some end) is = follows_later sound faults a b (regrades_follow tells (IsServed sound faults) lists_in _ _ end is.1.regrades)
 
 clock_count : {R C : Type 0} (clock : C) (doors : List (R × C)) → length (with_clock clock doors) ≡ length doors
 clock_count clock [] = refl
@@ -149,13 +151,17 @@ faulty (e ∷ es) some = by e.fault refl (faulty es)
 
 -- what failed at a door shows in its count
 abbrev pub Counts : {R C : Type 0} → Serving R C → (R → ℕ) → Type 0
-Counts {R} {C} serves faults = (door served : R) (a b : Answerer Tellings C) (end : DoorEnd) → serves.serves door served a b end → end.fault ≡ true → HasRisen (faults door) (faults served)
+Counts {R} {C} serves faults = (door served : R) (a b : Answerer Seats C) (end : DoorEnd) → serves.serves door served a b end → end.fault ≡ true → HasRisen (faults door) (faults served)
 
 pub none_failed : {K R C : Type 0} (sound : K → Type 0) (count : K → ℕ) (serves : Serving R C) (faults : R → ℕ) (workers regraders : ℕ) (a b : School K) (doors after : List (R × C)) (end : ServeEnd) → Counts serves faults
     → ServesSchool sound count serves workers regraders a b doors after end → NoDoorFails faults doors after → end.doors.fault ≡ true → ⊥
 none_failed sound count serves faults workers regraders a b doors after end counts so quiet failed =
     let one = faulty so.beside.ends (sym (ap (λ (e : DoorEnd). e.fault) so.beside.end_is) ∙ failed) in
-    let here = so.beside.each one.place one.end one.there in
+    let within = slice_get_within so.beside.ends one.place one.end one.there in
+    let many = so.beside.count_is in
+    let long = so.beside.lasts_are in
+    let its = within_there so.beside.lasts one.place (omega (arith, within, many, long)) in
+    let here = so.beside.each one.place one.end its.0 one.there its.1 in
     let last = lasts_door serves.tells sound count regraders so.left b so.after after end.last so.last here.ticked one.place here.served here.after in
     quiet.each one.place (here.door, here.clock) (here.served, last.clock) here.before last.there (counts here.door here.served _ _ one.end here.going one.failed)
 
@@ -219,11 +225,11 @@ module _ {D R C : Type 0} (disks : Disks D) (workers regraders : ℕ) (serves : 
       last : disk_faults disks so.left ≤ disk_faults disks b
       last = lasts_later serves.tells (IsSound disks.sound) (journal_faults disks) regraders so.left b so.after after end.last so.last
 
-      each : (k : ℕ) (e : DoorEnd) (there : slice_get so.beside.ends k ≡ Some e) → loops.HasRisenBy old.faults (fault_replies (serves.replies (so.beside.each k e there).going)) new.faults
-      each k e there =
-          let at = so.beside.each k e there in
+      each : (k : ℕ) (e : DoorEnd) (p : Seats) (there : slice_get so.beside.ends k ≡ Some e) (its : slice_get so.beside.lasts k ≡ Some p) → loops.HasRisenBy old.faults (fault_replies (serves.replies (so.beside.each k e p there its).going)) new.faults
+      each k e p there its =
+          let at = so.beside.each k e p there its in
           let first = told-faults (journal_faults disks) a in
-          let seen = seen-later (journal_faults disks) at.seen so.left at.kept in
+          let seen = seen-later (journal_faults disks) (seen_in p) so.left at.kept in
           back.as_often (fault_replies (serves.replies at.going)) (λ few. let more = at.as_often (omega (arith, seen, last, few)) in omega (arith, more, first, seen, last))
 
   -- what was served, and what was said of it

@@ -13,13 +13,13 @@ use Rattle.qz_school.specs.Solos.{School, lists_in}
 use Rattle.qz_stations.specs.declared.ends.ServeEnd.{ServeEnd}
 use Rattle.qz_stations.specs.Passing.{ServesNone, ServesSchool}
 use Rattle.qz_stations.specs.Stations.{Serving, ServesBeside, fault_replies}
-use Rattle.qz_visit.specs.Visits.{Tellings}
+use Rattle.qz_visit.specs.Visits.{Seats, Tellings}
 use Rattle.qz_served.specs.Saying.{SaysServed}
 use Rattle.qz_serving.specs.Saying.{served_by}
 
 -- As often as a reply at any one of these doors says that a keeper failed, this count rose.
 pub record RisesAsOften {D C : Type 0} {serves : Serving D C} {told : Tellings} {Kept : Tellings → Type 0} {count : ℕ} {old new : List (D × C)} {end : DoorEnd} (beside : ServesBeside serves told Kept count old new end) (before after : ℕ) : Type 0 where
-  pub each : (k : ℕ) (e : DoorEnd) (there : slice_get beside.ends k ≡ Some e) → HasRisenBy before (fault_replies (serves.replies (beside.each k e there).going)) after
+  pub each : (k : ℕ) (e : DoorEnd) (p : Seats) (there : slice_get beside.ends k ≡ Some e) (its : slice_get beside.lasts k ≡ Some p) → HasRisenBy before (fault_replies (serves.replies (beside.each k e p there its).going)) after
 
 -- The first so many doors were served over it side by side, so many regraded beside them, and this was said of it. The shelf's count rose as often
 -- as the replies at any one door say that a keeper failed.

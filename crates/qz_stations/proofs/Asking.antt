@@ -1,6 +1,5 @@
 -- What is read of a link may be asked of a school, and one who asks a school and serves a door goes on: a visit, or a clerk, who notes what is asked.
 use Rattle.std.proofs.Common.{◌≡◌, ◌≤◌, ℕ, true, List, [], ◌∷◌, None, Some, Option, IfSome, length, refl, sym, subst, arith}
-use Rattle.std.specs.List.{AllZip}
 use Rattle.std.specs.Prelude.{unwrap_or}
 use Rattle.qz_asking.specs.Following.{Follows, asked}
 use Rattle.qz_asking.specs.Following as following
@@ -11,7 +10,6 @@ use Rattle.qz_doors.specs.Links.{Peer}
 use Rattle.qz_doors.proofs.Carrying.{Carries, carries_door}
 use Rattle.qz_doors.proofs.Following.{by_door}
 use Rattle.qz_gather.specs.Clerks.{Answers, Clerk, noted, unasked}
-use Rattle.qz_grading.specs.declared.refusal.Refusal.TheVariants as refusal
 use Rattle.qz_http.specs.Items.{IsAskable}
 use Rattle.qz_regrading.specs.declared.ends.LoopEnd.{LoopEnd}
 use Rattle.qz_regrading.specs.Loops.{MakesPasses, Regrades}
@@ -22,20 +20,16 @@ use Rattle.qz_regrading.specs.Working as working
 use Rattle.qz_regrading.proofs.Searching.{regrades_follow}
 use Rattle.qz_school.specs.Answering.{MayBeAsked}
 use Rattle.qz_terms.specs.declared.ask.Ask.{Ask}
-use Rattle.qz_serial.specs.Once.{unsaid}
 use Rattle.qz_stations.specs.Noting.{clerk_sees, noting, quiet}
 use Rattle.qz_stations.specs.Posts.{HasRegraded, IsServed}
-use Rattle.qz_stations.specs.Stations.{serving_by}
+use Rattle.qz_stations.specs.Stations.{AsksWith, lists_seen, serving_by}
+use Rattle.qz_stations.proofs.Beside.{Visiting, clerk_with, visit_with}
 use Rattle.qz_stations.proofs.Faults.{door_faults}
 use Rattle.qz_terms.specs.declared.reply.Reply.{Reply}
-use Rattle.qz_terms.specs.declared.reply.Reply.TheVariants as reply
 use Rattle.qz_terms.specs.Kept.{is_moment}
-use Rattle.qz_terms.specs.Serial.{AllMended, Held, Mended, no_memory, stays}
 use Rattle.qz_visit.specs.Holding.{GoesOn}
-use Rattle.qz_visit.specs.Seeing.{IsAskedBeside}
-use Rattle.qz_visit.specs.Visits.{Asked, Tellings, Visitor, lists_told, said_by, seen_in}
+use Rattle.qz_visit.specs.Visits.{Seats, Visitor, lists_told, seen_in}
 use Rattle.qz_visit.proofs.Holding.{goes_asked, goes_on, goes_self}
-use Rattle.qz_visit.proofs.Seeing.{all_self, asked_beside}
 use Rattle.qz_wire.specs.Brief.{IsBriefToken}
 
 brief-key : (key : Option (List ℕ)) → IfSome key IsBriefToken → length (unwrap_or key []) ≤ 64
@@ -45,50 +39,11 @@ brief-key (Some key) brief = brief.1
 pub may_ask : (now : ℕ) (ask : Ask) → is_moment now ≡ true → IsAskable ask → MayBeAsked ask now
 may_ask now ask kept can = record { keyed = can.keyed; kept = can.kept; described = can.described; moment_kept = kept; brief = brief-key ask.key can.brief.key; names = can.brief.names }
 
--- what one who visits answers
-abbrev pub Visiting : Visitor → Visitor → ℕ → Ask → Reply → Type 0
-Visiting a b now ask told = (b.school ≡ a.school) × (Asked a.passes b.passes b.last now ask told)
-
 visit_goes : (a b : Visitor) → Follows Visiting a b → GoesOn a b
 visit_goes a _ (following.stays _) = goes_self a
 visit_goes a c (asked _ b _ now ask r before last) = goes_on a b c (visit_goes a b before) (goes_asked b c now ask r last)
 
 -- ---- a clerk
-
-all-mended : (hs : List Held) → AllZip Mended hs hs
-all-mended [] = tt
-all-mended (h ∷ hs) = (stays h, all-mended hs)
-
--- where memory is wanting for its note nothing is asked
-unasked-beside : (t : Tellings) (now : ℕ) (ask : Ask) → IsAskedBeside t t now ask (reply.Refused refusal.Memory)
-unasked-beside t now ask = record {
-  found = t;
-  begins = all_self t;
-  grows = all_self t;
-  once = record {
-    asks = record {
-      mended = lists_told t;
-      mends = same;
-      keeps = record { records = λ unread. refl; parts = λ k unread. refl };
-      turn = no_memory (lists_told t) now ask;
-    };
-    cause = λ told. absurd cc;
-    stands = λ place d keyed told. absurd cc;
-    stays = λ x told there. there;
-    again = λ told there. (unsaid refl, same);
-  };
-}
-  where
-    same : AllMended (lists_told t) (lists_told t)
-    same = record { records = stays (lists_told t).records; parts = all-mended (lists_told t).parts }
-
--- what a clerk sees of the lists
-abbrev pub clerk_seen : Clerk → Tellings
-clerk_seen c = seen_in c.visit.passes
-
-pub clerk_beside : (a b : Clerk) (now : ℕ) (ask : Ask) (r : Reply) → Answers a b now ask r → IsAskedBeside (clerk_seen a) (clerk_seen b) now ask r
-clerk_beside a b now ask r (unasked same told) = subst (IsAskedBeside (clerk_seen a) (clerk_seen b) now ask) (sym told) (subst (λ (c : Clerk). IsAskedBeside (clerk_seen a) (clerk_seen c) now ask (reply.Refused refusal.Memory)) (sym same) (unasked-beside (clerk_seen a) now ask))
-clerk_beside a b now ask r (noted n school asks tells more) = asked_beside a.visit.passes b.visit.passes now ask (said_by r b.visit.last) asks.visited
 
 clerk-asked : (a b : Clerk) (now : ℕ) (ask : Ask) (r : Reply) → Answers a b now ask r → GoesOn a.visit b.visit
 clerk-asked a b now ask r (unasked same told) = subst (λ (c : Clerk). GoesOn a.visit c.visit) (sym same) (goes_self a.visit)
@@ -98,45 +53,41 @@ clerk-goes : (a b : Clerk) → Follows Answers a b → GoesOn a.visit b.visit
 clerk-goes a _ (following.stays _) = goes_self a.visit
 clerk-goes a c (asked _ b _ now ask r before last) = goes_on a.visit b.visit c.visit (clerk-goes a b before) (clerk-asked b c now ask r last)
 
--- ---- one who asks beside others
+-- ---- the passes of one who asks
 
-pub visit_beside : (a b : Visitor) (now : ℕ) (ask : Ask) (r : Reply) → Visiting a b now ask r → IsAskedBeside (seen_in a.passes) (seen_in b.passes) now ask r
-visit_beside a b now ask r answered = asked_beside a.passes b.passes now ask (said_by r b.last) answered.1.visited
+module _ {S : Type 0} (answers : S → S → ℕ → Ask → Reply → Type 0) (passes : S → Seats) (means : (a b : S) (now : ℕ) (ask : Ask) (r : Reply) → answers a b now ask r → AsksWith (passes a) (passes b) now ask r) where
+  abbrev passes_by_clock : {C : Type 0} → Answerer S C → Answerer Seats C
+  passes_by_clock a = record { desk = passes a.desk; clock = a.clock }
 
-module _ {S : Type 0} (answers : S → S → ℕ → Ask → Reply → Type 0) (see : S → Tellings) (beside : (a b : S) (now : ℕ) (ask : Ask) (r : Reply) → answers a b now ask r → IsAskedBeside (see a) (see b) now ask r) where
-  -- what is seen of the lists
-  abbrev seen_by_clock : {C : Type 0} → Answerer S C → Answerer Tellings C
-  seen_by_clock a = record { desk = see a.desk; clock = a.clock }
-
-  asks-beside : {C : Type 0} (tells : C → ℕ → C → Type 0) → Carries (Asks tells answers) (Asks tells IsAskedBeside) seen_by_clock
-  asks-beside tells = record {
-    each = λ a b what r s. record { moment = s.moment; told = s.told; answered = beside a.desk b.desk _ what r s.answered };
+  asks-with : {C : Type 0} (tells : C → ℕ → C → Type 0) → Carries (Asks tells answers) (Asks tells AsksWith) passes_by_clock
+  asks-with tells = record {
+    each = λ a b what r s. record { moment = s.moment; told = s.told; answered = means a.desk b.desk _ what r s.answered };
   }
 
-  works-beside : {C : Type 0} (tells : C → ℕ → C → Type 0) (a b : Answerer S C) (ws : List Worked) → Works tells answers a ws b → Works tells IsAskedBeside (seen_by_clock a) ws (seen_by_clock b)
-  works-beside tells a _ _ (working.none _) = working.none (seen_by_clock a)
-  works-beside tells a b _ (working.more _ m _ ws w before may one) =
-      working.more (seen_by_clock a) (seen_by_clock m) (seen_by_clock b) ws w (works-beside tells a m ws before) may ((asks-beside tells).each m b (worker_asks w.request) w.reply one)
+  works-with : {C : Type 0} (tells : C → ℕ → C → Type 0) (a b : Answerer S C) (ws : List Worked) → Works tells answers a ws b → Works tells AsksWith (passes_by_clock a) ws (passes_by_clock b)
+  works-with tells a _ _ (working.none _) = working.none (passes_by_clock a)
+  works-with tells a b _ (working.more _ m _ ws w before may one) =
+      working.more (passes_by_clock a) (passes_by_clock m) (passes_by_clock b) ws w (works-with tells a m ws before) may ((asks-with tells).each m b (worker_asks w.request) w.reply one)
 
-  passes-beside : {C : Type 0} (tells : C → ℕ → C → Type 0) (a b : Answerer S C) → MakesPasses tells answers (λ (s : S). lists_told (see s)) a b → MakesPasses tells IsAskedBeside lists_told (seen_by_clock a) (seen_by_clock b)
-  passes-beside tells a _ (loops.none _) = loops.none (seen_by_clock a)
-  passes-beside tells a b (loops.more _ m _ ws before one sweeps) =
-      loops.more (seen_by_clock a) (seen_by_clock m) (seen_by_clock b) ws (passes-beside tells a m before) (works-beside tells m b ws one) sweeps
+  passes-with : {C : Type 0} (tells : C → ℕ → C → Type 0) (a b : Answerer S C) → MakesPasses tells answers (λ (s : S). lists_seen (passes s)) a b → MakesPasses tells AsksWith lists_seen (passes_by_clock a) (passes_by_clock b)
+  passes-with tells a _ (loops.none _) = loops.none (passes_by_clock a)
+  passes-with tells a b (loops.more _ m _ ws before one sweeps) =
+      loops.more (passes_by_clock a) (passes_by_clock m) (passes_by_clock b) ws (passes-with tells a m before) (works-with tells m b ws one) sweeps
 
-  regrades_seen : {C : Type 0} (tells : C → ℕ → C → Type 0) (a b : Answerer S C) (end : LoopEnd) → Regrades tells answers (λ (s : S). lists_told (see s)) a b end
-      → Regrades tells IsAskedBeside lists_told (seen_by_clock a) (seen_by_clock b) end
-  regrades_seen tells a b end r = record {
-    between = seen_by_clock r.between;
-    before = passes-beside tells a r.between r.before;
+  regrades_with : {C : Type 0} (tells : C → ℕ → C → Type 0) (a b : Answerer S C) (end : LoopEnd) → Regrades tells answers (λ (s : S). lists_seen (passes s)) a b end
+      → Regrades tells AsksWith lists_seen (passes_by_clock a) (passes_by_clock b) end
+  regrades_with tells a b end r = record {
+    between = passes_by_clock r.between;
+    before = passes-with tells a r.between r.before;
     last = r.last;
-    works = works-beside tells r.between b r.last r.works;
+    works = works-with tells r.between b r.last r.works;
     sweeps = r.sweeps;
     ended = r.ended;
   }
 
-  serves_seen : {L C : Type 0} (tells : C → ℕ → C → Type 0) (peer : L → Peer) (most : ℕ) (old new : Entrance L) (a b : Answerer S C) (end : DoorEnd) → ServesDoor (Asks tells answers) peer most old new a b end
-      → ServesDoor (Asks tells IsAskedBeside) peer most old new (seen_by_clock a) (seen_by_clock b) end
-  serves_seen tells peer most old new a b end served = carries_door (Asks tells answers) (Asks tells IsAskedBeside) seen_by_clock peer most old new a b end (asks-beside tells) served
+  serves_with : {L C : Type 0} (tells : C → ℕ → C → Type 0) (peer : L → Peer) (most : ℕ) (old new : Entrance L) (a b : Answerer S C) (end : DoorEnd) → ServesDoor (Asks tells answers) peer most old new a b end
+      → ServesDoor (Asks tells AsksWith) peer most old new (passes_by_clock a) (passes_by_clock b) end
+  serves_with tells peer most old new a b end served = carries_door (Asks tells answers) (Asks tells AsksWith) passes_by_clock peer most old new a b end (asks-with tells) served
 
 -- ---- a post where a door was served
 
@@ -145,27 +96,27 @@ module _ {D L C : Type 0} (tells : C → ℕ → C → Type 0) (peer : L → Pee
   pub visit_served : (a b : Visitor) → ServesDoor (Asks tells Visiting) peer most (entrance door) (entrance door') (record { desk = a; clock = clock }) (record { desk = b; clock = clock' }) end
       → IsServed (serving_by tells peer entrance most) (record { place = (door, clock); visit = a; notes = None; end = was }) (record { place = (door', clock'); visit = b; notes = None; end = end })
   visit_served a b served = record {
-    going = seen;
-    as_often = door_faults tells peer most (entrance door) (entrance door') (record { desk = seen_in a.passes; clock = clock }) (record { desk = seen_in b.passes; clock = clock' }) end seen;
+    going = going;
+    as_often = door_faults tells peer most (entrance door) (entrance door') (record { desk = a.passes; clock = clock }) (record { desk = b.passes; clock = clock' }) end going;
     goes_on = visit_goes a b (by_door Visiting tells peer most (entrance door) (entrance door') (record { desk = a; clock = clock }) (record { desk = b; clock = clock' }) end served);
     notes = quiet;
   }
     where
-      seen : ServesDoor (Asks tells IsAskedBeside) peer most (entrance door) (entrance door') (record { desk = seen_in a.passes; clock = clock }) (record { desk = seen_in b.passes; clock = clock' }) end
-      seen = serves_seen Visiting (λ (v : Visitor). seen_in v.passes) visit_beside tells peer most (entrance door) (entrance door') (record { desk = a; clock = clock }) (record { desk = b; clock = clock' }) end served
+      going : ServesDoor (Asks tells AsksWith) peer most (entrance door) (entrance door') (record { desk = a.passes; clock = clock }) (record { desk = b.passes; clock = clock' }) end
+      going = serves_with Visiting (λ (v : Visitor). v.passes) visit_with tells peer most (entrance door) (entrance door') (record { desk = a; clock = clock }) (record { desk = b; clock = clock' }) end served
 
   -- by a clerk
   pub clerk_served : (a b : Clerk) → ServesDoor (Asks tells Answers) peer most (entrance door) (entrance door') (record { desk = a; clock = clock }) (record { desk = b; clock = clock' }) end
       → IsServed (serving_by tells peer entrance most) (record { place = (door, clock); visit = a.visit; notes = Some a.notes; end = was }) (record { place = (door', clock'); visit = b.visit; notes = Some b.notes; end = end })
   clerk_served a b served = record {
-    going = seen;
-    as_often = door_faults tells peer most (entrance door) (entrance door') (record { desk = clerk_seen a; clock = clock }) (record { desk = clerk_seen b; clock = clock' }) end seen;
+    going = going;
+    as_often = door_faults tells peer most (entrance door) (entrance door') (record { desk = a.visit.passes; clock = clock }) (record { desk = b.visit.passes; clock = clock' }) end going;
     goes_on = clerk-goes a b (by_door Answers tells peer most (entrance door) (entrance door') (record { desk = a; clock = clock }) (record { desk = b; clock = clock' }) end served);
     notes = noting a.notes b.notes served;
   }
     where
-      seen : ServesDoor (Asks tells IsAskedBeside) peer most (entrance door) (entrance door') (record { desk = clerk_seen a; clock = clock }) (record { desk = clerk_seen b; clock = clock' }) end
-      seen = serves_seen Answers clerk_seen clerk_beside tells peer most (entrance door) (entrance door') (record { desk = a; clock = clock }) (record { desk = b; clock = clock' }) end served
+      going : ServesDoor (Asks tells AsksWith) peer most (entrance door) (entrance door') (record { desk = a.visit.passes; clock = clock }) (record { desk = b.visit.passes; clock = clock' }) end
+      going = serves_with Answers (λ (c : Clerk). c.visit.passes) clerk_with tells peer most (entrance door) (entrance door') (record { desk = a; clock = clock }) (record { desk = b; clock = clock' }) end served
 
 -- ---- a post where somebody regraded
 
@@ -178,7 +129,7 @@ module _ {C : Type 0} (tells : C → ℕ → C → Type 0) (clock clock' : C) (e
       end = refl;
     };
     loop = end;
-    regrades = regrades_seen Visiting (λ (v : Visitor). seen_in v.passes) visit_beside tells (record { desk = a; clock = clock }) (record { desk = b; clock = clock' }) end r;
+    regrades = regrades_with Visiting (λ (v : Visitor). v.passes) visit_with tells (record { desk = a; clock = clock }) (record { desk = b; clock = clock' }) end r;
     notes = quiet;
   }
 
@@ -190,6 +141,6 @@ module _ {C : Type 0} (tells : C → ℕ → C → Type 0) (clock clock' : C) (e
       end = refl;
     };
     loop = end;
-    regrades = regrades_seen Answers clerk_seen clerk_beside tells (record { desk = a; clock = clock }) (record { desk = b; clock = clock' }) end r;
+    regrades = regrades_with Answers (λ (c : Clerk). c.visit.passes) clerk_with tells (record { desk = a; clock = clock }) (record { desk = b; clock = clock' }) end r;
     notes = noting a.notes b.notes r;
   }

@@ -14,14 +14,15 @@ use Rattle.qz_outside.specs.Causes.{HasRisen}
 use Rattle.qz_regrading.specs.Loops.{HasRisenBy}
 use Rattle.qz_regrading.specs.Workers.{CountsFault}
 use Rattle.qz_serial.specs.Standing.{is_keep_fault}
-use Rattle.qz_stations.specs.Stations.{fault_replies, faults_in, faults_told}
+use Rattle.qz_stations.specs.Stations.{AsksWith, fault_replies, faults_in, faults_told}
+use Rattle.qz_stations.proofs.Beside.{with_beside}
 use Rattle.qz_terms.specs.declared.ask.Ask.{Ask}
 use Rattle.qz_terms.specs.declared.record.Record.{Record}
 use Rattle.qz_terms.specs.declared.reply.Reply.{Reply}
 use Rattle.qz_terms.specs.declared.reply.Reply.TheVariants as reply
 use Rattle.qz_turn.specs.declared.view.Tale.{Tale}
 use Rattle.qz_visit.specs.Seeing.{FollowAll, FollowEach, IsAskedBeside, more, none}
-use Rattle.qz_visit.specs.Visits.{Rose, Tellings, of_catalog, of_shard}
+use Rattle.qz_visit.specs.Visits.{Rose, Seats, Tellings, of_catalog, of_shard, seen_in}
 
 -- ---- as they were told
 
@@ -78,11 +79,11 @@ both-rose : (l m n : ℕ) (xs ys : List Reply) → HasRisenBy l (fault_replies x
 both-rose l m n xs ys one other = λ below. let more = other below in let first = one (omega (arith, more, below)) in omega (arith, more, first, faults-on xs ys)
 
 -- no more of its replies say that a keeper failed than the counts rose by
-pub door_faults : {L C : Type 0} (tells : C → ℕ → C → Type 0) (peer : L → Peer) (most : ℕ) (old new : Entrance L) (a b : Answerer Tellings C) (end : DoorEnd) (d : ServesDoor (Asks tells IsAskedBeside) peer most old new a b end)
-    → HasRisenBy (faults_told a.desk) (fault_replies (replies_at d)) (faults_told b.desk)
+pub door_faults : {L C : Type 0} (tells : C → ℕ → C → Type 0) (peer : L → Peer) (most : ℕ) (old new : Entrance L) (a b : Answerer Seats C) (end : DoorEnd) (d : ServesDoor (Asks tells AsksWith) peer most old new a b end)
+    → HasRisenBy (faults_told (seen_in a.desk)) (fault_replies (replies_at d)) (faults_told (seen_in b.desk))
 door_faults {C} tells peer most old new a b end d =
-    replies_lead (Asks tells IsAskedBeside) (λ (x : Answerer Tellings C) (rs : List Reply) (y : Answerer Tellings C). HasRisenBy (faults_told x.desk) (fault_replies rs) (faults_told y.desk)) (record {
+    replies_lead (Asks tells AsksWith) (λ (x : Answerer Seats C) (rs : List Reply) (y : Answerer Seats C). HasRisenBy (faults_told (seen_in x.desk)) (fault_replies rs) (faults_told (seen_in y.desk))) (record {
       none = λ x. λ below. omega arith;
-      both = λ x y z front rest one other. both-rose (faults_told x.desk) (faults_told y.desk) (faults_told z.desk) front rest one other;
-      each = λ x y ask r asked. one-fault (faults_told x.desk) (faults_told y.desk) r (beside_counts x.desk y.desk _ ask r asked.answered);
+      both = λ x y z front rest one other. both-rose (faults_told (seen_in x.desk)) (faults_told (seen_in y.desk)) (faults_told (seen_in z.desk)) front rest one other;
+      each = λ x y ask r asked. one-fault (faults_told (seen_in x.desk)) (faults_told (seen_in y.desk)) r (beside_counts (seen_in x.desk) (seen_in y.desk) _ ask r (with_beside x.desk y.desk _ ask r asked.answered));
     }) peer most old new a b end d

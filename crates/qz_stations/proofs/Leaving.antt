@@ -9,10 +9,11 @@ use Rattle.qz_visit.specs.Seeing.{FollowAll}
 use Rattle.qz_visit.specs.Visits.{Locks, Seats, seen_in}
 use Rattle.qz_visit.proofs.Holding.{holds_joined}
 use Rattle.qz_visit.proofs.Seeing.{all_on, all_self, first_joined, second_joined}
-use Rattle.qz_stations.specs.Posts.{AreAmong, AreManned, IsCounted, IsHeldBy, IsManned, TakesIn}
+use Rattle.qz_stations.specs.Posts.{AreAmong, AreManned, IsCounted, IsHeldBy, IsManned, PutsAlso, TakesIn, passes_of}
 use Rattle.qz_stations.specs.Stations.{Post, all_ends, at_place, both_ends}
 use Rattle.qz_stations.proofs.Counting.{AreCounted, ends_cons, room_short, room_taken}
 use Rattle.qz_stations.proofs.Lists.{get_last, get_longer}
+use Rattle.qz_stations.proofs.Putting.{puts_none, puts_one}
 use Rattle.qz_stations.proofs.TakingUp.{hold_theirs}
 
 -- the stations behind those that are left were left, in order
@@ -28,6 +29,7 @@ pub record LeavesOn {P : Type 0} (s : Locks) (first now : Seats) (all left : Lis
   pub each : (k : ℕ) (p : Post P) → slice_get done k ≡ Some p → FollowAll (seen_in p.visit.passes) (seen_in now)
   pub counted : AreCounted (map (λ (p : Post P). p.end) done)
   pub few : length left + length done < 2 ^ 32
+  pub put : PutsAlso first now (map passes_of done)
 
 none-held : {P : Type 0} (ps : List (Post P)) (n : ℕ) (A : Type 0) → ps ≡ [] → IsHeldBy ps n → A
 none-held ps n A none h = let there = h.there in absurd cc
@@ -46,6 +48,7 @@ module _ {P : Type 0} (s : Locks) where
     each = λ k p at. absurd cc;
     counted = record { each = λ k e at. absurd cc };
     few = let few = are.few in omega (arith, few);
+    put = puts_none first;
   }
 
   -- as the last station is taken off
@@ -84,6 +87,7 @@ module _ {P : Type 0} (s : Locks) where
       each = λ k x there. later k x there;
       counted = record { each = λ k e there. count k e there };
       few = let few = so.few in let long = length-append left (p ∷ []) in omega (arith, few, long);
+      put = puts_one first now after p.visit.passes (map passes_of so.done) so.put joins many;
     }
       where
         many : length p.visit.passes.parts ≡ length now.parts
@@ -132,3 +136,6 @@ module _ {P : Type 0} (s : Locks) where
       follows = so.follows;
       each = λ k p there. so.each k p (subst (λ (l : List (Post P)). slice_get l k ≡ Some p) so.all_is there);
     }
+
+    pub left_put : PutsAlso first now (map passes_of all)
+    left_put = subst (λ (l : List (Post P)). PutsAlso first now (map passes_of l)) (sym so.all_is) so.put

@@ -1,8 +1,10 @@
 pub mod Counting
 pub mod Lists
+pub mod Beside
 pub mod Faults
 pub mod Asking
 pub mod TakingUp
+pub mod Putting
 pub mod Leaving
 pub mod Serving
 pub mod Regrading

@@ -10,8 +10,9 @@ use Rattle.qz_regrading.proofs.Keeping.{front-same, keeps-more}
 use Rattle.qz_regrading.proofs.Telling.{served_by_rules, telling_law}
 use Rattle.qz_school.specs.Answering.{IsServed}
 use Rattle.qz_school.specs.Solos.{faults_of, lists_in}
-use Rattle.qz_stations.specs.Stations.{faults_in, faults_told}
-use Rattle.qz_stations.proofs.Asking.{Visiting, clerk_beside, visit_beside}
+use Rattle.qz_school.proofs.Keepers.{fails_in_all, goes_in_all}
+use Rattle.qz_stations.specs.Stations.{AsksWith, faults_in, faults_told}
+use Rattle.qz_stations.proofs.Beside.{Visiting, clerk_with, visit_with, with_beside}
 use Rattle.qz_stations.proofs.Faults.{beside_counts, in_more}
 use Rattle.qz_terms.specs.declared.ask.Ask.{Ask}
 use Rattle.qz_terms.specs.declared.record.Record.{Record}
@@ -29,7 +30,7 @@ use Rattle.qz_visit.specs.Ways.{Part}
 -- each of its answers is one by the rules, and a keeper that is said to have failed has counted it
 pub solo_serves : {K : Type 0} (sound : K → Type 0) (faults : K → ℕ) → ServesWorkers lists_in (faults_of faults) (IsServed sound faults)
 solo_serves sound faults =
-    served_by_rules lists_in (faults_of faults) (IsServed sound faults) (λ a b now x r s. (s.once.asks, record { later = s.goes_on.later; fault = λ told. (s.once.cause told).rose }))
+    served_by_rules lists_in (faults_of faults) (IsServed sound faults) (λ a b now x r s. (s.once.asks, record { later = (goes_in_all sound faults a b s.goes_on).later; fault = λ told. (fails_in_all sound faults a b s.goes_on (s.once.cause told)).rose }))
 
 -- ---- what lists go on holding that were told one after the other
 
@@ -71,7 +72,10 @@ told-seen : (p : Seats) → faults_told (seen_in p) ≡ faults_seen p
 told-seen p = ap (λ (n : ℕ). p.records.seen.faults + n) (sum-seen p.parts)
 
 -- One who asks beside others tells a worker of the lists that it sees, and counts what it has seen fail.
-module _ {S : Type 0} (answers : S → S → ℕ → Ask → Reply → Type 0) (passes : S → Seats) (beside : (a b : S) (now : ℕ) (ask : Ask) (r : Reply) → answers a b now ask r → IsAskedBeside (seen_in (passes a)) (seen_in (passes b)) now ask r) where
+module _ {S : Type 0} (answers : S → S → ℕ → Ask → Reply → Type 0) (passes : S → Seats) (means : (a b : S) (now : ℕ) (ask : Ask) (r : Reply) → answers a b now ask r → AsksWith (passes a) (passes b) now ask r) where
+  beside : (a b : S) (now : ℕ) (ask : Ask) (r : Reply) → answers a b now ask r → IsAskedBeside (seen_in (passes a)) (seen_in (passes b)) now ask r
+  beside a b now ask r answered = with_beside (passes a) (passes b) now ask r (means a b now ask r answered)
+
   counts : (a b : S) (now : ℕ) (ask : Ask) (r : Reply) → answers a b now ask r → CountsFault (faults_seen (passes a)) (faults_seen (passes b)) r
   counts a b now ask r answered =
       let c = beside_counts (seen_in (passes a)) (seen_in (passes b)) now ask r (beside a b now ask r answered) in
@@ -84,7 +88,7 @@ module _ {S : Type 0} (answers : S → S → ℕ → Ask → Reply → Type 0) (
   }
 
 pub visit_serves : ServesWorkers (λ (v : Visitor). lists_told (seen_in v.passes)) (λ (v : Visitor). faults_seen v.passes) Visiting
-visit_serves = serves-so Visiting (λ (v : Visitor). v.passes) visit_beside
+visit_serves = serves-so Visiting (λ (v : Visitor). v.passes) visit_with
 
 pub clerk_serves : ServesWorkers (λ (c : Clerk). lists_told (seen_in c.visit.passes)) (λ (c : Clerk). faults_seen c.visit.passes) Answers
-clerk_serves = serves-so Answers (λ (c : Clerk). c.visit.passes) clerk_beside
+clerk_serves = serves-so Answers (λ (c : Clerk). c.visit.passes) clerk_with

@@ -1,6 +1,6 @@
 -- Stations that were served, and the doors that they stand at.
 use Rattle.std.proofs.Common.{◌≡◌, ⊎_elim, ℕ, suc, ◌+◌, ◌^◌, ◌<◌, ◌≤◌, List, [], ◌∷◌, ◌++◌, Some, length, length-append, map, refl, sym, ap, ◌∙◌, subst, append-nil, arith}
-use Rattle.std.specs.Prelude.{Bool, true, false, Contains, IfOk, MatchResult, Result, Ok, Err, drop, filter, slice_get, take}
+use Rattle.std.specs.Prelude.{Bool, true, false, Contains, MatchResult, Result, Ok, Err, drop, filter, slice_get, take}
 use Rattle.std.proofs.Math.Seq.{drop-append_seam, take-length}
 use Rattle.std.proofs.Math.ListN.{drop_of_length-le}
 use Rattle.std.proofs.lemmas.List.{length-map}
@@ -15,20 +15,23 @@ use Rattle.qz_serial.proofs.Seats.{within_there}
 use Rattle.qz_catalog.specs.Keeping as records
 use Rattle.qz_school.specs.Solos.{IsSolo, School, school_of}
 use Rattle.qz_shard.specs.Keeping as part
-use Rattle.qz_regrading.specs.Loops.{HasRisenBy, Regrades}
+use Rattle.qz_regrading.specs.Loops.{HasRisenBy}
 use Rattle.qz_terms.specs.declared.ask.Ask.{Ask}
 use Rattle.qz_terms.specs.declared.reply.Reply.{Reply}
 use Rattle.qz_turn.specs.Rule.{HasEvery, below}
-use Rattle.qz_visit.specs.Closing.{Closes, HaveEvery}
+use Rattle.qz_visit.specs.Closing.{ArePasses, Closes, HasGrownBy, HaveEvery}
 use Rattle.qz_visit.specs.Holding.{GoesOn}
 use Rattle.qz_visit.specs.Opening.{Opens, told_by}
-use Rattle.qz_visit.specs.Seeing.{FollowAll, IsAskedBeside}
-use Rattle.qz_visit.specs.Visits.{Locks, Seats, Tellings, Visitor, lists_told, seen_in}
+use Rattle.qz_visit.specs.Seeing.{FollowAll}
+use Rattle.qz_visit.specs.Visits.{Locks, Seats, Tellings, Visitor, seen_in}
 use Rattle.qz_visit.proofs.Holding.{every_held, from_map, goes_self, holds_on, holds_opened, seats_opened}
 use Rattle.qz_visit.proofs.Opened.{has_below}
-use Rattle.qz_stations.specs.Posts.{AreAmong, AreEach, AreManned, HasGoneOn, HasRegraded, HoldTheirs, HoldsEvery, IsCounted, IsHeldBy, IsServed, TakesIn, TakesUp, seen_at}
-use Rattle.qz_stations.specs.Stations.{Post, RegradesBeside, RegradesOnce, Serving, ServesAt, ServesBeside, all_ends, at_place, end_of, fault_replies, faults_told, no_end}
+use Rattle.qz_visit.proofs.Seeing.{all_on, closes_from}
+use Rattle.qz_stations.specs.Noting.{StartsFrom}
+use Rattle.qz_stations.specs.Posts.{AreAmong, AreEach, AreManned, HasGoneOn, HasRegraded, HoldTheirs, HoldsEvery, IsCounted, IsHeldBy, IsServed, NoneTurned, PutsAlso, ServesFirst, TakesIn, TakesUp, passes_of}
+use Rattle.qz_stations.specs.Stations.{AreUnturned, GrowsWith, Post, RegradesBeside, RegradesOnce, Serving, ServesAt, ServesBeside, ServesCrew, all_ends, at_place, end_of, fault_replies, faults_told, no_end}
 use Rattle.qz_stations.proofs.Lists.{get_longer}
+use Rattle.qz_stations.proofs.Putting.{grown_with, puts_all, puts_both, puts_from}
 use Rattle.qz_stations.proofs.TakingUp.{hold_theirs}
 
 -- ---- how a door ended
@@ -136,28 +139,34 @@ pub counted_regraded : {C : Type 0} (p q : Post C) → p.end ≡ no_end → HasG
 counted_regraded p q fresh did = subst IsCounted (sym (did.end ∙ fresh)) record { taken = omega arith; short = omega arith }
 
 -- each of those that were taken up regraded, for what its passes saw
-pub regraded_beside : {C : Type 0} (tells : C → ℕ → C → Type 0) (s : Locks) (count : ℕ) (told : Tellings) (numbers : List ℕ) (old rest : List C) (passes : Seats) (taken left : List (Post C)) → TakesUp s told numbers old rest passes taken
-    → AreEach (HasRegraded tells) taken left → (first last : Seats) → length taken ≡ count → TakesIn s first last left → RegradesBeside tells told (λ seen. FollowAll seen (seen_in last)) count
-regraded_beside tells s count told numbers old rest passes taken left so did first last all takes = record { each = once }
-  where
-    once : (k : ℕ) → k < count → RegradesOnce tells told (λ seen. FollowAll seen (seen_in last))
-    once k within =
-        let long = did.count in
-        let p = within_there taken k (omega (arith, within, all)) in
-        let q = within_there left k (omega (arith, within, all, long)) in
-        let is = did.each k p.0 q.0 p.1 q.1 in
-        record {
-          clock = p.0.place;
-          ticked = q.0.place;
-          seen = seen_in q.0.visit.passes;
-          end = is.loop;
-          regrades = subst (λ (t : Tellings). Regrades tells IsAskedBeside lists_told (record { desk = t; clock = p.0.place }) (seen_at q.0) is.loop) (so.taken k p.0 p.1).seen is.regrades;
-          kept = takes.each k q.0 q.1;
-        }
+module _ {C : Type 0} (tells : C → ℕ → C → Type 0) (s : Locks) (told : Tellings) (numbers : List ℕ) (old rest : List C) (passes : Seats) (taken left : List (Post C)) (so : TakesUp s told numbers old rest passes taken) (fresh : NoneTurned passes taken) (did : AreEach (HasRegraded tells) taken left) (first last : Seats) (takes : TakesIn s first last left) where
+  pub regraded_at : (k : ℕ) (q : Post C) → slice_get left k ≡ Some q → RegradesOnce tells told (λ seen. FollowAll seen (seen_in last)) (passes_of q)
+  regraded_at k q at =
+      let p = was s told numbers old rest passes taken so (HasRegraded tells) left did k q at in
+      let is = p.1.1 in
+      record {
+        clock = p.0.place;
+        ticked = q.place;
+        first = p.0.visit.passes;
+        told_is = (so.taken k p.0 p.1.0).seen;
+        unturned = fresh.each k p.0 p.1.0;
+        end = is.loop;
+        regrades = is.regrades;
+        kept = takes.each k q at;
+      }
 
-pub regraded_kept : {C : Type 0} (tells : C → ℕ → C → Type 0) (told : Tellings) (Kept Known : Tellings → Type 0) (count : ℕ) → ((t : Tellings) → Kept t → Known t) → RegradesBeside tells told Kept count → RegradesBeside tells told Known count
+  abbrev pub regraded_beside : (count : ℕ) → length taken ≡ count → RegradesBeside tells told (λ seen. FollowAll seen (seen_in last)) count
+  regraded_beside count all = record {
+    lasts = map passes_of left;
+    lasts_are = length-map left passes_of ∙ did.count ∙ all;
+    each = λ k p there. let q = from_map passes_of left k p there in subst (RegradesOnce tells told (λ seen. FollowAll seen (seen_in last))) (sym q.1.1) (regraded_at k q.0 q.1.0);
+  }
+
+abbrev pub regraded_kept : {C : Type 0} (tells : C → ℕ → C → Type 0) (told : Tellings) (Kept Known : Tellings → Type 0) (count : ℕ) → ((t : Tellings) → Kept t → Known t) → RegradesBeside tells told Kept count → RegradesBeside tells told Known count
 regraded_kept tells told Kept Known count to so = record {
-  each = λ k within. let is = so.each k within in record { clock = is.clock; ticked = is.ticked; seen = is.seen; end = is.end; regrades = is.regrades; kept = to is.seen is.kept };
+  lasts = so.lasts;
+  lasts_are = so.lasts_are;
+  each = λ k p there. let is = so.each k p there in record { clock = is.clock; ticked = is.ticked; first = is.first; told_is = is.told_is; unturned = is.unturned; end = is.end; regrades = is.regrades; kept = to (seen_in p) is.kept };
 }
 
 -- ---- doors
@@ -166,22 +175,22 @@ regraded_kept tells told Kept Known count to so = record {
 pub stands : {P : Type 0} (ps : List (Post P)) (rest places : List P) (k : ℕ) (p : Post P) → places ≡ map at_place ps ++ rest → slice_get ps k ≡ Some p → slice_get places k ≡ Some (at_place p)
 stands ps rest places k p is at = subst (λ (l : List _). slice_get l k ≡ Some (at_place p)) (sym is) (get_longer (map at_place ps) rest k (at_place p) (slice_get-map at_place ps k ∙ rw at refl))
 
--- a door was served, and its replies were counted
-abbrev Goes : {D C : Type 0} (serves : Serving D C) (old new : D × C) (told seen : Tellings) (end : DoorEnd) → Type 0
-Goes serves old new told seen end =
-    (going : serves.serves old.0 new.0 (record { desk = told; clock = old.1 }) (record { desk = seen; clock = new.1 }) end) × HasRisenBy (faults_told told) (fault_replies (serves.replies going)) (faults_told seen)
-
-module _ {D C : Type 0} (s : Locks) (count : ℕ) (told : Tellings) (numbers : List ℕ) (old rest : List (D × C)) (passes : Seats) (taken : List (Post (D × C))) (so : TakesUp s told numbers old rest passes taken) (serves : Serving D C) (left : List (Post (D × C))) (served : AreEach (IsServed serves) taken left) where
+module _ {D C : Type 0} (s : Locks) (count : ℕ) (before : Seats) (numbers : List ℕ) (old rest : List (D × C)) (passes : Seats) (taken : List (Post (D × C))) (so : TakesUp s (seen_in before) numbers old rest passes taken) (fresh : NoneTurned passes taken) (serves : Serving D C) (left : List (Post (D × C))) (served : AreEach (IsServed serves) taken left) where
   -- all doors were served, each for what its passes saw
-  pub beside : (first last : Seats) (new : List (D × C)) (end : DoorEnd) → length taken ≡ count → new ≡ map at_place left ++ rest → end ≡ all_ends (map (λ (p : Post (D × C)). p.end) left) → TakesIn s first last left
-      → ServesBeside serves told (λ seen. FollowAll seen (seen_in last)) count old new end
-  beside first last new end all doors total takes = record {
-    ends = map (λ (p : Post (D × C)). p.end) left;
-    count_is = length-map left (λ (p : Post (D × C)). p.end) ∙ served.count ∙ all;
-    end_is = total;
-    each = at_door;
-    others = dropped left new doors (served.count ∙ all) ∙ sym (dropped taken old so.places all);
-    as_many = counted left new doors ∙ ap (λ (n : ℕ). n + length rest) served.count ∙ sym (counted taken old so.places);
+  pub first_served : (last : Seats) (new : List (D × C)) (end : DoorEnd) → length taken ≡ count → new ≡ map at_place left ++ rest → end ≡ all_ends (map (λ (p : Post (D × C)). p.end) left) → TakesIn s passes last left → AreUnturned before → PutsAlso passes last (map passes_of left)
+      → ServesFirst serves before last count old new end
+  first_served last new end all doors total takes unturned put = record {
+    beside = record {
+      ends = map (λ (p : Post (D × C)). p.end) left;
+      count_is = length-map left (λ (p : Post (D × C)). p.end) ∙ served.count ∙ all;
+      end_is = total;
+      lasts = map passes_of left;
+      lasts_are = length-map left passes_of ∙ served.count ∙ all;
+      each = at_door;
+      others = dropped left new doors (served.count ∙ all) ∙ sym (dropped taken old so.places all);
+      as_many = counted left new doors ∙ ap (λ (n : ℕ). n + length rest) served.count ∙ sym (counted taken old so.places);
+    };
+    put = puts_from before passes last (map passes_of left) unturned fresh.own put;
   }
     where
       counted : (ps : List (Post (D × C))) (doors : List (D × C)) → doors ≡ map at_place ps ++ rest → length doors ≡ length ps + length rest
@@ -190,26 +199,102 @@ module _ {D C : Type 0} (s : Locks) (count : ℕ) (told : Tellings) (numbers : L
       dropped : (ps : List (Post (D × C))) (doors : List (D × C)) → doors ≡ map at_place ps ++ rest → length ps ≡ count → drop count doors ≡ rest
       dropped ps doors is long = ap (λ (n : ℕ). drop n doors) (sym (length-map ps at_place ∙ long)) ∙ ap (λ (l : List (D × C)). drop (length (map at_place ps)) l) is ∙ drop-append_seam (map at_place ps) rest
 
-      at_door : (k : ℕ) (e : DoorEnd) → slice_get (map (λ (p : Post (D × C)). p.end) left) k ≡ Some e → ServesAt serves told (λ seen. FollowAll seen (seen_in last)) old new k e
-      at_door k e at =
-          let q = from_map (λ (p : Post (D × C)). p.end) left k e at in
-          let p = was s told numbers old rest passes taken so (IsServed serves) left served k q.0 q.1.0 in
+      at-post : (k : ℕ) (q : Post (D × C)) → slice_get left k ≡ Some q → ServesAt serves (seen_in before) (λ seen. FollowAll seen (seen_in last)) old new k q.end (passes_of q)
+      at-post k q at =
+          let p = was s (seen_in before) numbers old rest passes taken so (IsServed serves) left served k q at in
           let is = so.taken k p.0 p.1.0 in
-          let seen = seen_in q.0.visit.passes in
-          let goes : Goes serves p.0.place q.0.place told seen e =
-          subst (Goes serves p.0.place q.0.place told seen) (sym q.1.1) (subst (λ (t : Tellings). Goes serves p.0.place q.0.place t seen q.0.end) is.seen (p.1.1.going, p.1.1.as_often)) in
           record {
             door = p.0.place.0;
-            served = q.0.place.0;
+            served = q.place.0;
             clock = p.0.place.1;
-            ticked = q.0.place.1;
-            seen = seen;
+            ticked = q.place.1;
+            first = p.0.visit.passes;
+            told_is = is.seen;
+            unturned = fresh.each k p.0 p.1.0;
             before = stands taken rest old k p.0 so.places p.1.0;
-            after = stands left rest new k q.0 doors q.1.0;
-            going = goes.0;
-            as_often = goes.1;
-            kept = takes.each k q.0 q.1.0;
+            after = stands left rest new k q doors at;
+            going = p.1.1.going;
+            as_often = subst (λ (t : Tellings). HasRisenBy (faults_told t) (fault_replies (serves.replies p.1.1.going)) (faults_told (seen_in q.visit.passes))) is.seen p.1.1.as_often;
+            kept = takes.each k q at;
           }
+
+      at_door : (k : ℕ) (e : DoorEnd) (p : Seats) → slice_get (map (λ (x : Post (D × C)). x.end) left) k ≡ Some e → slice_get (map passes_of left) k ≡ Some p → ServesAt serves (seen_in before) (λ seen. FollowAll seen (seen_in last)) old new k e p
+      at_door k e p at there =
+          let q = from_map (λ (x : Post (D × C)). x.end) left k e at in
+          let r = from_map passes_of left k p there in
+          let same : r.0 ≡ q.0 = same-there left k r.0 q.0 r.1.0 q.1.0 in
+          subst (λ (x : DoorEnd). ServesAt serves (seen_in before) (λ seen. FollowAll seen (seen_in last)) old new k x p) (sym q.1.1) (subst (λ (x : Seats). ServesAt serves (seen_in before) (λ seen. FollowAll seen (seen_in last)) old new k q.0.end x) (sym (r.1.1 ∙ ap passes_of same)) (at-post k q.0 q.1.0))
+
+-- ---- the others beside them
+
+abbrev pub beside_kept : {D C : Type 0} (serves : Serving D C) (told : Tellings) (Kept Known : Tellings → Type 0) (count : ℕ) (old new : List (D × C)) (end : DoorEnd) → ((t : Tellings) → Kept t → Known t)
+    → ServesBeside serves told Kept count old new end → ServesBeside serves told Known count old new end
+beside_kept serves told Kept Known count old new end to so = record {
+  ends = so.ends;
+  count_is = so.count_is;
+  end_is = so.end_is;
+  lasts = so.lasts;
+  lasts_are = so.lasts_are;
+  each = λ k e p at there.
+      let is = so.each k e p at there in
+      record { door = is.door; served = is.served; clock = is.clock; ticked = is.ticked; first = is.first; told_is = is.told_is; unturned = is.unturned; before = is.before; after = is.after; going = is.going; as_often = is.as_often; kept = to (seen_in p) is.kept };
+  others = so.others;
+  as_many = so.as_many;
+}
+
+-- as much was seen before as some other tells
+abbrev pub beside_told : {D C : Type 0} (serves : Serving D C) (told other : Tellings) (Kept : Tellings → Type 0) (count : ℕ) (old new : List (D × C)) (end : DoorEnd) → told ≡ other → ServesBeside serves told Kept count old new end → ServesBeside serves other Kept count old new end
+beside_told serves told other Kept count old new end same so = record {
+  ends = so.ends;
+  count_is = so.count_is;
+  end_is = so.end_is;
+  lasts = so.lasts;
+  lasts_are = so.lasts_are;
+  each = λ k e p at there.
+      let is = so.each k e p at there in
+      record {
+        door = is.door;
+        served = is.served;
+        clock = is.clock;
+        ticked = is.ticked;
+        first = is.first;
+        told_is = is.told_is ∙ same;
+        unturned = is.unturned;
+        before = is.before;
+        after = is.after;
+        going = is.going;
+        as_often = subst (λ (t : Tellings). HasRisenBy (faults_told t) (fault_replies (serves.replies is.going)) (faults_told (seen_in p))) same is.as_often;
+        kept = is.kept;
+      };
+  others = so.others;
+  as_many = so.as_many;
+}
+
+-- doors were served and others regraded, with passes that are joined again
+pub crew_served : {D C : Type 0} (serves : Serving D C) (s : Locks) (workers regraders : ℕ) (before mid now last : Seats) (numbers : List ℕ) (clocks rest : List C) (taken left : List (Post C)) (old new : List (D × C)) (end : DoorEnd)
+    → TakesUp s (seen_in before) numbers clocks rest mid taken → NoneTurned mid taken → AreUnturned before → AreEach (HasRegraded serves.tells) taken left → length taken ≡ regraders → TakesIn s now last left → PutsAlso now last (map passes_of left)
+    → ServesFirst serves mid now workers old new end → ServesCrew serves (seen_in before) (λ seen. FollowAll seen (seen_in last)) (PutsAlso before last) workers regraders old new end
+crew_served serves s workers regraders before mid now last numbers clocks rest taken left old new end so fresh unturned did all takes put first = record {
+  beside = beside_kept serves (seen_in before) (λ seen. FollowAll seen (seen_in now)) (λ seen. FollowAll seen (seen_in last)) workers old new end (λ t on. all_on t (seen_in now) (seen_in last) on takes.follows) (beside_told serves (seen_in mid) (seen_in before) (λ seen. FollowAll seen (seen_in now)) workers old new end so.seen first.beside);
+  regraded = regraded_beside serves.tells s (seen_in before) numbers clocks rest mid taken left so fresh did now last takes regraders all;
+  put = puts_both before now last first.beside.lasts (map passes_of left) (puts_from before mid now first.beside.lasts unturned fresh.own first.put) put;
+}
+
+-- for what some other tells that was seen before
+pub crew_told : {D C : Type 0} (serves : Serving D C) (told other : Tellings) (Kept : Tellings → Type 0) (Put : List Seats → Type 0) (workers regraders : ℕ) (old new : List (D × C)) (end : DoorEnd) → told ≡ other → ServesCrew serves told Kept Put workers regraders old new end → ServesCrew serves other Kept Put workers regraders old new end
+crew_told serves told other Kept Put workers regraders old new end same crew = subst (λ (t : Tellings). ServesCrew serves t Kept Put workers regraders old new end) same crew
+
+-- and the school is closed
+pub crew_closed : {K D C : Type 0} (faults : K → ℕ) (serves : Serving D C) (told : Tellings) (s : Locks) (a b : School K) (workers regraders : ℕ) (before last : Seats) (old new : List (D × C)) (end : DoorEnd) → AreUnturned before → StartsFrom s a → ArePasses s last → Closes faults (seen_in last) b → HasGrownBy s last b
+    → ServesCrew serves told (λ seen. FollowAll seen (seen_in last)) (PutsAlso before last) workers regraders old new end
+    → ServesCrew serves told (λ seen. Closes faults seen b) (λ all. GrowsWith all a b) workers regraders old new end
+crew_closed faults serves told s a b workers regraders before last old new end unturned starts own closed grown crew =
+    let to : (t : Tellings) → FollowAll t (seen_in last) → Closes faults t b = λ t on. closes_from faults t (seen_in last) b on closed in
+    record {
+      beside = beside_kept serves told (λ seen. FollowAll seen (seen_in last)) (λ seen. Closes faults seen b) workers old new end to crew.beside;
+      regraded = regraded_kept serves.tells told (λ seen. FollowAll seen (seen_in last)) (λ seen. Closes faults seen b) regraders to crew.regraded;
+      put = let all = crew.beside.lasts ++ crew.regraded.lasts in grown_with s a b last all starts own grown (puts_all before last all unturned crew.put);
+    }
 
 -- ---- a school that is opened and closed
 
@@ -225,18 +310,7 @@ module _ {K : Type 0} (faults : K → ℕ) (seats : ℕ) (a : School K) (s : Loc
   pub closed_every : (last : Seats) → HoldsEvery s last → HaveEvery s last
   closed_every last all = every_held s seats last.records.numbers last (seats_opened faults seats a s p o) (subst (λ (n : ℕ). HasEvery n last.records.numbers) o.seats_are all.every) all.own
 
--- ---- what is kept of what was seen
-
-pub beside_kept : {D C : Type 0} (serves : Serving D C) (told : Tellings) (Kept Known : Tellings → Type 0) (count : ℕ) (old new : List (D × C)) (end : DoorEnd) → ((t : Tellings) → Kept t → Known t)
-    → ServesBeside serves told Kept count old new end → ServesBeside serves told Known count old new end
-beside_kept serves told Kept Known count old new end to so = record {
-  ends = so.ends;
-  count_is = so.count_is;
-  end_is = so.end_is;
-  each = λ k e at. let is = so.each k e at in record { door = is.door; served = is.served; clock = is.clock; ticked = is.ticked; seen = is.seen; before = is.before; after = is.after; going = is.going; as_often = is.as_often; kept = to is.seen is.kept };
-  others = so.others;
-  as_many = so.as_many;
-}
+-- ---- what was told first
 
 pub told_opened : {K : Type 0} (faults : K → ℕ) (seats : ℕ) (a : School K) (s : Locks) (p : Seats) → Opens faults seats a s p → seen_in p ≡ told_by faults a
 told_opened faults seats a s p o = λ i. record { records = (o.records i).seen; parts = o.parts.seen i }
@@ -252,18 +326,10 @@ pub match_mean : {A E : Type 0} (P Q : A → Type 0) (R : E → Type 0) (r : Res
 match_mean P Q R (Ok a) to is = to a is
 match_mean P Q R (Err e) to is = is
 
-pub if_ok : {A E : Type 0} (P Q : A → Type 0) (r : Result A E) → ((a : A) → P a → Q a) → IfOk r P → IfOk r Q
-if_ok P Q (Ok a) to is = to a is
-if_ok P Q (Err e) to is = is
-
 -- of an end that came with notes
 pub ended : {B E : Type 0} (P : DoorEnd → Type 0) (R : E → Type 0) (r : Result (DoorEnd × B) E) → MatchResult r (λ sat. P sat.0) R → MatchResult (end_of r) P R
 ended P R (Ok sat) is = is
 ended P R (Err e) is = is
-
-pub if_ended : {B E : Type 0} (P : DoorEnd → Type 0) (r : Result (DoorEnd × B) E) → IfOk r (λ sat. P sat.0) → IfOk (end_of r) P
-if_ended P (Ok sat) is = is
-if_ended P (Err e) is = is
 
 -- ---- a list that was written over
 

@@ -1,17 +1,17 @@
 -- Clerks at the doors of a school, side by side: what each noted, from the first request on.
-use Rattle.std.specs.Prelude.{◌≡◌, ℕ, ◌+◌, ◌<◌, Bool, true, false, List, [], length, slice_get, Option, None, Some}
+use Rattle.std.specs.Prelude.{◌≡◌, ℕ, ◌+◌, ◌<◌, Bool, true, false, List, [], ◌++◌, length, slice_get, Option, None, Some}
 use Rattle.qz_doors.specs.declared.door.DoorEnd.{DoorEnd}
 use Rattle.qz_gather.specs.declared.note.Note.{Note}
 use Rattle.qz_gather.specs.Clerks.{Answers, Clerk}
 use Rattle.qz_gather.specs.Notes.{AreTrueOf}
 use Rattle.qz_regrading.specs.declared.ends.LoopEnd.{LoopEnd}
 use Rattle.qz_regrading.specs.Loops.{Regrades}
-use Rattle.qz_stations.specs.Stations.{RegradesBeside, ServesBeside, Serving, all_ends}
+use Rattle.qz_stations.specs.Stations.{RegradesBeside, ServesBeside, Serving, all_ends, put_at, put_with}
 use Rattle.qz_school.specs.Solos.{School}
 use Rattle.qz_terms.specs.Serial.{Lists}
 use Rattle.qz_visit.specs.Closing.{ArePasses, HasFounding, HaveEvery}
 use Rattle.qz_visit.specs.declared.last.Last.{Last}
-use Rattle.qz_visit.specs.Opening.{told_by}
+use Rattle.qz_visit.specs.Opening.{StartAt, told_by}
 use Rattle.qz_visit.specs.Seeing.{FollowAll}
 use Rattle.qz_visit.specs.Visits.{AreCounted, Locks, Seats, Tellings, Visitor, lists_told, seen_in}
 
@@ -84,8 +84,18 @@ pub record AreLong (t : Tellings) (base : Last) : Type 0 where
   pub catalog : base.catalog ≡ length t.records.list
   pub parts : AreCounted t.parts base.parts
 
+-- each lock of this school was made over a list as long as that of the other one
+pub record StartsFrom {K : Type 0} (s : Locks) (a : School K) : Type 0 where
+  pub records : s.records.start ≡ length a.catalog.held.list
+  pub count : length s.parts ≡ length a.parts
+  pub parts : StartAt s.parts a.parts
+
+-- what the turns of these passes put is what those of all of these put
+pub record PutsAll (passes : Seats) (all : List Seats) : Type 0 where
+  pub at : (list : Option ℕ) → put_at list passes ≡ put_with list all
+
 -- Clerks served the first so many doors of a school side by side, while so many others regraded. All have left it, and their passes, joined, may
--- close it. Their books stand in order, those of the doors first.
+-- close it, and have all of their turns. Their books stand in order, those of the doors first.
 pub record ServesNoting {K D C : Type 0} (faults : K → ℕ) (serves : Serving D C) (workers regraders : ℕ) (a : School K) (school : Locks) (passes : Seats) (base : Last) (old new : List (D × C)) (end : DoorEnd) (books : List (List Note)) : Type 0 where
   pub own : ArePasses school passes
   pub every : HaveEvery school passes
@@ -94,6 +104,8 @@ pub record ServesNoting {K D C : Type 0} (faults : K → ℕ) (serves : Serving 
   pub long : AreLong (told_by faults a) base
   pub beside : ServesBeside serves (told_by faults a) (λ seen. FollowAll seen (seen_in passes)) workers old new end
   pub regraded : RegradesBeside serves.tells (told_by faults a) (λ seen. FollowAll seen (seen_in passes)) regraders
+  pub starts : StartsFrom school a
+  pub puts : PutsAll passes (beside.lasts ++ regraded.lasts)
   pub many : length books ≡ workers + regraders
   pub noted : NotesBeside serves (told_by faults a) (λ seen. FollowAll seen (seen_in passes)) workers old new end books
   pub worked : NotesWorks serves.tells (told_by faults a) (λ seen. FollowAll seen (seen_in passes)) workers regraders books

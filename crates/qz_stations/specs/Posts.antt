@@ -1,5 +1,5 @@
 -- Stations that are taken up, served and left.
-use Rattle.std.specs.Prelude.{◌≡◌, ◌⊎◌, ℕ, ◌+◌, ◌^◌, ◌<◌, ◌≤◌, Bool, List, ◌++◌, length, map, slice_get, Some, Contains}
+use Rattle.std.specs.Prelude.{◌≡◌, ◌⊎◌, ℕ, ◌+◌, ◌^◌, ◌<◌, ◌≤◌, Bool, List, ◌++◌, length, map, slice_get, Option, Some, Contains}
 use Rattle.qz_asking.specs.Asking.{Answerer}
 use Rattle.qz_doors.specs.declared.door.DoorEnd.{DoorEnd}
 use Rattle.qz_gather.specs.Clerks.{Answers}
@@ -7,11 +7,11 @@ use Rattle.qz_gather.specs.Notes.{AreTrueOf}
 use Rattle.qz_regrading.specs.declared.ends.LoopEnd.{LoopEnd}
 use Rattle.qz_regrading.specs.Loops.{HasRisenBy, Regrades}
 use Rattle.qz_stations.specs.Noting.{NotesOn, clerk_sees, none_yet}
-use Rattle.qz_stations.specs.Stations.{Post, Serving, at_place, fault_replies, faults_told, no_end, notes_at}
+use Rattle.qz_stations.specs.Stations.{AreUnturned, AsksWith, Post, Serving, ServesBeside, at_place, fault_replies, faults_told, lists_seen, no_end, notes_at, put_at, put_with}
 use Rattle.qz_turn.specs.Rule.{HasEvery}
 use Rattle.qz_visit.specs.Holding.{GoesOn, Holds}
-use Rattle.qz_visit.specs.Seeing.{FollowAll, IsAskedBeside}
-use Rattle.qz_visit.specs.Visits.{Locks, Seats, Tellings, lists_told, seen_in}
+use Rattle.qz_visit.specs.Seeing.{FollowAll}
+use Rattle.qz_visit.specs.Visits.{Locks, Seats, Tellings, seen_in}
 
 -- ---- numbers
 
@@ -60,7 +60,19 @@ pub record TakesUp {P : Type 0} (s : Locks) (told : Tellings) (numbers : List �
 pub record AreUnnoted {P : Type 0} (noting : Bool) (stations : List (Post P)) : Type 0 where
   pub each : (k : ℕ) (p : Post P) → slice_get stations k ≡ Some p → p.notes ≡ none_yet noting
 
+-- no turn was taken with these passes, nor with those of these stations
+pub record NoneTurned {P : Type 0} (passes : Seats) (stations : List (Post P)) : Type 0 where
+  pub own : AreUnturned passes
+  pub each : (k : ℕ) (p : Post P) → slice_get stations k ≡ Some p → AreUnturned p.visit.passes
+
 -- ---- leaving
+
+abbrev pub passes_of : {P : Type 0} → Post P → Seats
+passes_of p = p.visit.passes
+
+-- To what the turns of some passes put came what those of these others put.
+pub record PutsAlso (before after : Seats) (others : List Seats) : Type 0 where
+  pub at : (list : Option ℕ) → put_at list after ≡ put_at list before + put_with list others
 
 -- the notes at each are true of what its passes have seen
 pub record NoteTruly {P : Type 0} (stations : List (Post P)) : Type 0 where
@@ -90,11 +102,16 @@ pub record TakesIn {P : Type 0} (s : Locks) (old new : Seats) (stations : List (
   pub follows : FollowAll (seen_in old) (seen_in new)
   pub each : (k : ℕ) (p : Post P) → slice_get stations k ≡ Some p → FollowAll (seen_in p.visit.passes) (seen_in new)
 
+-- the first so many doors were served with passes of those before, which take in what was put there
+pub record ServesFirst {D C : Type 0} (serves : Serving D C) (before after : Seats) (count : ℕ) (old new : List (D × C)) (end : DoorEnd) : Type 0 where
+  pub beside : ServesBeside serves (seen_in before) (λ seen. FollowAll seen (seen_in after)) count old new end
+  pub put : PutsAlso before after beside.lasts
+
 -- ---- in between
 
 -- what serving a door did
 pub record IsServed {D C : Type 0} (serves : Serving D C) (old new : Post (D × C)) : Type 0 where
-  pub going : serves.serves old.place.0 new.place.0 (record { desk = seen_in old.visit.passes; clock = old.place.1 }) (record { desk = seen_in new.visit.passes; clock = new.place.1 }) new.end
+  pub going : serves.serves old.place.0 new.place.0 (record { desk = old.visit.passes; clock = old.place.1 }) (record { desk = new.visit.passes; clock = new.place.1 }) new.end
   pub as_often : HasRisenBy (faults_told (seen_in old.visit.passes)) (fault_replies (serves.replies going)) (faults_told (seen_in new.visit.passes))
   pub goes_on : GoesOn old.visit new.visit
   pub notes : NotesOn (λ a b. serves.notes old.place.0 new.place.0 (record { desk = a; clock = old.place.1 }) (record { desk = b; clock = new.place.1 }) new.end) old.visit new.visit old.notes new.notes
@@ -104,15 +121,15 @@ pub record HasGoneOn {C : Type 0} (old new : Post C) : Type 0 where
   pub goes_on : GoesOn old.visit new.visit
   pub end : new.end ≡ old.end
 
--- what one who regrades sees of the lists, and the clock
-abbrev pub seen_at : {C : Type 0} → Post C → Answerer Tellings C
-seen_at p = record { desk = seen_in p.visit.passes; clock = p.place }
+-- the passes of one who regrades, and the clock
+abbrev pub regrading_at : {C : Type 0} → Post C → Answerer Seats C
+regrading_at p = record { desk = p.visit.passes; clock = p.place }
 
 -- what regrading did: passes of a worker, and nothing else
 pub record HasRegraded {C : Type 0} (tells : C → ℕ → C → Type 0) (old new : Post C) : Type 0 where
   pub gone_on : HasGoneOn old new
   pub loop : LoopEnd
-  pub regrades : Regrades tells IsAskedBeside lists_told (seen_at old) (seen_at new) loop
+  pub regrades : Regrades tells AsksWith lists_seen (regrading_at old) (regrading_at new) loop
   pub notes : NotesOn (λ a b. Regrades tells Answers clerk_sees (record { desk = a; clock = old.place }) (record { desk = b; clock = new.place }) loop) old.visit new.visit old.notes new.notes
 
 -- this was done at each

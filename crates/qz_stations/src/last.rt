@@ -37,8 +37,9 @@ pub fn regrade_last<K: Keeper, W: Wait, R: Door, C: Clock>(
 /// other. Each door is served until `links` links of the crew were taken there, none comes or it fails. So many others regrade beside them, by
 /// these clocks, until all doors are served, and once more then. Where there are any, a last pass is made over the school that all have left.
 ///
-/// The school comes back. Each of its lists goes on from what it was, and from all that was seen at each door; and after a last pass that ended
-/// with `Done` each job of the catalogue is done in each shard.
+/// The school comes back. Each of its lists goes on from what it was, and from all that was seen at each door, and when all have left it is longer
+/// by as many records as the requests at the doors and those that regrade put there; and after a last pass that ended with `Done` each job of the
+/// catalogue is done in each shard.
 ///
 /// # Errors
 ///

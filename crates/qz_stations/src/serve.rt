@@ -6,8 +6,8 @@ ghost use Rattle.qz_visit.specs.Opening.{told_by};
 ghost use Rattle.qz_visit.specs.Seeing.{FollowAll};
 ghost use Rattle.qz_visit.specs.Visits.{seen_in};
 ghost use Rattle.qz_stations.specs.Noting.{AreBooksOf, NotesBeside, NotesWorks};
-ghost use Rattle.qz_stations.specs.Posts.{AreAmong, AreEach, HasGoneOn, HasRegraded, HoldTheirs, HoldsEvery, IsServed};
-ghost use Rattle.qz_stations.specs.Stations.{RegradesBeside, ServesBeside, end_of, entrance_by, peer_by, serving_by};
+ghost use Rattle.qz_stations.specs.Posts.{AreAmong, AreEach, HasGoneOn, HasRegraded, HoldTheirs, HoldsEvery, IsServed, PutsAlso, ServesFirst};
+ghost use Rattle.qz_stations.specs.Stations.{AreUnturned, GrowsWith, ServesCrew, end_of, entrance_by, peer_by, serving_by};
 
 use crate::sides::at_both;
 use crate::station::{Station, regrade, serve};
@@ -97,6 +97,7 @@ fn serve_first<
 where
     R::Link: Send,
     requires own { HoldTheirs school.now passes.old.seats }
+    requires unturned { AreUnturned passes.old.seats }
     requires enough { crew.workers ≤ length passes.old.seats.records.numbers }
     requires doors { crew.workers ≤ length doors.old.items }
     requires none { books.old.items ≡ [] }
@@ -105,10 +106,9 @@ where
     ensures kept { AreAmong passes.old.seats.records.numbers passes.new.seats.records.numbers }
     ensures follows { FollowAll (seen_in passes.old.seats) (seen_in passes.new.seats) }
     ensures served { MatchResult result
-        (ServesBeside (serving_by C.tells (peer_by R.Link.left R.Link.holds R.Link.faults)
+        (ServesFirst (serving_by C.tells (peer_by R.Link.left R.Link.holds R.Link.faults)
         (entrance_by R.left R.returned R.returns R.out R.faults) crew.links)
-        (seen_in passes.old.seats) (λ seen. FollowAll seen (seen_in passes.new.seats))
-        crew.workers doors.old.items doors.new.items)
+        passes.old.seats passes.new.seats crew.workers doors.old.items doors.new.items)
         (λ _. doors.new.items ≡ doors.old.items) }
     ensures gone_on { AreEach HasGoneOn regraders.old regraders.new }
     ensures regraded { IfOk result
@@ -165,19 +165,19 @@ pub(crate) fn serve_beside<
 where
     R::Link: Send,
     requires every { HoldsEvery school.now passes.seats }
+    requires unturned { AreUnturned passes.seats }
     requires enough { crew.workers + crew.regraders ≤ length passes.seats.records.numbers }
     requires doors { crew.workers ≤ length doors.old.items }
     requires clocks { crew.regraders ≤ length clocks.items }
     ensures every { HoldsEvery school.now result.0.seats }
     ensures follows { FollowAll (seen_in passes.seats) (seen_in result.0.seats) }
     ensures served { MatchResult result.1
-        (λ sat. ServesBeside (serving_by C.tells (peer_by R.Link.left R.Link.holds R.Link.faults)
+        (λ sat. ServesCrew (serving_by C.tells (peer_by R.Link.left R.Link.holds R.Link.faults)
         (entrance_by R.left R.returned R.returns R.out R.faults) crew.links)
         (seen_in passes.seats) (λ seen. FollowAll seen (seen_in result.0.seats))
-        crew.workers doors.old.items doors.new.items sat.0)
+        (PutsAlso passes.seats result.0.seats)
+        crew.workers crew.regraders doors.old.items doors.new.items sat.0)
         (λ _. doors.new.items ≡ doors.old.items) }
-    ensures regraded { IfOk result.1 (λ _. RegradesBeside C.tells (seen_in passes.seats)
-        (λ seen. FollowAll seen (seen_in result.0.seats)) crew.regraders) }
     ensures noted { noting ≡ true → IfOk result.1
         (λ sat. NotesBeside (serving_by C.tells (peer_by R.Link.left R.Link.holds R.Link.faults)
         (entrance_by R.left R.returned R.returns R.out R.faults) crew.links)
@@ -253,8 +253,8 @@ fn end_of(served: Result<(DoorEnd, Vec<Listed<Note>>), NoMemory>) -> Result<Door
 }
 
 /// Serves the first doors over a school, one a worker, side by side, while others regrade by clocks of their own. The school comes back: each of
-/// its lists goes on from what it was, and from all that was seen at each door. Where memory is short before any door is served, the doors
-/// stay as they are.
+/// its lists goes on from what it was, and from all that was seen at each door, and is longer by what was put there and by those that regrade.
+/// Where memory is short before any door is served, the doors stay as they are.
 pub(crate) fn serve_doors<
     K: Keeper + Send + Sync,
     W: Threads + Wait + Sync,
@@ -274,13 +274,12 @@ where
     requires clocks { crew.regraders ≤ length clocks.items }
     ensures closes { Closes K.faults (told_by K.faults solo) result.0 }
     ensures served { MatchResult result.1
-        (ServesBeside (serving_by C.tells (peer_by R.Link.left R.Link.holds R.Link.faults)
+        (ServesCrew (serving_by C.tells (peer_by R.Link.left R.Link.holds R.Link.faults)
         (entrance_by R.left R.returned R.returns R.out R.faults) crew.links)
         (told_by K.faults solo) (λ seen. Closes K.faults seen result.0)
-        crew.workers doors.old.items doors.new.items)
+        (λ passes. GrowsWith passes solo result.0)
+        crew.workers crew.regraders doors.old.items doors.new.items)
         (λ _. doors.new.items ≡ doors.old.items) }
-    ensures regraded { IfOk result.1 (λ _. RegradesBeside C.tells (told_by K.faults solo)
-        (λ seen. Closes K.faults seen result.0) crew.regraders) }
 {
     let seats = u32::from(crew.workers) + u32::from(crew.regraders);
     let (catalog, shards) = solo.into_parts();

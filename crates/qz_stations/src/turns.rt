@@ -2,8 +2,8 @@
 
 ghost use Rattle.std.specs.Prelude.{◌≡◌, ◌+◌, ◌≤◌, ◌++◌, [], length, map, IfOk, vec_len, vec_capacity};
 ghost use Rattle.qz_visit.specs.Visits.{seen_in};
-ghost use Rattle.qz_stations.specs.Posts.{AreManned, AreUnnoted, HoldTheirs, NoteTruly, TakesIn, TakesUp};
-ghost use Rattle.qz_stations.specs.Stations.{all_ends, at_place, notes_at};
+ghost use Rattle.qz_stations.specs.Posts.{AreManned, AreUnnoted, HoldTheirs, NoneTurned, NoteTruly, PutsAlso, TakesIn, TakesUp, passes_of};
+ghost use Rattle.qz_stations.specs.Stations.{AreUnturned, all_ends, at_place, notes_at};
 
 use crate::ends::{both_ends, no_end};
 use crate::station::Station;
@@ -28,12 +28,14 @@ pub(crate) fn take_up<'s, 'r, K: Keeper, W: Wait, P>(
     stations: &mut Vec<Station<'s, 'r, K, W, P>>,
 ) -> Result<(), NoMemory>
     requires own { HoldTheirs school.now passes.old.seats }
+    requires unturned { AreUnturned passes.old.seats }
     requires enough { count ≤ length passes.old.seats.records.numbers }
     requires places { count ≤ length places.old.items }
     requires none { stations.old.items ≡ [] }
     requires room { count ≤ vec_capacity stations.old }
     ensures taken { TakesUp school.now (seen_in passes.old.seats) passes.old.seats.records.numbers
         places.old.items places.new.items passes.new.seats stations.new.items }
+    ensures unturned { NoneTurned passes.new.seats stations.new.items }
     ensures unnoted { AreUnnoted noting stations.new.items }
     ensures few { length stations.new.items ≤ count }
     ensures all { IfOk result (λ _. length stations.new.items ≡ count) }
@@ -64,6 +66,8 @@ pub(crate) fn leave<K: Keeper, W: Wait, P>(
     ensures end { result ≡ all_ends (map (λ p. p.end) stations.entry.items) }
     ensures passes { TakesIn school.now passes.old.seats passes.new.seats
         stations.entry.items }
+    ensures put { PutsAlso passes.old.seats passes.new.seats
+        (map passes_of stations.entry.items) }
     ensures last { passes.new.last ≡ passes.old.last }
     ensures books { books.new.items ≡ books.old.items ++ map notes_at stations.entry.items }
     ensures true_of { NoteTruly stations.entry.items }

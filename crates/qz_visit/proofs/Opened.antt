@@ -106,7 +106,7 @@ module _ {K : Type 0} (faults : K → ℕ) (records : Lock (Unit {0})) (seats n 
   opened-none = record {
     placed = record { each = λ k l at. absurd cc };
     own = record { count = refl; own = λ k l p at there. absurd cc };
-    dealt = record { seats_are = λ k l at. absurd cc; numbers = λ k p at. absurd cc };
+    dealt = record { seats_are = λ k l at. absurd cc; numbers = λ k p at. absurd cc; unturned = λ k p at. absurd cc };
     starts = record { each = λ k l s at there. absurd cc };
     seen = refl;
   }
@@ -151,6 +151,10 @@ module _ {K : Type 0} (faults : K → ℕ) (records : Lock (Unit {0})) (seats n 
           numbers = λ k q at. elim (get_push ps p q k at) [
             | inl old ↦ so.dealt.numbers k q old
             | inr new ↦ ap (λ (x : Part). x.numbers) (sym new.1 ∙ is.first)
+          ];
+          unturned = λ k q at. elim (get_push ps p q k at) [
+            | inl old ↦ so.dealt.unturned k q old
+            | inr new ↦ ap (λ (x : Part). x.turns) (sym new.1 ∙ is.first)
           ];
         };
         starts = record {

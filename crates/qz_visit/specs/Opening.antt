@@ -1,5 +1,5 @@
 -- A school that is put behind locks, and passes that are split.
-use Rattle.std.specs.Prelude.{◌≡◌, ℕ, List, ◌++◌, length, map, reverse, slice_get, Some}
+use Rattle.std.specs.Prelude.{◌≡◌, ℕ, List, [], ◌++◌, length, map, reverse, slice_get, Some}
 use Rattle.qz_catalog_turns.specs.Turning.{tale_of}
 use Rattle.qz_shard.specs.Keeping as part
 use Rattle.qz_shard_turns.specs.Tying.{Placed}
@@ -34,10 +34,11 @@ pub record IsOpened {K : Type 0} (faults : K → ℕ) (records : Lock (Unit {0})
   pub start_is : l.start ≡ length s.held.list
   pub first : p ≡ first_pass l.lock (tale_of s.held (faults s.keeper)) seats
 
--- each of these locks has so many seats, and its pass has every number
+-- each of these locks has so many seats, and its pass has every number and took no turn
 pub record AreDealt (seats : ℕ) (locks : List (Locked Placed)) (passes : List Part) : Type 0 where
   pub seats_are : (k : ℕ) (l : Locked Placed) → slice_get locks k ≡ Some l → l.seats ≡ seats
   pub numbers : (k : ℕ) (p : Part) → slice_get passes k ≡ Some p → p.numbers ≡ below seats
+  pub unturned : (k : ℕ) (p : Part) → slice_get passes k ≡ Some p → p.turns ≡ []
 
 -- each of these locks was made over a list as long as that of the shard at its place
 pub record StartAt {K : Type 0} (locks : List (Locked Placed)) (parts : List (part.Keeping K)) : Type 0 where
@@ -58,7 +59,7 @@ pub record HalfOpens {K : Type 0} (faults : K → ℕ) (records : Lock (Unit {0}
   pub opened : AreOpened faults records seats (length all) done locks passes
 
 -- A school is behind locks with so many seats each, which were made over its lists, and these are its first passes: they have every number,
--- and have seen all of it.
+-- took no turn, and have seen all of it.
 pub record Opens {K : Type 0} (faults : K → ℕ) (seats : ℕ) (a : School K) (s : Locks) (p : Seats) : Type 0 where
   pub seats_are : s.records.seats ≡ seats
   pub start_is : s.records.start ≡ length a.catalog.held.list

@@ -145,9 +145,9 @@ fn open_all<K: Keeper>(
 }
 
 impl<K: Keeper> School<K> {
-    /// A school behind locks, each with this many seats, and its first passes, which have every number and have seen all of it: of a catalogue
-    /// and the shards in order that it was founded with, each of which agrees with it. Each lock tells how long its list is now (`start`). Where
-    /// memory is short they come back, and each list goes on from what it was.
+    /// A school behind locks, each with this many seats, and its first passes, which have every number, took no turn and have seen all of it: of
+    /// a catalogue and the shards in order that it was founded with, each of which agrees with it. Each lock tells how long its list is now
+    /// (`start`). Where memory is short they come back, and each list goes on from what it was.
     pub fn open(
         alloc: Global,
         catalog: Catalog<K>,

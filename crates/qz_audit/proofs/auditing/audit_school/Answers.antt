@@ -20,7 +20,7 @@ pub overflow_sub-after : goal.overflow_sub-after
 overflow_sub-after g c =
     let n = rw c.count_records-loaded.ensures.same at c.in-Ok.ensures in
     let left = c.gather-closed.result.0 in
-    let more = no_fewer g.K.Keeper.faults c.args.solo left (goes_on g.K.Keeper.sound g.K.Keeper.faults _ _ _ _ _ left _ _ _ _ _ c.args.doors.now.items _ _ None n c.gather-closed.ensures.closes) in
+    let more = no_fewer g.K.Keeper.faults c.args.solo left (goes_on g.K.Keeper.sound g.K.Keeper.faults _ _ _ _ _ left _ _ _ _ _ c.args.doors.now.items _ _ None n c.gather-closed.ensures.closes c.gather-closed.ensures.grown) in
     let before = c.count_records-loaded.ensures.count in
     let later = c.count_records-solo.ensures.count in
     omega (arith, more, before, later)
@@ -30,7 +30,7 @@ returns g c =
     let n = rw c.count_records-loaded.ensures.same at c.in-Ok.ensures in
     let left = c.gather-closed.result.0 in
     let closes = c.gather-closed.ensures.closes in
-    let more = no_fewer g.K.Keeper.faults c.args.solo left (goes_on g.K.Keeper.sound g.K.Keeper.faults _ _ _ _ _ left _ _ _ _ _ c.args.doors.now.items _ _ None n closes) in
+    let more = no_fewer g.K.Keeper.faults c.args.solo left (goes_on g.K.Keeper.sound g.K.Keeper.faults _ _ _ _ _ left _ _ _ _ _ c.args.doors.now.items _ _ None n closes c.gather-closed.ensures.grown) in
     let is = finds_counted (lists_in c.args.solo) (lists_in left) _ _ _ _ _ _ more c.count_records-loaded.ensures.count c.count_records-solo.ensures.count c.found-gathered.ensures c.gather-closed.ensures.gathers in
     let lasts = rw c.count_records-solo.ensures.same at c.regrade_last-last.ensures in
-    audits _ _ _ _ _ _ _ _ _ _ _ _ _ _ _ _ _ n closes _ c.gather-closed.ensures.true_of is lasts
+    audits _ _ _ _ _ _ _ _ _ _ _ _ _ _ _ _ _ n closes c.gather-closed.ensures.grown _ c.gather-closed.ensures.true_of is lasts

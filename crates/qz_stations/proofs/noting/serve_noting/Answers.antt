@@ -1,6 +1,7 @@
 use Rattle.std.proofs.Common.{refl, arith}
 use Rattle.qz_stations.proofs.Books.{long_told}
-use Rattle.qz_stations.proofs.Serving.{closed_every, closes_whole, opened_every, opened_many, told_whole}
+use Rattle.qz_stations.proofs.Putting.{puts_all, starts_whole, unturned_opened}
+use Rattle.qz_stations.proofs.Serving.{closed_every, closes_whole, crew_told, opened_every, opened_many, told_whole}
 use Rattle.qz_visit.proofs.Holding.{founding_held, passes_held}
 use Rattle.qz_visit.proofs.Seeing.{closes_from}
 use Rattle.qz_stations.proofs.noting.serve_noting.Goals as goal
@@ -10,6 +11,9 @@ serve_beside-passes-requires-clause-every g c κs within = opened_every _ _ _ _ 
 
 pub serve_beside-passes-requires-clause-enough : goal.serve_beside-passes-requires-clause-enough
 serve_beside-passes-requires-clause-enough g c κs within = let many = opened_many _ _ _ _ _ c.in-Ok.ensures.opened c.into_parts-catalog.ensures.solo in omega (arith, many)
+
+pub serve_beside-passes-requires-clause-unturned : goal.serve_beside-passes-requires-clause-unturned
+serve_beside-passes-requires-clause-unturned g c κs within = unturned_opened _ _ _ _ _ c.in-Ok.ensures.opened
 
 pub closed-requires-clause-own : goal.closed-requires-clause-own
 closed-requires-clause-own g c = passes_held _ _ _ (opened_every _ _ _ _ _ c.in-Ok.ensures.opened c.into_parts-catalog.ensures.solo).own
@@ -40,14 +44,17 @@ returns-in-Ok-served g c =
     let same = c.into_parts-catalog.ensures in
     let told = told_whole g.K.Keeper.faults _ _ _ c.args.solo _ _ same.catalog same.shards c.in-Ok.ensures.opened in
     let all = c.serve_beside-passes.ensures in
+    let crew = crew_told _ _ _ _ _ _ _ _ _ _ told (rw c.in-Ok-served.is at all.served) in
     record {
       own = passes_held _ _ _ all.every.own;
       every = closed_every _ _ _ _ _ c.in-Ok.ensures.opened _ all.every;
       founded = founding_held _ _ _ all.every.own;
       follows = rw (← told) all.follows;
       long = long_told _ _ _ _ _ told c.in-Ok.ensures.unasked c.last.ensures c.in-Ok-copy_of_base.ensures.catalog c.in-Ok-copy_of_base.ensures.parts;
-      beside = rw (← told) (rw c.in-Ok-served.is at all.served);
-      regraded = rw (← told) (rw c.in-Ok-served.is at all.regraded);
+      beside = crew.beside;
+      regraded = crew.regraded;
+      starts = starts_whole g.K.Keeper.faults _ _ _ c.args.solo _ _ same.catalog same.shards c.in-Ok.ensures.opened;
+      puts = puts_all _ _ _ (unturned_opened _ _ _ _ _ c.in-Ok.ensures.opened) crew.put;
       many = rw c.in-Ok-served.is at all.many;
       noted = rw (← told) ((rw c.in-Ok-served.is at all.noted) refl);
       worked = rw (← told) ((rw c.in-Ok-served.is at all.worked) refl);

@@ -5,7 +5,7 @@ use Rattle.qz_stations.specs.Stations.{notes_at}
 use Rattle.qz_stations.proofs.Books.{books_both, books_left, books_on, noted_kept, noted_longer, notes_works}
 use Rattle.qz_visit.specs.Seeing.{FollowAll}
 use Rattle.qz_visit.specs.Visits.{seen_in}
-use Rattle.qz_stations.proofs.Serving.{back_served, back_taken, beside_kept, counted_regraded, every_among, goes_regraded, manned_served, manned_taken, regraded_beside, written}
+use Rattle.qz_stations.proofs.Serving.{back_served, back_taken, counted_regraded, crew_served, every_among, goes_regraded, manned_served, manned_taken, written}
 use Rattle.qz_visit.proofs.Seeing.{all_on, all_self}
 use Rattle.qz_stations.proofs.serve.serve_beside.Goals as goal
 
@@ -14,6 +14,9 @@ returns-in_default-clause-follows g c = all_self _
 
 pub returns-in_default-with_capacity-clause-follows : goal.returns-in_default-with_capacity-clause-follows
 returns-in_default-with_capacity-clause-follows g c = all_self _
+
+pub serve_first-served-requires-clause-unturned : goal.serve_first-served-requires-clause-unturned
+serve_first-served-requires-clause-unturned g c κs within = c.take_up.ensures.unturned.own
 
 pub leave-requires-clause-manned : goal.leave-requires-clause-manned
 leave-requires-clause-manned g c = manned_taken _ _ _ _ _ _ _ c.take_up.ensures.taken (omega arith)
@@ -58,16 +61,12 @@ returns-clause-follows g c =
     let seen = c.take_up.ensures.taken.seen in
     all_on _ _ _ (subst (λ t. FollowAll t (seen_in c.serve_first-served.new.passes.seats)) seen c.serve_first-served.ensures.follows) c.leave-2.ensures.passes.follows
 
-pub returns-in-Ok-served-clause-regraded : goal.returns-in-Ok-served-clause-regraded
-returns-in-Ok-served-clause-regraded g c =
-    let did = rw (c.deref_mut.ensures.value, c.in-Ok-served.is) at c.serve_first-served.ensures.regraded in
-    let all = written c.take_up.new.stations.len c.serve_first-served.new.regraders c.take_up.new.stations.items did.count (let ok = c.take_up.new.stations.ok in omega (arith, ok)) in
-    regraded_beside _ _ _ _ _ _ _ _ _ _ c.take_up.ensures.taken did _ _ (c.in_default-take_up.ensures.all ∙ c.from-count.ensures) (rw all at c.leave-2.ensures.passes)
-
 pub returns-in-Ok-served-clause-served : goal.returns-in-Ok-served-clause-served
 returns-in-Ok-served-clause-served g c =
-    let so = rw (c.take_up.ensures.taken.seen, c.in-Ok-served.is) at c.serve_first-served.ensures.served in
-    beside_kept _ _ _ _ _ _ _ c.in-Ok-served.end (λ t on. all_on _ _ _ on c.leave-2.ensures.passes.follows) so
+    let did = rw (c.deref_mut.ensures.value, c.in-Ok-served.is) at c.serve_first-served.ensures.regraded in
+    let all = written c.take_up.new.stations.len c.serve_first-served.new.regraders c.take_up.new.stations.items did.count (let ok = c.take_up.new.stations.ok in omega (arith, ok)) in
+    let first = rw c.in-Ok-served.is at c.serve_first-served.ensures.served in
+    crew_served _ _ _ _ _ _ _ _ _ _ _ _ _ _ _ c.in-Ok-served.end c.take_up.ensures.taken c.take_up.ensures.unturned c.requires.unturned did (c.in_default-take_up.ensures.all ∙ c.from-count.ensures) (rw all at c.leave-2.ensures.passes) (rw all at c.leave-2.ensures.put) first
 
 pub returns-in-Ok-served-clause-noted : goal.returns-in-Ok-served-clause-noted
 returns-in-Ok-served-clause-noted g c is =

@@ -3,7 +3,7 @@ use Rattle.std.proofs.lemmas.List.{length-map}
 use Rattle.qz_stations.specs.Posts.{AreUnnoted}
 use Rattle.qz_stations.specs.Stations.{notes_at}
 use Rattle.qz_stations.proofs.Books.{books_both, books_left, no_books, notes_beside}
-use Rattle.qz_stations.proofs.Serving.{back_served, back_taken, beside, counted_door, gone_on_each, manned_served, manned_taken, none_regraded, written}
+use Rattle.qz_stations.proofs.Serving.{back_served, back_taken, counted_door, first_served, gone_on_each, manned_served, manned_taken, none_regraded, written}
 use Rattle.qz_visit.proofs.Seeing.{all_self}
 use Rattle.qz_stations.proofs.serve.serve_first.Goals as goal
 
@@ -44,7 +44,7 @@ pub returns-clause-served : goal.returns-clause-served
 returns-clause-served g c =
     let served = rw c.deref_mut.ensures.value at c.serve_all.ensures.served in
     let all = written c.take_up.new.stations.len c.serve_all.new.stations c.take_up.new.stations.items served.count (let ok = c.take_up.new.stations.ok in omega (arith, ok)) in
-    beside _ _ _ _ _ _ _ _ c.take_up.ensures.taken _ _ served _ c.leave-end.new.passes.seats _ _ (c.in_default-take_up.ensures.all ∙ c.from-count.ensures) (rw all at c.leave-end.ensures.places) (rw all at c.leave-end.ensures.end) (rw all at c.leave-end.ensures.passes)
+    first_served _ _ _ _ _ _ _ _ c.take_up.ensures.taken c.take_up.ensures.unturned _ _ served c.leave-end.new.passes.seats _ _ (c.in_default-take_up.ensures.all ∙ c.from-count.ensures) (rw all at c.leave-end.ensures.places) (rw all at c.leave-end.ensures.end) (rw all at c.leave-end.ensures.passes) c.requires.unturned (rw all at c.leave-end.ensures.put)
 
 pub returns-in_default-clause-books : goal.returns-in_default-clause-books
 returns-in_default-clause-books g c = no_books _ _ c.requires.none

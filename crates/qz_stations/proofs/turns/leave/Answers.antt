@@ -2,7 +2,7 @@ use Rattle.std.proofs.Common.{◌≡◌, ◌∷◌, [], length, length-append, r
 use Rattle.std.specs.List.{insert}
 use Rattle.std.proofs.lemmas.List.{nil_from_length}
 use Rattle.qz_stations.specs.Stations.{both_ends}
-use Rattle.qz_stations.proofs.Leaving.{LeavesOn, last_manned, leaves_none, leaves_one, left_passes, may_be_short, may_take, popped}
+use Rattle.qz_stations.proofs.Leaving.{LeavesOn, last_manned, leaves_none, leaves_one, left_passes, left_put, may_be_short, may_take, popped}
 use Rattle.qz_stations.proofs.Books.{ShelvesOn, shelved, shelved_truly, shelves_none, shelves_one}
 use Rattle.qz_visit.specs.Closing.{JoinsAll}
 use Rattle.qz_visit.proofs.Holding.{passes_held}
@@ -65,6 +65,13 @@ returns-clause-passes g c =
     let none_left = none.0 in
     let empty : c.loop-station.stations.items ≡ [] = nil_from_length c.loop-station.stations.items (omega (arith, none_left)) in
     left_passes _ _ _ _ _ _ _ (subst (λ l. LeavesOn c.args.school.now c.args.passes.now.seats c.loop-station.passes.seats c.args.stations.items l c.args.places.now.items c.loop-station.places.items c.loop-station.end) empty c.loop-station.invariant.0)
+
+pub returns-clause-put : goal.returns-clause-put
+returns-clause-put g c =
+    let none = c.in_default.ensures.cases in
+    let none_left = none.0 in
+    let empty : c.loop-station.stations.items ≡ [] = nil_from_length c.loop-station.stations.items (omega (arith, none_left)) in
+    left_put _ _ _ _ _ _ _ (subst (λ l. LeavesOn c.args.school.now c.args.passes.now.seats c.loop-station.passes.seats c.args.stations.items l c.args.places.now.items c.loop-station.places.items c.loop-station.end) empty c.loop-station.invariant.0)
 
 pub returns-clause-books : goal.returns-clause-books
 returns-clause-books g c =

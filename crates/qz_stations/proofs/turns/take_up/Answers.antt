@@ -3,6 +3,7 @@ use Rattle.std.proofs.lemmas.List.{length-map}
 use Rattle.qz_stations.specs.Stations.{at_place}
 use Rattle.qz_stations.proofs.Lists.{first_of_some}
 use Rattle.qz_stations.proofs.Books.{counts_unasked, unnoted_one}
+use Rattle.qz_stations.proofs.Putting.{still_unturned}
 use Rattle.qz_stations.proofs.TakingUp.{next_holds, takes_one}
 use Rattle.qz_visit.specs.Visits.{Visitor}
 use Rattle.qz_visit.proofs.Holding.{holds_given, of_held}
@@ -50,4 +51,5 @@ loop-preserved g c =
       omega (arith, room, kept),
       omega (arith, pushed, one, place, fewer, same),
       unnoted_one _ _ _ c.new-in-loop.result i.4 (ap (λ p. p.notes) made) c.push_reserved.ensures.items,
+      still_unturned _ _ _ _ _ c.new-in-loop.result i.5 c.in_ok-given.ensures.given visit c.push_reserved.ensures.items,
     )
