@@ -23,14 +23,15 @@ use Rattle.qz_script_schools.specs.Folders.{Disks, FolderEnds, ServedFolder, Uns
 use Rattle.qz_script_schools.proofs.FolderLemmas.{not_raised, unserved_status}
 use Rattle.qz_served.specs.declared.saying.Served.{Served}
 use Rattle.qz_served.specs.Saying.{SaysServed}
+use Rattle.qz_stations.specs.Stations.{GrowsWith}
 use Rattle.qz_visit.specs.Closing.{Closes}
 use Rattle.qz_visit.specs.Opening.{told_by}
-use Rattle.qz_visit.specs.Visits.{Tellings}
+use Rattle.qz_visit.specs.Visits.{Seats, Tellings}
 
 -- what serving came to, and what was said of it
 pub polled_so : {D P L C E : Type 0} (disks : Disks D) (tells : C → ℕ → C → Type 0) (peer : L → Peer) (links : ℕ) (clocks : List C) (tell : P → At P L) (door left : P) (before now : Sunk) (a b : School (Ledger D)) (served : Result Served E) (s : Option Stop)
     → Closes (journal_faults disks) (told_by (journal_faults disks) a) b
-    → MatchResult served (VisitorsServe tells peer links clocks (tell door).entrance (tell left).entrance (told_by (journal_faults disks) a) (λ seen. Closes (journal_faults disks) seen b)) (λ _. left ≡ door)
+    → MatchResult served (VisitorsServe tells peer links clocks (tell door).entrance (tell left).entrance (told_by (journal_faults disks) a) (λ seen. Closes (journal_faults disks) seen b) (λ passes. GrowsWith passes a b)) (λ _. left ≡ door)
     → SaysOf before.holds now.holds before.faults now.faults served s
     → PolledDoor disks tells peer links clocks (tell door) (tell left) before now s a b ⊎ NonePolled disks (tell door) (tell left) before now s a b
 polled_so disks tells peer links clocks tell door left before now a b (Ok end) s closes so says = inl (record { end = end; closes = closes; served = so; says = says })
@@ -44,7 +45,7 @@ module _ {D P L C : Type 0} (disks : Disks D) (tells : C → ℕ → C → Type 
   fault-rises why.DoorFault old new most taken stops is = stops.1
   fault-rises why.Memory old new most taken stops is = absurd cc
 
-  no-fault : {told : Tellings} {Kept : Tellings → Type 0} (end : Served) → VisitorsServe tells peer links clocks at.entrance after.entrance told Kept end → ¬ HasRisen at.entrance.faults after.entrance.faults → end.fault ≡ true → ⊥
+  no-fault : {told : Tellings} {Kept : Tellings → Type 0} {Put : List Seats → Type 0} (end : Served) → VisitorsServe tells peer links clocks at.entrance after.entrance told Kept Put end → ¬ HasRisen at.entrance.faults after.entrance.faults → end.fault ≡ true → ⊥
   no-fault end so quiet failed = ∥∥₁_elim so.serves ⊥_prop (λ x. quiet (fault-rises so.w at.entrance after.entrance links so.taken x.stops (sym (ap (λ (e : Served). e.fault) so.end_is) ∙ failed)))
 
   says-status : (old new : Option (List ℕ)) (before now : ℕ) (end : Served) (s : Option Stop) → SaysServed old new before now end s → ¬ HasRisen before now → (end.fault ≡ true → ⊥) → (status_of s ≡ 0) ⊎ (status_of s ≡ 8)

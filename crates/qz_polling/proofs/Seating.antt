@@ -9,7 +9,7 @@ use Rattle.qz_doors.specs.declared.door.DoorEnd.{DoorEnd}
 use Rattle.qz_doors.specs.Doors.{Entrance, ServesDoor, ServesInTurn, is_short}
 use Rattle.qz_doors.specs.Links.{Peer}
 use Rattle.qz_http.specs.declared.items.LinkEnd.{LinkEnd}
-use Rattle.qz_polling.specs.Polling.{HaveSeats, ServesLinks, Visits, VisitorsServe, post_of, served_of}
+use Rattle.qz_polling.specs.Polling.{HaveSeats, ServesLinks, Visits, VisitorsServe, post_of, served_of, visitor_passes}
 use Rattle.qz_polling.proofs.Sets.{StillSeated, still_prop}
 use Rattle.qz_ready_doors.specs.declared.end.PollWhy.{PollWhy}
 use Rattle.qz_ready_doors.specs.Halls.{ServesReady, all_free, answerer_of}
@@ -17,10 +17,11 @@ use Rattle.qz_ready_doors.specs.Runs.{ServesEach}
 use Rattle.qz_ready_doors.proofs.RunLemmas.{serves_each}
 use Rattle.qz_serial.proofs.Seats.{within_there}
 use Rattle.qz_served.specs.declared.saying.Served.{Served}
-use Rattle.qz_stations.specs.Posts.{AreAmong, AreManned, HoldTheirs, IsHeldBy, TakesIn, TakesUp}
-use Rattle.qz_stations.specs.Stations.{Post, at_place, no_end}
+use Rattle.qz_stations.specs.Posts.{AreAmong, AreManned, HoldTheirs, IsHeldBy, NoneTurned, PutsAlso, TakesIn, TakesUp, passes_of}
+use Rattle.qz_stations.specs.Stations.{AreUnturned, Post, at_place, no_end}
 use Rattle.qz_stations.proofs.Asking.{visit_served}
-use Rattle.qz_stations.proofs.Leaving.{LeavesOn, last_manned, leaves_none, leaves_one, left_passes, popped}
+use Rattle.qz_stations.proofs.Leaving.{LeavesOn, last_manned, leaves_none, leaves_one, left_passes, left_put, popped}
+use Rattle.qz_stations.proofs.Putting.{none_turned, still_unturned}
 use Rattle.qz_stations.proofs.TakingUp.{hold_theirs, next_holds, takes_none, takes_one}
 use Rattle.qz_visit.specs.Closing.{ArePasses, JoinsAll}
 use Rattle.qz_visit.specs.Opening.{Splits}
@@ -166,9 +167,9 @@ module _ {C : Type 0} (s : Locks) (told : Tellings) (numbers : List ℕ) (clocks
     seen_after last takes k q there = takes.each k (post_of q) (slice_get-map post_of after k ∙ ap (option_map post_of) there)
 
 -- what is known of what visitors saw may be said otherwise
-pub visitors_kept : {L C : Type 0} (tells : C → ℕ → C → Type 0) (peer : L → Peer) (most : ℕ) (clocks : List C) (old new : Entrance L) (told : Tellings) (Kept Known : Tellings → Type 0) (end : Served) → ((t : Tellings) → Kept t → Known t)
-    → VisitorsServe tells peer most clocks old new told Kept end → VisitorsServe tells peer most clocks old new told Known end
-visitors_kept tells peer most clocks old new told Kept Known end to so = record {
+pub visitors_kept : {L C : Type 0} (tells : C → ℕ → C → Type 0) (peer : L → Peer) (most : ℕ) (clocks : List C) (old new : Entrance L) (told : Tellings) (Kept Known : Tellings → Type 0) (Put Grows : List Seats → Type 0) (end : Served) → ((t : Tellings) → Kept t → Known t) → ((ps : List Seats) → Put ps → Grows ps)
+    → VisitorsServe tells peer most clocks old new told Kept Put end → VisitorsServe tells peer most clocks old new told Known Grows end
+visitors_kept tells peer most clocks old new told Kept Known Put Grows end to grows so = record {
   taken = so.taken;
   short = so.short;
   w = so.w;
@@ -176,9 +177,11 @@ visitors_kept tells peer most clocks old new told Kept Known end to so = record 
   afters = so.afters;
   clocks_are = so.clocks_are;
   first = so.first;
+  unturned = so.unturned;
   serves = so.serves;
   end_is = so.end_is;
   kept = λ k x there. to (seen_in x.0.passes) (so.kept k x there);
+  put = grows (map visitor_passes so.afters) so.put;
 }
 
 -- ---- seats that are taken, one after the other
@@ -200,6 +203,15 @@ module _ {C : Type 0} (s : Locks) (told : Tellings) (numbers : List ℕ) (clocks
   pub takes_next : (rest : List C) (after given : Seats) (longer : List (Visitor × C)) (p : Visitor × C) → now ≡ p.1 ∷ rest → Splits passes after given → p.0.passes ≡ given → longer ≡ pairs ++ p ∷ [] → TakesUp s told numbers clocks rest after (map post_of longer)
   takes_next rest after given longer p first splits visit is =
       takes_one s told numbers clocks now passes (map post_of pairs) so some-post rest after given (map post_of longer) p.1 (post_of p) first splits refl visit (ap (map post_of) is ∙ map-append post_of pairs (p ∷ []))
+
+pub unturned_first : {C : Type 0} (passes : Seats) (pairs : List (Visitor × C)) → pairs ≡ [] → AreUnturned passes → NoneTurned passes (map post_of pairs)
+unturned_first passes pairs none are = none_turned passes (map post_of pairs) (ap (map post_of) none) are
+
+pub unturned_next : {C : Type 0} (passes after given : Seats) (pairs longer : List (Visitor × C)) (p : Visitor × C) → NoneTurned passes (map post_of pairs) → Splits passes after given → p.0.passes ≡ given → longer ≡ pairs ++ p ∷ [] → NoneTurned after (map post_of longer)
+unturned_next passes after given pairs longer p so splits visit is = still_unturned passes after given (map post_of pairs) (map post_of longer) (post_of p) so splits visit (ap (map post_of) is ∙ map-append post_of pairs (p ∷ []))
+
+pub unturned_seat : {C : Type 0} (passes : Seats) (pairs : List (Visitor × C)) → NoneTurned passes (map post_of pairs) → (k : ℕ) (p : Visitor × C) → slice_get pairs k ≡ Some p → AreUnturned p.0.passes
+unturned_seat passes pairs so k p at = so.each k (post_of p) (slice_get-map post_of pairs k ∙ ap (option_map post_of) at)
 
 -- ---- seats that are left, the last one first
 
@@ -227,3 +239,12 @@ module _ {C : Type 0} (s : Locks) (first now : Seats) (all left rest : List (Vis
 pub leaves_done : {C : Type 0} (s : Locks) (first now : Seats) (all left : List (Visitor × C)) → left ≡ [] → LeavesNext s first now all left → TakesIn s first now (map post_of all)
 leaves_done s first now all left none so =
     left_passes s first now (map post_of all) [] so.places no_end (subst (λ (l : List _). LeavesOn s first now (map post_of all) l [] so.places no_end) (ap (map post_of) none) so.so)
+
+passes-of : {C : Type 0} (pairs : List (Visitor × C)) → map passes_of (map post_of pairs) ≡ map visitor_passes pairs
+passes-of [] = refl
+passes-of (pair ∷ pairs) = ap (λ (l : List Seats). pair.0.passes ∷ l) (passes-of pairs)
+
+-- what was put by all of them came to the passes
+pub puts_done : {C : Type 0} (s : Locks) (first now : Seats) (all left : List (Visitor × C)) → left ≡ [] → LeavesNext s first now all left → PutsAlso first now (map visitor_passes all)
+puts_done s first now all left none so = subst (PutsAlso first now) (passes-of all)
+    (left_put s first now (map post_of all) [] so.places no_end (subst (λ (l : List _). LeavesOn s first now (map post_of all) l [] so.places no_end) (ap (map post_of) none) so.so))

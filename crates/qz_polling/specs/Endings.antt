@@ -13,6 +13,7 @@ use Rattle.qz_school.specs.Solos.{School}
 use Rattle.qz_script_schools.specs.Folders.{Disks, FolderEnds, journal_faults}
 use Rattle.qz_served.specs.declared.saying.Served.{Served}
 use Rattle.qz_served.specs.Saying.{SaysServed}
+use Rattle.qz_stations.specs.Stations.{GrowsWith}
 use Rattle.qz_visit.specs.Closing.{Closes}
 use Rattle.qz_visit.specs.Opening.{told_by}
 
@@ -21,11 +22,12 @@ pub record At (P L : Type 0) : Type 0 where
   pub door : P
   pub entrance : Entrance L
 
--- The links of the door were served over it, and this was said of it. Each of its lists goes on from what it was, and from what any visitor saw.
+-- The links of the door were served over it, and this was said of it. Each of its lists goes on from what it was, and from what any visitor saw, and is
+-- longer by what the visitors put.
 pub record PolledDoor {D P L C : Type 0} (disks : Disks D) (tells : C → ℕ → C → Type 0) (peer : L → Peer) (links : ℕ) (clocks : List C) (at after : At P L) (before now : Sunk) (s : Option Stop) (a b : School (Ledger D)) : Type 0 where
   pub end : Served
   pub closes : Closes (journal_faults disks) (told_by (journal_faults disks) a) b
-  pub served : VisitorsServe tells peer links clocks at.entrance after.entrance (told_by (journal_faults disks) a) (λ seen. Closes (journal_faults disks) seen b) end
+  pub served : VisitorsServe tells peer links clocks at.entrance after.entrance (told_by (journal_faults disks) a) (λ seen. Closes (journal_faults disks) seen b) (λ passes. GrowsWith passes a b) end
   pub says : SaysServed before.holds now.holds before.faults now.faults end s
 
 -- memory was wanting before any link was taken

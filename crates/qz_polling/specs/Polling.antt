@@ -8,8 +8,8 @@ use Rattle.qz_ready_doors.specs.declared.end.PollWhy.TheVariants as why
 use Rattle.qz_ready_doors.specs.Halls.{Stops, answerer_of}
 use Rattle.qz_ready_doors.specs.Runs.{ServesEach}
 use Rattle.qz_served.specs.declared.saying.Served.{Served}
-use Rattle.qz_stations.specs.Posts.{TakesUp}
-use Rattle.qz_stations.specs.Stations.{Post, no_end}
+use Rattle.qz_stations.specs.Posts.{NoneTurned, TakesUp}
+use Rattle.qz_stations.specs.Stations.{AreUnturned, Post, no_end}
 use Rattle.qz_terms.specs.declared.ask.Ask.{Ask}
 use Rattle.qz_terms.specs.declared.reply.Reply.{Reply}
 use Rattle.qz_visit.specs.Visits.{Asked, Locks, Seats, Tellings, Visitor, seen_in}
@@ -49,9 +49,12 @@ pub record ServesLinks {L S : Type 0} (asks : S → S → Ask → Reply → Type
 abbrev pub Visits : Visitor → Visitor → ℕ → Ask → Reply → Type 0
 Visits a b now ask told = (b.school ≡ a.school) × Asked a.passes b.passes b.last now ask told
 
--- The links of a door were served by one visitor a clock, to all of whom this was told of the lists at first. Of what each sees of them in the
--- end this holds.
-pub record VisitorsServe {L C : Type 0} (tells : C → ℕ → C → Type 0) (peer : L → Peer) (most : ℕ) (clocks : List C) (old new : Entrance L) (told : Tellings) (Kept : Tellings → Type 0) (end : Served) : Type 0 where
+abbrev pub visitor_passes : {C : Type 0} → Visitor × C → Seats
+visitor_passes pair = pair.0.passes
+
+-- The links of a door were served by one visitor a clock, whose passes had taken no turn, and to all of whom this was told of the lists at first.
+-- Of what each sees of them in the end this holds, and that of all of their passes.
+pub record VisitorsServe {L C : Type 0} (tells : C → ℕ → C → Type 0) (peer : L → Peer) (most : ℕ) (clocks : List C) (old new : Entrance L) (told : Tellings) (Kept : Tellings → Type 0) (Put : List Seats → Type 0) (end : Served) : Type 0 where
   pub taken : ℕ
   pub short : ℕ
   pub w : PollWhy
@@ -59,9 +62,11 @@ pub record VisitorsServe {L C : Type 0} (tells : C → ℕ → C → Type 0) (pe
   pub afters : List (Visitor × C)
   pub clocks_are : clocks ≡ map (λ x. x.1) befores
   pub first : (k : ℕ) (x : Visitor × C) → slice_get befores k ≡ Some x → seen_in x.0.passes ≡ told
+  pub unturned : (k : ℕ) (x : Visitor × C) → slice_get befores k ≡ Some x → AreUnturned x.0.passes
   pub serves : ∥ ServesLinks (Asks tells Visits) peer most old new (map answerer_of befores) (map answerer_of afters) taken short w ∥₁
   pub end_is : end ≡ served_of taken short w
   pub kept : (k : ℕ) (x : Visitor × C) → slice_get afters k ≡ Some x → Kept (seen_in x.0.passes)
+  pub put : Put (map visitor_passes afters)
 
 -- ---- their seats
 
@@ -73,3 +78,4 @@ post_of pair = record { place = pair.1; visit = pair.0; notes = None; end = no_e
 pub record HaveSeats {C : Type 0} (s : Locks) (told : Tellings) (numbers : List ℕ) (clocks : List C) (passes : Seats) (pairs : List (Visitor × C)) : Type 0 where
   pub left : List C
   pub taken : TakesUp s told numbers clocks left passes (map post_of pairs)
+  pub unturned : NoneTurned passes (map post_of pairs)

@@ -4,7 +4,8 @@ ghost use Rattle.std.specs.Prelude.{◌≡◌, ◌^◌, ◌<◌, ◌≤◌, leng
 ghost use Rattle.qz_polling.specs.Polling.{VisitorsServe, served_of};
 ghost use Rattle.qz_ready_doors.specs.Halls.{entrance_by};
 ghost use Rattle.qz_ready_doors.specs.Kept.{peer_of};
-ghost use Rattle.qz_stations.specs.Posts.{HoldsEvery};
+ghost use Rattle.qz_stations.specs.Posts.{HoldsEvery, PutsAlso};
+ghost use Rattle.qz_stations.specs.Stations.{AreUnturned, GrowsWith};
 ghost use Rattle.qz_visit.specs.Closing.{Closes};
 ghost use Rattle.qz_visit.specs.Opening.{told_by};
 ghost use Rattle.qz_visit.specs.Seeing.{FollowAll};
@@ -52,6 +53,7 @@ where
     P: ReadyDoor<Link: Drop>,
     C: Clock + Drop,
     requires every { HoldsEvery school.now passes.seats }
+    requires unturned { AreUnturned passes.seats }
     requires enough { length clocks.items ≤ length passes.seats.records.numbers }
     requires few { length clocks.items < 2 ^ 32 }
     ensures every { HoldsEvery school.now result.0.seats }
@@ -60,7 +62,8 @@ where
         (VisitorsServe C.tells (peer_of P.Link.ReadyLink) links clocks.items
         (entrance_by P.left P.returned P.returns P.out P.faults door.old)
         (entrance_by P.left P.returned P.returns P.out P.faults door.new)
-        (seen_in passes.seats) (λ seen. FollowAll seen (seen_in result.0.seats)))
+        (seen_in passes.seats) (λ seen. FollowAll seen (seen_in result.0.seats))
+        (PutsAlso passes.seats result.0.seats))
         (λ _. door.new ≡ door.old) }
 {
     let Ok(mut desks) = Vec::with_capacity(alloc, clocks.len()) else {
@@ -81,7 +84,7 @@ where
 }
 
 /// Serves the links of a door over a school by one visitor a clock: at most as many links are open at once. Each list of the school that comes
-/// back goes on from what it was, and from all that any visitor saw of it.
+/// back goes on from what it was, and from all that any visitor saw of it, and is longer by as many records as the visitors' requests put there.
 ///
 /// # Errors
 ///
@@ -107,7 +110,8 @@ where
         (VisitorsServe C.tells (peer_of P.Link.ReadyLink) links clocks.items
         (entrance_by P.left P.returned P.returns P.out P.faults door.old)
         (entrance_by P.left P.returned P.returns P.out P.faults door.new)
-        (told_by K.faults solo) (λ seen. Closes K.faults seen result.0))
+        (told_by K.faults solo) (λ seen. Closes K.faults seen result.0)
+        (λ passes. GrowsWith passes solo result.0))
         (λ _. door.new ≡ door.old) }
 {
     let seats = clocks.len() as u32;

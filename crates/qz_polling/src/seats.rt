@@ -1,8 +1,9 @@
 //! Visitors of a school take their seats, and leave them.
 
 ghost use Rattle.std.specs.Prelude.{◌≡◌, ◌≤◌, [], length, map, IfOk, vec_len, vec_capacity};
-ghost use Rattle.qz_polling.specs.Polling.{HaveSeats, post_of};
-ghost use Rattle.qz_stations.specs.Posts.{AreManned, HoldTheirs, TakesIn};
+ghost use Rattle.qz_polling.specs.Polling.{HaveSeats, post_of, visitor_passes};
+ghost use Rattle.qz_stations.specs.Posts.{AreManned, HoldTheirs, PutsAlso, TakesIn};
+ghost use Rattle.qz_stations.specs.Stations.{AreUnturned};
 ghost use Rattle.qz_visit.specs.Visits.{seen_in};
 
 use qz_disks::Keeper;
@@ -22,6 +23,7 @@ pub(crate) fn take_seats<'s, 'r, K: Keeper, W: Wait, C: Drop>(
     desks: &mut Vec<(Visit<'s, 'r, K, W>, C)>,
 ) -> Result<(), NoMemory>
     requires own { HoldTheirs school.now passes.old.seats }
+    requires unturned { AreUnturned passes.old.seats }
     requires enough { length clocks.items ≤ length passes.old.seats.records.numbers }
     requires none { desks.old.items ≡ [] }
     requires room { vec_len clocks ≤ vec_capacity desks.old }
@@ -44,7 +46,10 @@ pub(crate) fn leave_seats<K: Keeper, W: Wait, C: Drop>(
     mut desks: Vec<(Visit<K, W>, C)>,
 )
     requires manned { AreManned school.now passes.old.seats (map post_of desks.items) }
-    ensures { TakesIn school.now passes.old.seats passes.new.seats (map post_of desks.entry.items) }
+    ensures passes { TakesIn school.now passes.old.seats passes.new.seats
+        (map post_of desks.entry.items) }
+    ensures put { PutsAlso passes.old.seats passes.new.seats
+        (map visitor_passes desks.entry.items) }
 {
     while let Some(desk) = desks.pop() {
         school.join(passes, desk.0.into_passes());

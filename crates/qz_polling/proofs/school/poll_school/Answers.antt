@@ -1,6 +1,7 @@
 use Rattle.std.proofs.Common.{arith}
+use Rattle.qz_stations.proofs.Putting.{grown_with, puts_all, starts_whole, unturned_opened}
 use Rattle.qz_stations.proofs.Serving.{closed_every, closes_whole, match_mean, opened_every, opened_many, told_whole}
-use Rattle.qz_visit.specs.Closing.{Closes}
+use Rattle.qz_visit.specs.Closing.{Closes, HasGrownBy}
 use Rattle.qz_visit.specs.Visits.{seen_in}
 use Rattle.qz_visit.proofs.Holding.{passes_held}
 use Rattle.qz_visit.proofs.Seeing.{closes_from}
@@ -12,6 +13,9 @@ poll_seats-passes-requires-clause-every g c = opened_every _ _ _ _ _ c.in-Ok.ens
 
 pub poll_seats-passes-requires-clause-enough : goal.poll_seats-passes-requires-clause-enough
 poll_seats-passes-requires-clause-enough g c = let many = opened_many _ _ _ _ _ c.in-Ok.ensures.opened c.into_parts-catalog.ensures.solo in omega (arith, many)
+
+pub poll_seats-passes-requires-clause-unturned : goal.poll_seats-passes-requires-clause-unturned
+poll_seats-passes-requires-clause-unturned g c = unturned_opened _ _ _ _ _ c.in-Ok.ensures.opened
 
 pub close-catalog-requires-clause-own : goal.close-catalog-requires-clause-own
 close-catalog-requires-clause-own g c = passes_held _ _ _ c.poll_seats-passes.ensures.every.own
@@ -31,8 +35,13 @@ returns-in-Ok-clause-served g c =
     let same = c.into_parts-catalog.ensures in
     let told = told_whole g.K.Keeper.faults _ _ _ c.args.solo _ _ same.catalog same.shards c.in-Ok.ensures.opened in
     let closed : Closes g.K.Keeper.faults (seen_in c.poll_seats-passes.result.0.seats) c.of.result = rw c.of.ensures c.close-catalog.ensures.closes in
+    let opened = c.in-Ok.ensures.opened in
+    let starts = starts_whole g.K.Keeper.faults _ _ _ c.args.solo _ _ same.catalog same.shards opened in
+    let grown : HasGrownBy _ c.poll_seats-passes.result.0.seats c.of.result = rw c.of.ensures c.close-catalog.ensures.grown in
+    let own = passes_held _ _ _ c.poll_seats-passes.ensures.every.own in
+    let first = unturned_opened _ _ _ _ _ opened in
     rw (← told)
-    (match_mean _ _ _ c.poll_seats-passes.result.1 (λ end so. visitors_kept _ _ _ _ _ _ _ _ _ end (λ t on. closes_from _ t _ _ on closed) so) c.poll_seats-passes.ensures.served)
+    (match_mean _ _ _ c.poll_seats-passes.result.1 (λ end so. visitors_kept _ _ _ _ _ _ _ _ _ _ _ end (λ t on. closes_from _ t _ _ on closed) (λ ps put. grown_with _ _ _ _ ps starts own grown (puts_all _ _ ps first put)) so) c.poll_seats-passes.ensures.served)
 
 pub returns-in-Err-clause-closes : goal.returns-in-Err-clause-closes
 returns-in-Err-clause-closes g c =

@@ -1,8 +1,9 @@
 use Rattle.std.proofs.Common.{arith}
 use Rattle.qz_stations.proofs.Asking.{may_ask}
+use Rattle.qz_stations.proofs.Putting.{puts_from}
 use Rattle.qz_stations.proofs.Serving.{back_taken, every_among, manned_taken}
 use Rattle.qz_visit.proofs.Seeing.{all_self}
-use Rattle.qz_polling.proofs.Seating.{all_seated, back_after, few_seated, held_before, links_served, manned_after, seen_after, seen_before, sits_still}
+use Rattle.qz_polling.proofs.Seating.{all_seated, back_after, few_seated, held_before, links_served, manned_after, seen_after, seen_before, sits_still, unturned_seat}
 use Rattle.qz_polling.proofs.school.poll_seats.Goals as goal
 
 pub returns-in_default-clause-follows : goal.returns-in_default-clause-follows
@@ -13,8 +14,8 @@ leave_seats-requires g c = record { manned = manned_taken _ _ _ _ _ _ _ c.take_s
 
 pub returns-in-Err-clause-every : goal.returns-in-Err-clause-every
 returns-in-Err-clause-every g c = record {
-  own = c.leave_seats.ensures.own;
-  every = every_among _ _ _ c.requires.every.every (back_taken _ _ _ _ _ _ _ c.take_seats.ensures.seated.taken _ c.leave_seats.ensures);
+  own = c.leave_seats.ensures.passes.own;
+  every = every_among _ _ _ c.requires.every.every (back_taken _ _ _ _ _ _ _ c.take_seats.ensures.seated.taken _ c.leave_seats.ensures.passes);
 }
 
 pub serve_ready-taken-requires : goal.serve_ready-taken-requires
@@ -31,8 +32,8 @@ returns-clause-every g c =
     let so = c.take_seats.ensures.seated.taken in
     let sits = sits_still _ _ _ _ _ _ _ _ _ _ _ (held_before _ _ _ _ _ _ _ so) c.serve_ready-taken.ensures.serves in
     record {
-      own = c.leave_seats-2.ensures.own;
-      every = every_among _ _ _ c.requires.every.every (back_after _ _ _ _ _ _ _ so _ sits _ c.leave_seats-2.ensures);
+      own = c.leave_seats-2.ensures.passes.own;
+      every = every_among _ _ _ c.requires.every.every (back_after _ _ _ _ _ _ _ so _ sits _ c.leave_seats-2.ensures.passes);
     }
 
 pub returns-clause-served : goal.returns-clause-served
@@ -50,5 +51,7 @@ returns-clause-served g c =
       first = seen_before _ _ _ _ _ _ _ so;
       serves = rw c.from.ensures at served;
       end_is = c.served_of.ensures;
-      kept = seen_after _ _ _ _ _ _ _ so _ sits _ c.leave_seats-2.ensures;
+      unturned = unturned_seat _ _ c.take_seats.ensures.seated.unturned;
+      kept = seen_after _ _ _ _ _ _ _ so _ sits _ c.leave_seats-2.ensures.passes;
+      put = puts_from _ _ _ _ c.requires.unturned c.take_seats.ensures.seated.unturned.own c.leave_seats-2.ensures.put;
     }

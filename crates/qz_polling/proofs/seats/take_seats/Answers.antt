@@ -1,12 +1,13 @@
 use Rattle.std.proofs.Common.{◌+◌, ap, length, arith}
 use Rattle.std.proofs.lemmas.List.{length-drop}
-use Rattle.qz_polling.proofs.Seating.{given_right, seats_left, takes_first, takes_next}
+use Rattle.qz_polling.proofs.Seating.{given_right, seats_left, takes_first, takes_next, unturned_first, unturned_next}
 use Rattle.qz_polling.proofs.seats.take_seats.Goals as goal
 
 pub loop-clock-init : goal.loop-clock-init
 loop-clock-init g c = (
   takes_first _ _ _ _ _ c.requires.none c.from_vec-rest.ensures.items c.requires.own,
   omega (arith, ap length c.requires.none, ap length c.from_vec-rest.ensures.items, c.requires.room, c.args.clocks.ok),
+  unturned_first _ _ c.requires.none c.requires.unturned,
 )
 
 pub new-requires : goal.new-requires
@@ -27,7 +28,8 @@ loop-clock-preserved g c =
     let next = takes_next _ _ _ _ _ _ _ i.0 (omega (arith, left, more, enough)) _ _ _ _ _ c.in-Some.ensures.items c.in_ok-given.ensures.given (ap (λ v. v.passes) c.new.ensures) c.push_reserved.ensures.items in
     let now = seats_left _ _ _ _ _ _ _ next in
     let kept = c.push_reserved.ensures.capacity in
-    (next, omega (arith, left, now, room, kept))
+    let fresh = unturned_next _ _ _ _ _ _ i.2 c.in_ok-given.ensures.given (ap (λ v. v.passes) c.new.ensures) c.push_reserved.ensures.items in
+    (next, omega (arith, left, now, room, kept), fresh)
 
 pub returns-clause-all : goal.returns-clause-all
 returns-clause-all g c =
