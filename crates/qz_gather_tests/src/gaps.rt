@@ -8,7 +8,8 @@ use crate::clerks::{Gap, Line, Out, gap_in};
 use crate::schools::{BEGUN, found, script};
 use qz_disks::{MemoryDisk, MemoryShelf};
 use qz_text::{Bytes, Listed, NoMemory};
-use std::alloc::Global;
+use std::alloc::{AllocGlobal, Global};
+use std::process::Abort;
 use std::sync::Wait;
 use std::test::Fail;
 
@@ -90,87 +91,128 @@ fn fail_at(
     Ok(())
 }
 
-/// The first gap of a school of two shards, which was asked lines before, and then others by a clerk.
+/// What a school of two shards was asked before, and what a clerk asks it then.
+#[derive(Clone, Copy)]
+struct Asking<'a> {
+    before: &'a str,
+    lines: &'a [Line<'a>],
+}
+
+const FINISHED: Asking<'static> = Asking {
+    before: BEGUN,
+    lines: &[("130 ann k3 finish 2.1", Some((Some(0), 3)))],
+};
+
+const ROUND_OF_TWO: Asking<'static> = Asking {
+    before: MADE,
+    lines: &ROUND,
+};
+
+const BESIDE_BEGUN: Asking<'static> = Asking {
+    before: BEGUN,
+    lines: &BESIDE,
+};
+
+/// The calls of the disk of a file that fail while the clerk asks.
+type Failing<'a> = (&'a [u8], &'a [u64]);
+
+/// No call fails.
+const NONE: Failing<'static> = (CATALOG, &[]);
+
+/// The first note that is taken out and how many are, and the line whose place is the first gap then.
+type Row = (usize, usize, Option<usize>);
+
+/// The first gap of a school where these calls fail and these notes are taken out.
 fn gap<W: Wait>(
     rt: &W,
     alloc: Global,
-    before: &str,
-    lines: &[Line],
+    asking: Asking,
+    failing: Failing,
     out: Out,
 ) -> Result<Gap, NoMemory> {
+    let (name, calls) = failing;
     let mut shelf = MemoryShelf::new(alloc, Listed::empty(alloc));
     found(alloc, b"school", 2, &mut shelf)?;
-    script(alloc, b"school", before, &mut shelf)?;
-    gap_in(rt, alloc, b"school", lines, out, &mut shelf)
+    script(alloc, b"school", asking.before, &mut shelf)?;
+    fail_at(alloc, b"school", name, calls, &mut shelf)?;
+    gap_in(rt, alloc, b"school", asking.lines, out, &mut shelf)
 }
 
-/// The first gap where `BESIDE` is asked behind `BEGUN`, and these calls of the disk of a file fail.
-fn gap_beside<W: Wait>(
+/// The place of a line.
+fn place_of(asking: Asking, line: Option<usize>) -> Gap {
+    let (_, place) = asking.lines.get(line?)?;
+    *place
+}
+
+/// Another gap than a row tells, with what was taken out.
+fn wrong<W: Wait>(
     rt: &W,
     alloc: Global,
-    name: &[u8],
-    failing: &[u64],
-    out: Out,
-) -> Result<Gap, NoMemory> {
-    let mut shelf = MemoryShelf::new(alloc, Listed::empty(alloc));
-    found(alloc, b"school", 1, &mut shelf)?;
-    script(alloc, b"school", BEGUN, &mut shelf)?;
-    fail_at(alloc, b"school", name, failing, &mut shelf)?;
-    gap_in(rt, alloc, b"school", &BESIDE, out, &mut shelf)
+    asking: Asking,
+    failing: Failing,
+    rows: &[Row],
+) -> Result<Option<(Out, Gap)>, NoMemory> {
+    for (first, count, line) in rows {
+        let out = (*first, *count);
+        let told = gap(rt, alloc, asking, failing, out)?;
+        if told != place_of(asking, *line) {
+            return Ok(Some((out, told)));
+        }
+    }
+    Ok(None)
+}
+
+/// Fails a test where another gap is told than a row tells.
+fn told<R: Abort + AllocGlobal + Wait>(
+    rt: &R,
+    asking: Asking,
+    failing: Failing,
+    rows: &[Row],
+) -> Result<(), Fail> {
+    let wrong = wrong(rt, rt.alloc(), asking, failing, rows)?;
+    assert_eq!(rt; wrong, None);
+    Ok(())
 }
 
 #[test]
 fn a_finish_without_a_note_is_a_gap(rt: HostRuntime) -> Result<(), Fail> {
-    let finish = ("130 ann k3 finish 2.1", Some((Some(0), 3)));
-    for (count, place) in [(0, None), (1, finish.1)] {
-        let told = gap(&rt, rt.alloc(), BEGUN, &[finish], (0, count))?;
-        assert_eq!(rt; told, place);
-    }
-    Ok(())
+    told(&rt, FINISHED, NONE, &[(0, 0, None), (0, 1, Some(0))])
 }
 
 #[test]
 fn each_record_wants_its_note(rt: HostRuntime) -> Result<(), Fail> {
-    for (first, (line, place)) in ROUND.iter().enumerate() {
-        let told = gap(&rt, rt.alloc(), MADE, &ROUND, (first, 1))?;
-        assert_eq!(rt; told, *place, "at {line}");
+    for first in 0..ROUND.len() {
+        told(&rt, ROUND_OF_TWO, NONE, &[(first, 1, Some(first))])?;
     }
     Ok(())
 }
 
+const FIRST_ROWS: [Row; 7] = [
+    (0, 0, None),
+    (0, 24, Some(0)),
+    (1, 23, Some(11)),
+    (6, 2, Some(7)),
+    (15, 2, Some(15)),
+    (15, 3, Some(17)),
+    (19, 4, Some(19)),
+];
+
 #[test]
 fn the_first_gap_is_told(rt: HostRuntime) -> Result<(), Fail> {
-    for (first, count, place) in [
-        (0, 0, None),
-        (0, 24, Some((None, 10))),
-        (1, 23, Some((None, 11))),
-        (6, 2, Some((Some(0), 5))),
-        (15, 2, Some((Some(1), 2))),
-        (15, 3, Some((None, 13))),
-        (19, 4, Some((Some(0), 10))),
-    ] {
-        let told = gap(&rt, rt.alloc(), MADE, &ROUND, (first, count))?;
-        assert_eq!(rt; told, place, "{count} from {first} on");
-    }
-    Ok(())
+    told(&rt, ROUND_OF_TWO, NONE, &FIRST_ROWS)
 }
 
 /// Though a keeper failed at its request, a record stands where it was written, and its note speaks for it. Else it is dropped, and the next one
 /// takes its place.
 #[test]
 fn a_note_in_doubt_speaks_for_what_stands(rt: HostRuntime) -> Result<(), Fail> {
-    for (name, call, first, place) in [
-        (CATALOG, 21, 0, None),
-        (CATALOG, 21, 1, BESIDE[0].1),
-        (CATALOG, 24, 0, BESIDE[0].1),
-        (CATALOG, 24, 1, BESIDE[1].1),
-        (SHARD, 11, 2, None),
-        (SHARD, 11, 3, BESIDE[2].1),
-        (SHARD, 14, 2, BESIDE[2].1),
-        (SHARD, 14, 3, BESIDE[3].1),
+    for (name, call, rows) in [
+        (CATALOG, 21, [(0, 1, None), (1, 1, Some(0))]),
+        (CATALOG, 24, [(0, 1, Some(0)), (1, 1, Some(1))]),
+        (SHARD, 11, [(2, 1, None), (3, 1, Some(2))]),
+        (SHARD, 14, [(2, 1, Some(2)), (3, 1, Some(3))]),
     ] {
-        let told = gap_beside(&rt, rt.alloc(), name, &[call], (first, 1))?;
-        assert_eq!(rt; told, place, "{call} without {first}");
+        told(&rt, BESIDE_BEGUN, (name, &[call]), &rows)?;
     }
     Ok(())
 }
@@ -178,10 +220,18 @@ fn a_note_in_doubt_speaks_for_what_stands(rt: HostRuntime) -> Result<(), Fail> {
 #[test]
 fn failing_disks_leave_no_gap(rt: HostRuntime) -> Result<(), Fail> {
     for call in 21..60 {
-        let alloc = rt.alloc();
-        let of_catalog = gap_beside(&rt, alloc, CATALOG, &[call, call + 1], (0, 0))?;
-        let of_shard = gap_beside(&rt, alloc, SHARD, &[call - 10, call - 9], (0, 0))?;
-        assert_eq!(rt; (of_catalog, of_shard), (None, None), "at {call}");
+        told(
+            &rt,
+            BESIDE_BEGUN,
+            (CATALOG, &[call, call + 1]),
+            &[(0, 0, None)],
+        )?;
+        told(
+            &rt,
+            BESIDE_BEGUN,
+            (SHARD, &[call - 10, call - 9]),
+            &[(0, 0, None)],
+        )?;
     }
     Ok(())
 }

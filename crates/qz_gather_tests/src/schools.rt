@@ -25,9 +25,6 @@ pub(crate) const BEGUN: &str = "\
 120 ann k2 save 2.1 1 0 pick:1
 ";
 
-/// A token, and the body of a request with ' in the place of ".
-pub(crate) type Asked<'a> = (&'a str, &'a str);
-
 /// Founds a school of so many shards in a folder.
 pub(crate) fn found(
     alloc: Global,
@@ -63,44 +60,38 @@ pub(crate) fn script(
     Ok(())
 }
 
-/// The bytes of requests, one after the other.
-fn bytes_of(alloc: Global, asked: &[Asked]) -> Result<Bytes, NoMemory> {
-    let mut text = String::new(alloc);
-    for (token, body) in asked {
-        let body = body.replace(alloc, "'", "\"")?;
-        let count = body.len();
-        let head = format!(in alloc;
-            "POST /api/ask HTTP/1.1\r\nHost: localhost\r\nAuthorization: Bearer {token}\r\nContent-Length: {count}\r\n\r\n"
-        )?;
-        text.push_str(&head)?;
-        text.push_str(&body)?;
-    }
-    Bytes::of(alloc, text.as_bytes())
+/// A link whose peer asks this.
+fn link_for(alloc: Global, asked: &str) -> Result<MemoryLink, NoMemory> {
+    let bytes = Bytes::of(alloc, asked.as_bytes())?;
+    let source = MemorySource::new(bytes, Listed::empty(alloc), 65_536);
+    let sink = MemorySink::new(alloc, 65_536, Listed::empty(alloc), 65_536)?;
+    Ok(MemoryLink::new(source, sink))
 }
 
-/// A clock that tells one moment for each request but the last two, and for these one at which the time of every attempt is over.
-fn clock_for(alloc: Global, asked: &[Asked]) -> Result<MemoryClock, NoMemory> {
+/// A door at which one link comes, whose peer asks this.
+fn door_of(alloc: Global, asked: &str) -> Result<MemoryDoor<MemoryLink>, NoMemory> {
+    let mut links = Listed::empty(alloc);
+    links.items.push(link_for(alloc, asked)?)?;
+    MemoryDoor::new(alloc, links, Listed::empty(alloc))
+}
+
+/// A clock that tells a moment at which the time of every attempt is over.
+fn late_clock(alloc: Global) -> Result<MemoryClock, NoMemory> {
     let mut moments = Listed::empty(alloc);
-    for _ in 2..asked.len() {
-        moments.items.push(1000)?;
-    }
     moments.items.push(9000)?;
     Ok(MemoryClock::new(moments))
 }
 
-/// A door at which one link comes, whose peer asks this.
-pub(crate) fn door_for(
+/// The same door, with a clock at which the time of every attempt is over.
+pub(crate) fn doors_for(
     alloc: Global,
-    asked: &[Asked],
+    asked: &str,
 ) -> Result<Vec<(MemoryDoor<MemoryLink>, MemoryClock)>, NoMemory>
     ensures { IfOk result (λ doors. length doors.items ≡ 1) }
 {
-    let source = MemorySource::new(bytes_of(alloc, asked)?, Listed::empty(alloc), 65_536);
-    let sink = MemorySink::new(alloc, 65_536, Listed::empty(alloc), 65_536)?;
-    let mut links = Listed::empty(alloc);
-    links.items.push(MemoryLink::new(source, sink))?;
-    let door = MemoryDoor::new(alloc, links, Listed::empty(alloc))?;
+    let door = door_of(alloc, asked)?;
+    let clock = late_clock(alloc)?;
     let mut doors = Vec::new(alloc);
-    doors.push((door, clock_for(alloc, asked)?))?;
+    doors.push((door, clock))?;
     Ok(doors)
 }
