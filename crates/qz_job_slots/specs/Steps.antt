@@ -1,35 +1,15 @@
 -- That a step of a job finds its target's slot in the job's plan.
-use Rattle.std.specs.Prelude.{◌≡◌, ◌≢◌, ℕ, List, ◌++◌, Some}
-use Rattle.qz_grading.specs.declared.refusal.Refusal.{Refusal}
-use Rattle.qz_grading.specs.declared.refusal.Refusal.TheVariants as refusal
-use Rattle.qz_grading.specs.declared.refusal.Thing.TheVariants as thing
-use Rattle.qz_terms.specs.declared.ask.Ask.{Ask}
+use Rattle.std.specs.Prelude.{◌≡◌, ℕ, true, List, Some, is_some}
+use Rattle.qz_grading.specs.declared.refusal.AttemptId.{AttemptId}
 use Rattle.qz_terms.specs.declared.plan.Job.{Job}
 use Rattle.qz_terms.specs.declared.record.Record.{Record}
-use Rattle.qz_terms.specs.declared.reply.Reply.{Reply}
-use Rattle.qz_terms.specs.declared.reply.Reply.TheVariants as reply
-use Rattle.qz_terms.specs.declared.request.Request.TheVariants as request
-use Rattle.qz_terms.specs.Answer.{work_answer}
+use Rattle.qz_terms.specs.Answer.{first_target, target_event}
 use Rattle.qz_terms.specs.Catalog as catalog
-use Rattle.qz_terms.specs.Legal.{AllAgree, IsLegal, IsLegalCatalog, IsSchool}
-use Rattle.qz_terms.specs.SchoolAnswer.{school_answer}
-use Rattle.qz_terms.specs.Serial.{Asks, Lists, lists_of}
+use Rattle.qz_terms.specs.Legal.{AllAgree, IsLegal, IsLegalCatalog}
 
--- Lists that were seen of a school: the catalogue may have gone on since, and the shards agree with all of it.
-pub record AreOfSchool (c : List Record) (parts : List (List Record)) : Type 0 where
-  pub since : List Record
-  pub school : IsSchool (c ++ since) parts
-
--- A step of a job that the catalogue has is refused by no shard that agrees with it. So over lists of a school no step is told that there
--- is no such slot, by whomever and whenever it is asked; also where records were in doubt, and adopted or dropped.
+-- The target that a step of a job takes has its slot and its question in the job's plan, in each shard that agrees with the
+-- catalogue that has the job. So it is bound anew or skipped.
 pub record StepsFindTheirSlots : Type 0 where
-  pub taken : (c h : List Record) (index count now caller number : ℕ) (job : Job) (why : Refusal)
+  pub found : (c h : List Record) (index count number : ℕ) (job : Job) (target : AttemptId × ℕ)
       → IsLegalCatalog c → IsLegal index count h → AllAgree c h → catalog.job c number ≡ Some job
-      → work_answer h now caller job ≢ reply.Refused why
-  pub school : (c : List Record) (parts : List (List Record)) → IsSchool c parts → AreOfSchool c parts
-  pub answered : (c : List Record) (parts : List (List Record)) (now : ℕ) (ask : Ask) (number shard : ℕ)
-      → AreOfSchool c parts → ask.request ≡ request.Work number shard
-      → school_answer c parts now ask ≢ reply.Refused (refusal.Unknown thing.Slot)
-  pub asked : (a b : Lists) (now : ℕ) (ask : Ask) (number shard : ℕ) (r : Reply) (asks : Asks a b now ask r)
-      → AreOfSchool asks.mended.records.list (lists_of asks.mended.parts) → ask.request ≡ request.Work number shard
-      → r ≢ reply.Refused (refusal.Unknown thing.Slot)
+      → first_target h job ≡ Some target → is_some (target_event h job target) ≡ true

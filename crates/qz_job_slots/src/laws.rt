@@ -2,8 +2,8 @@
 
 ghost use Rattle.qz_job_slots.specs.Steps.{StepsFindTheirSlots};
 
-/// In a school whose shards agree with its catalogue each target of a job has its slot in the job's plan: so a step of a job is never
-/// refused because there is no such slot, whoever asks for it and whenever.
+/// In a school whose shards agree with its catalogue each target of a job has its slot in the job's plan: so a step of a job binds it
+/// anew or skips it, whoever asks for it and whenever.
 pub fn steps_find_their_slots()
     ensures { StepsFindTheirSlots }
 {}

@@ -1,27 +1,22 @@
 -- A request that is refused puts nothing.
-use Rattle.std.proofs.Common.{◌≡◌, ℕ, Bool, true, false, ◌||◌, List, Option, Some, None, length, option_map, refl, sym, ap, ◌∙◌, subst, append-nil}
-use Rattle.std.specs.Prelude.{if◌then◌else◌, is_some, unwrap_or}
+use Rattle.std.proofs.Common.{◌≡◌, ℕ, Bool, true, false, List, Option, Some, None, length, refl, sym, ap, ◌∙◌, subst, append-nil}
+use Rattle.std.specs.Prelude.{if◌then◌else◌}
 use Rattle.qz_grading.specs.declared.refusal.Refusal.{Refusal}
-use Rattle.qz_grading.specs.declared.refusal.Refusal.TheVariants as refusal
-use Rattle.qz_grading.specs.declared.refusal.Thing.TheVariants as thing
-use Rattle.qz_grading.specs.Behaviours.{first_some}
 use Rattle.qz_terms.specs.declared.ask.Ask.{Ask}
 use Rattle.qz_terms.specs.declared.people.User.{User}
 use Rattle.qz_terms.specs.declared.plan.Job.{Job}
 use Rattle.qz_terms.specs.declared.plan.Plan.{Plan}
 use Rattle.qz_terms.specs.declared.record.Record.{Record}
 use Rattle.qz_terms.specs.declared.reply.Done.{Done}
-use Rattle.qz_terms.specs.declared.reply.Reply.{Reply}
 use Rattle.qz_terms.specs.declared.reply.Reply.TheVariants as reply
 use Rattle.qz_terms.specs.declared.request.Request.{Request}
 use Rattle.qz_terms.specs.declared.request.Request.TheVariants as request
 use Rattle.qz_terms.specs.Answer.{answer_here, list_after, list_with, put_by_job, reply_to, said_of_put, work_after, work_answer}
 use Rattle.qz_terms.specs.CatalogAnswer.{asks_catalog, catalog_after, catalog_answer, catalog_verdict, put_in}
-use Rattle.qz_terms.specs.SchoolAnswer.{after_by, answer_among, answer_by, catalog_list, first_refusal, job_after, job_answer, part_at, part_of, plan_for, refusal_among, school_answer_by, shard_after, shard_answer, shard_list, user_after}
+use Rattle.qz_terms.specs.SchoolAnswer.{after_by, answer_among, answer_by, catalog_list, first_refusal, job_after, job_answer, part_at, part_of, plan_for, school_answer_by, shard_after, shard_answer, shard_list}
 use Rattle.qz_terms.specs.Catalog as catalog
 use Rattle.qz_terms.specs.Cause.{Denied, Granted, Repeated, Verdict, missing_shard}
-use Rattle.qz_terms.specs.History as history
-use Rattle.qz_terms.specs.Serial.{Lists, goes_on, is_report, lists_of, part_list, part_read, reply_over}
+use Rattle.qz_terms.specs.Serial.{Lists, is_report, lists_of, part_list, part_read, reply_over}
 use Rattle.qz_terms.proofs.Adding.{adding_law}
 use Rattle.qz_serial.specs.Paths.{IsGoing}
 use Rattle.qz_serial.proofs.Acting.{no_part}
@@ -51,16 +46,8 @@ planned-refused c h now user ask why (Some plan) is told =
 shard-refused : (c h : List Record) (now : ℕ) (user : User) (ask : Ask) (why : Refusal) → shard_answer c h now user ask ≡ reply.Refused why → shard_after c h now user ask ≡ h
 shard-refused c h now user ask why told = planned-refused c h now user ask why (plan_for c h user ask.request) refl told
 
-put-refused : (h : List Record) (put : Option Record) (why : Refusal) → said_of_put h put (reply.Refused (refusal.Unknown thing.Slot)) ≡ reply.Refused why → put ≡ None
-put-refused h None why told = refl
-put-refused h (Some r) why told = absurd cc
-
-put-by : (h : List Record) (b : Bool) (put : Option Record) (place : ℕ) (d : Done) (why : Refusal) → (if b then reply.Ok place d else said_of_put h put (reply.Refused (refusal.Unknown thing.Slot))) ≡ reply.Refused why → put ≡ None
-put-by h true put place d why told = absurd cc
-put-by h false put place d why told = put-refused h put why told
-
 work-refused : (h : List Record) (now caller : ℕ) (job : Job) (why : Refusal) → work_answer h now caller job ≡ reply.Refused why → work_after h now caller job ≡ h
-work-refused h now caller job why told = rw (put-by h (history.is_done h job.number) (put_by_job h now caller job) _ _ why told) (append-nil h)
+work-refused h now caller job why told = refused-list Granted h (put_by_job h now caller job) _ _ why told
 
 job-refused : (c h : List Record) (now : ℕ) (user : User) (number : ℕ) (why : Refusal) (o : Option Job) → catalog.job c number ≡ o → job_answer c h now user number ≡ reply.Refused why → job_after c h now user number ≡ h
 job-refused c h now user number why None is told = rw is refl

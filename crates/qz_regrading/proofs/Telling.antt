@@ -27,7 +27,7 @@ use Rattle.qz_terms.specs.declared.reply.Reply.{Reply}
 use Rattle.qz_terms.specs.declared.reply.Reply.TheVariants as reply
 use Rattle.qz_terms.specs.declared.request.Request.{Request}
 use Rattle.qz_terms.specs.declared.request.Request.TheVariants as request
-use Rattle.qz_terms.specs.Answer.{first_target, list_after, list_with, put_by_job, put_target, rebound_or_skipped, reply_by, said_of_put, target_event, work_after, work_answer}
+use Rattle.qz_terms.specs.Answer.{first_target, list_after, list_with, put_by_job, put_target, rebound_or_skipped, record_of_job, reply_by, said, said_of_put, target_event, work_after, work_answer}
 use Rattle.qz_terms.specs.CatalogAnswer.{asks_catalog}
 use Rattle.qz_terms.specs.SchoolAnswer.{after_by, job_after, job_answer, part_at, plan_for, shard_after, shard_list, user_after}
 use Rattle.qz_terms.specs.Catalog as catalog
@@ -171,21 +171,28 @@ or-true : (b : Bool) → (b || true) ≡ true
 or-true true = refl
 or-true false = refl
 
-target-silent : (h : List Record) (f : Event → Record) (o : Option Event) (p : ℕ) (d : Done) → ((e : Event) → (f e).event ≡ e) → is_if_there is_of_target o ≡ true → said_of_put h (option_map f o) (reply.Refused (refusal.Unknown thing.Slot)) ≡ reply.Ok p d → tells_done d ≡ true → ⊥
-target-silent h f None p d keeps of told tells = absurd cc
-target-silent h f (Some e) p d keeps of told tells =
-    let said_is : reply_by (h ++ f e ∷ []) (f e) (f e).event ≡ d = cc in
-    let quiet : tells_done (reply_by (h ++ f e ∷ []) (f e) (f e).event) ≡ false = silent (h ++ f e ∷ []) (f e) (f e).event (subst (λ (x : Event). is_of_target x ≡ true) (sym (keeps e)) of) in
+target-silent : (h : List Record) (r : Record) (p : ℕ) (d : Done) → is_of_target r.event ≡ true → said (h ++ r ∷ []) r ≡ reply.Ok p d → tells_done d ≡ true → ⊥
+target-silent h r p d of told tells =
+    let said_is : reply_by (h ++ r ∷ []) r r.event ≡ d = cc in
+    let quiet : tells_done (reply_by (h ++ r ∷ []) r r.event) ≡ false = silent (h ++ r ∷ []) r r.event of in
     false≢true (sym quiet ∙ ap tells_done said_is ∙ tells)
 
-over-put : (h : List Record) (now : ℕ) (j : Job) (p : ℕ) (d : Done) (t : Option (AttemptId × ℕ)) → said_of_put h (put_target h now 0 j t) (reply.Refused (refusal.Unknown thing.Slot)) ≡ reply.Ok p d → tells_done d ≡ true
-    → history.is_done (h ++ option_to_list (put_target h now 0 j t)) j.number ≡ true
-over-put h now j p d None told tells = rw (list_any-append (history.is_done_in j.number) h (option_to_list (put_target h now 0 j None)), eq-eqb j.number j.number refl) (or-true _)
-over-put h now j p d (Some t) told tells = absurd (target-silent h _ (target_event h j t) p d (λ e. refl) (target-there h j t) told tells)
+-- what is told of a job's record is that the job is done only where the record ends it
+over-made : (h : List Record) (moment owner : ℕ) (j : Job) (p : ℕ) (d : Done) (o : Option Event) → is_if_there is_of_target o ≡ true
+    → let r = record_of_job moment 0 owner (unwrap_or o (event.JobDone j.number j.plan.quiz j.position)) in
+    said (h ++ r ∷ []) r ≡ reply.Ok p d → tells_done d ≡ true → history.is_done (h ++ r ∷ []) j.number ≡ true
+over-made h moment owner j p d None of told tells =
+    rw (list_any-append (history.is_done_in j.number) h (record_of_job moment 0 owner (event.JobDone j.number j.plan.quiz j.position) ∷ []), eq-eqb j.number j.number refl) (or-true _)
+over-made h moment owner j p d (Some e) of told tells = absurd (target-silent h (record_of_job moment 0 owner e) p d of told tells)
+
+over-put : (h : List Record) (now : ℕ) (j : Job) (p : ℕ) (d : Done) (t : Option (AttemptId × ℕ)) → let r = put_target h now 0 j t in
+    said (h ++ r ∷ []) r ≡ reply.Ok p d → tells_done d ≡ true → history.is_done (h ++ r ∷ []) j.number ≡ true
+over-put h now j p d None told tells = over-made h (history.time h 0 now) 0 j p d None refl told tells
+over-put h now j p d (Some t) told tells = over-made h (history.time h t.0.user now) t.0.user j p d (target_event h j t) (target-there h j t) told tells
 
 over-by : (h : List Record) (now : ℕ) (j : Job) (p : ℕ) (d : Done) (place : ℕ) (t : Option (AttemptId × ℕ)) (b : Bool) → history.is_done h j.number ≡ b
-    → cond b (reply.Ok place (done.AlreadyDone j.number)) (said_of_put h (cond b None (put_target h now 0 j t)) (reply.Refused (refusal.Unknown thing.Slot))) ≡ reply.Ok p d → tells_done d ≡ true
-    → history.is_done (h ++ option_to_list (cond b None (put_target h now 0 j t))) j.number ≡ true
+    → said_of_put h (cond b None (Some (put_target h now 0 j t))) (reply.Ok place (done.AlreadyDone j.number)) ≡ reply.Ok p d → tells_done d ≡ true
+    → history.is_done (h ++ option_to_list (cond b None (Some (put_target h now 0 j t)))) j.number ≡ true
 over-by h now j p d place t true is told tells = rw (append-nil h) is
 over-by h now j p d place t false is told tells = over-put h now j p d t told tells
 
@@ -201,14 +208,13 @@ job-over : (c h : List Record) (now job p : ℕ) (d : Done) → job_answer c h n
 job-over c h now job p d told tells = job-over-by c h now job p d (catalog.job c job) refl told tells
 
 -- no work in a shard that is there finds it missing
-never-by : (h : List Record) (b : Bool) (put : Option Record) (place : ℕ) (d : Done) → cond b (reply.Ok place d) (said_of_put h put (reply.Refused (refusal.Unknown thing.Slot))) ≡ reply.Refused (refusal.Unknown thing.Shard) → ⊥
-never-by h true put place d told = absurd cc
-never-by h false None place d told = absurd cc
-never-by h false (Some r) place d told = absurd cc
+never-by : (h : List Record) (put : Option Record) (place : ℕ) (d : Done) → said_of_put h put (reply.Ok place d) ≡ reply.Refused (refusal.Unknown thing.Shard) → ⊥
+never-by h None place d told = absurd cc
+never-by h (Some r) place d told = absurd cc
 
 never-missing : (h : List Record) (now : ℕ) (o : Option Job) → unwrap_or (option_map (work_answer h now 0) o) (reply.Refused (refusal.Unknown thing.Job)) ≡ reply.Refused (refusal.Unknown thing.Shard) → ⊥
 never-missing h now None told = absurd cc
-never-missing h now (Some j) told = never-by h (history.is_done h j.number) (put_by_job h now 0 j) _ _ told
+never-missing h now (Some j) told = never-by h (put_by_job h now 0 j) _ _ told
 
 -- ---- what is missing
 

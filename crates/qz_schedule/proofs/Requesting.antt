@@ -190,7 +190,7 @@ module _ (n : ℕ) (w : World) (k moment : ℕ) (ask : Ask) (v : Visit) (j : ℕ
         let there = job-whole job is in
         record {
           adds = work-adds l moment user.number job;
-          legal = work-legal j n l moment user.number job legal (record { known = λ i s q x slot question learned. working_law.known d l number i job s q x whole_legal all there slot question learned });
+          legal = work-legal j n l moment user.number job legal (record { known = λ i s q x slot question learned. working_law.known d l number i job s q x whole_legal all there slot question learned; slot = working_law.slots d l j n number job whole_legal legal all there });
           agree = working_law.worked d l j n moment ask.caller user number job whole_legal legal all (knows-on v.records d user ask seen may.knows).found there;
         }
 

@@ -1,6 +1,6 @@
 -- What a step of a job puts keeps its shard's list legal.
 use Rattle.std.proofs.Common.{◌≡◌, ℕ, Bool, true, false, List, [], ◌∷◌, ◌++◌, Option, Some, None, option_map, refl, sym, ap, ◌∙◌, subst, append-nil, eq-eqb}
-use Rattle.std.specs.Prelude.{if◌then◌else◌, option_and_then, option_to_list}
+use Rattle.std.specs.Prelude.{if◌then◌else◌, is_some, option_and_then, option_to_list, unwrap_or}
 use Rattle.qz_book.proofs.Placing.{version-more}
 use Rattle.qz_book.proofs.TargetLemmas.{IsLeft, left, none-left}
 use Rattle.qz_grading.specs.declared.question.Question.{Question}
@@ -11,6 +11,7 @@ use Rattle.qz_legal.proofs.Learning.{learns-new}
 use Rattle.qz_lives.proofs.Keeping.{start-here}
 use Rattle.qz_lives.proofs.Legality.{legal-push}
 use Rattle.qz_shard.proofs.Allowing.{time-again}
+use Rattle.qz_shard.specs.Holdings.{HasSlot}
 use Rattle.qz_terms.specs.declared.plan.Job.{Job}
 use Rattle.qz_terms.specs.declared.plan.Planned.{Planned}
 use Rattle.qz_terms.specs.declared.record.Event.{Event}
@@ -50,9 +51,10 @@ about-by h job a k e (Some old) (Some newer) (Some s) one two three is = record 
 about : (h : List Record) (job : Job) (a : AttemptId) (k : ℕ) (e : Event) → target_event h job (a, k) ≡ Some e → IsAbout h job a k e
 about h job a k e is = about-by h job a k e (history.question h a k) (at_place job.plan.questions k) (at_place job.plan.slots k) refl refl refl is
 
--- a version of the job's plan that the list has learned has there the question learned
+-- a version of the job's plan that the list has learned has there the question learned, and the first target has its slot
 pub record Knows (h : List Record) (job : Job) : Type 0 where
   pub known : (k : ℕ) (s : Planned) (q x : Question) → at_place job.plan.slots k ≡ Some s → at_place job.plan.questions k ≡ Some q → history.version h s.entry s.version ≡ Some x → x ≡ q
+  pub slot : HasSlot h job (first_target h job)
 
 module _ (index count : ℕ) (h : List Record) (now caller : ℕ) (job : Job) (legal : IsLegal index count h) (able : Knows h job) (still : history.is_done h job.number ≡ false) where
   module _ (a : AttemptId) (k : ℕ) (first : first_target h job ≡ Some (a, k)) where
@@ -105,11 +107,9 @@ module _ (index count : ℕ) (h : List Record) (now caller : ℕ) (job : Job) (l
     about-allowed : (e : Event) → IsAbout h job a k e → IsAllowed index count h (record_of_job (history.time h a.user now) caller a.user e)
     about-allowed e t = subst (λ (d : Event). IsAllowed index count h (record_of_job (history.time h a.user now) caller a.user d)) t.event_is (event-allowed t.old t.newer t.planned t.old_is t.planned_is t.newer_is (same_shape (shape t.old) (shape t.newer)) refl)
 
-    target-allowed : (r : Record) (o : Option Event) → target_event h job (a, k) ≡ o → option_map (λ e. record_of_job (history.time h a.user now) caller a.user e) o ≡ Some r → IsAllowed index count h r
-    target-allowed r None is put = absurd cc
-    target-allowed r (Some e) is put =
-        let same : record_of_job (history.time h a.user now) caller a.user e ≡ r = cc in
-        subst (IsAllowed index count h) same (about-allowed e (about h job a k e is))
+    target-allowed : (o : Option Event) → target_event h job (a, k) ≡ o → is_some o ≡ true → IsAllowed index count h (record_of_job (history.time h a.user now) caller a.user (unwrap_or o (event.JobDone job.number job.plan.quiz job.position)))
+    target-allowed None is there = absurd cc
+    target-allowed (Some e) is there = about-allowed e (about h job a k e is)
 
   done-allowed : first_target h job ≡ None → IsAllowed index count h (record_of_job (history.time h 0 now) caller 0 (event.JobDone job.number job.plan.quiz job.position))
   done-allowed none = record {
@@ -119,20 +119,14 @@ module _ (index count : ℕ) (h : List Record) (now caller : ℕ) (job : Job) (l
     event = record { bare = refl; undone = still; none_left = none-left (history.targets h job.number job.plan.quiz job.position) none };
   }
 
-  next-allowed : (r : Record) (t : Option (AttemptId × ℕ)) → first_target h job ≡ t → put_target h now caller job t ≡ Some r → IsAllowed index count h r
-  next-allowed r None none put =
-      let same : record_of_job (history.time h 0 now) caller 0 (event.JobDone job.number job.plan.quiz job.position) ≡ r = cc in
-      subst (IsAllowed index count h) same (done-allowed none)
-  next-allowed r (Some t) first put = target-allowed t.0 t.1 first r (target_event h job t) refl put
+  next-allowed : (t : Option (AttemptId × ℕ)) → first_target h job ≡ t → HasSlot h job t → IsAllowed index count h (put_target h now caller job t)
+  next-allowed None none there = done-allowed none
+  next-allowed (Some t) first there = target-allowed t.0 t.1 first (target_event h job t) refl there
 
-legal-with : (index count : ℕ) (h : List Record) (o : Option Record) → IsLegal index count h → ((r : Record) → o ≡ Some r → IsAllowed index count h r) → IsLegal index count (h ++ option_to_list o)
-legal-with index count h None legal each = subst (IsLegal index count) (sym (append-nil h)) legal
-legal-with index count h (Some r) legal each = legal-push index count h r legal (each r refl)
-
-legal-by : (index count : ℕ) (h : List Record) (now caller : ℕ) (job : Job) (b : Bool) → IsLegal index count h → Knows h job → history.is_done h job.number ≡ b → IsLegal index count (h ++ option_to_list (if b then None else put_target h now caller job (first_target h job)))
-legal-by index count h now caller job true legal able done = legal-with index count h None legal (λ r is. absurd cc)
+legal-by : (index count : ℕ) (h : List Record) (now caller : ℕ) (job : Job) (b : Bool) → IsLegal index count h → Knows h job → history.is_done h job.number ≡ b → IsLegal index count (h ++ option_to_list (if b then None else Some (put_target h now caller job (first_target h job))))
+legal-by index count h now caller job true legal able done = subst (IsLegal index count) (sym (append-nil h)) legal
 legal-by index count h now caller job false legal able still =
-    legal-with index count h (put_target h now caller job (first_target h job)) legal (λ r put. next-allowed index count h now caller job legal able still r (first_target h job) refl put)
+    legal-push index count h (put_target h now caller job (first_target h job)) legal (next-allowed index count h now caller job legal able still (first_target h job) refl able.slot)
 
 pub work-legal : (index count : ℕ) (h : List Record) (now caller : ℕ) (job : Job) → IsLegal index count h → Knows h job → IsLegal index count (work_after h now caller job)
 work-legal index count h now caller job legal able = legal-by index count h now caller job (history.is_done h job.number) legal able refl

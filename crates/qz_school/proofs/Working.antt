@@ -1,7 +1,7 @@
 -- A step of a job puts what agrees with the catalogue.
 use Rattle.std.proofs.Common.{◌≡◌, ℕ, zero, suc, ◌+◌, ◌-◌, ◌≤◌, max, Bool, true, false, List, [], ◌∷◌, ◌++◌, Option, Some, None, length, take, option_map, refl, sym, ap, subst, ◌∙◌, arith, append_assoc, append-nil}
 use Rattle.std.specs.List.{enumerate_from, list_all}
-use Rattle.std.specs.Prelude.{◌==◌, ◌||◌, filter_map, fold, if◌then◌else◌, is_none, is_some, option_and_then, option_to_list, slice_get}
+use Rattle.std.specs.Prelude.{◌==◌, ◌||◌, filter_map, fold, if◌then◌else◌, is_none, is_some, option_and_then, option_to_list, slice_get, unwrap_or}
 use Rattle.std.proofs.Math.Nat.{max-le}
 use Rattle.std.proofs.Math.Seq.{take-append-add}
 use Rattle.qz_grading.specs.declared.question.Question.{Question}
@@ -22,12 +22,14 @@ use Rattle.qz_terms.specs.declared.request.Request.{Request}
 use Rattle.qz_terms.specs.declared.request.Request.TheVariants as request
 use Rattle.qz_terms.specs.Answer.{bind, first_target, learned_as, new_versions, put_target, rebound_or_skipped, record_of_job, target_event, work_after}
 use Rattle.qz_terms.specs.Catalog.{asked, job, job_with, jobs, own_settings, plan_under, questions, quizzes, regrade_by, slots, user_of, users, version}
-use Rattle.qz_terms.specs.Cause.{missing_in, missing_quiz}
+use Rattle.qz_terms.specs.Cause.{missing_in}
 use Rattle.qz_terms.specs.History as history
 use Rattle.qz_terms.specs.Legal.{Agrees, AllAgree, EventAgrees, IsLegal, IsLegalCatalog, JobAgrees, LearnsFrom}
 use Rattle.qz_catalog.proofs.Accepted.{accepted}
 use Rattle.qz_catalog.proofs.Staying.{front-legal}
 use Rattle.qz_book.proofs.TargetLemmas.{left}
+use Rattle.qz_job_slots.proofs.Steps.{steps_law}
+use Rattle.qz_shard.specs.Holdings.{HasSlot}
 use Rattle.qz_school.specs.Working.{GoesOnWorking}
 use Rattle.qz_school.proofs.Agreeing.{all-push, job-within}
 use Rattle.qz_school.proofs.AlikeInSchool.{front-stays, version-agrees}
@@ -224,29 +226,31 @@ module _ (c h : List Record) (index count now caller number : ℕ) (j : Job) (le
       event = event-agrees (record_of_job (history.time h a.user now) caller a.user (rebound_or_skipped h j a k t.planned t.old t.newer)) t.old t.newer t.planned (same_shape (shape t.old) (shape t.newer)) t.old_is t.planned_is t.newer_is;
     })
 
-    target-put : (r : Record) (o : Option Event) → target_event h j (a, k) ≡ o → option_map (λ e. record_of_job (history.time h a.user now) caller a.user e) o ≡ Some r → Agrees c h r
-    target-put r None is put = absurd cc
-    target-put r (Some e) is put =
-        let same : record_of_job (history.time h a.user now) caller a.user e ≡ r = cc in
-        subst (Agrees c h) same (target-agrees e (event-by h j a k e (history.question h a k) (at_place j.plan.questions k) (at_place j.plan.slots k) refl refl refl is))
+    target-put : (o : Option Event) → target_event h j (a, k) ≡ o → Agrees c h (record_of_job (history.time h a.user now) caller a.user (unwrap_or o (event.JobDone j.number j.plan.quiz j.position)))
+    target-put None is = record { caller = placed; event = job-agrees }
+    target-put (Some e) is = target-agrees e (event-by h j a k e (history.question h a k) (at_place j.plan.questions k) (at_place j.plan.slots k) refl refl refl is)
 
-  put-agrees : (r : Record) (t : Option (AttemptId × ℕ)) → first_target h j ≡ t → put_target h now caller j t ≡ Some r → Agrees c h r
-  put-agrees r None none put =
-      let same : record_of_job (history.time h 0 now) caller 0 (event.JobDone j.number j.plan.quiz j.position) ≡ r = cc in
-      subst (Agrees c h) same (record { caller = placed; event = job-agrees })
-  put-agrees r (Some t) first put = target-put t.0 t.1 first r (target_event h j t) refl put
+  put-agrees : (t : Option (AttemptId × ℕ)) → first_target h j ≡ t → Agrees c h (put_target h now caller j t)
+  put-agrees None none = record { caller = placed; event = job-agrees }
+  put-agrees (Some t) first = target-put t.0 t.1 first (target_event h j t) refl
 
-  list-agrees : (o : Option Record) → ((r : Record) → o ≡ Some r → Agrees c h r) → AllAgree c (h ++ option_to_list o)
-  list-agrees None each = subst (AllAgree c) (sym (append-nil h)) all
-  list-agrees (Some r) each = all-push c h r all (each r refl)
-
-  done-or-put : (b : Bool) (t : Option (AttemptId × ℕ)) → first_target h j ≡ t → AllAgree c (h ++ option_to_list (if b then None else put_target h now caller j t))
-  done-or-put true t first = list-agrees None (λ r is. absurd cc)
-  done-or-put false t first = list-agrees (put_target h now caller j t) (λ r is. put-agrees r t first is)
+  done-or-put : (b : Bool) (t : Option (AttemptId × ℕ)) → first_target h j ≡ t → AllAgree c (h ++ option_to_list (if b then None else Some (put_target h now caller j t)))
+  done-or-put true t first = subst (AllAgree c) (sym (append-nil h)) all
+  done-or-put false t first = all-push c h (put_target h now caller j t) all (put-agrees t first)
 
 worked-agrees : (c h : List Record) (index count now : ℕ) (who : Caller) (user : User) (number : ℕ) (j : Job) → IsLegalCatalog c → IsLegal index count h → AllAgree c h → user_of c who ≡ Some user → job c number ≡ Some j → AllAgree c (work_after h now user.number j)
 worked-agrees c h index count now who user number j legal shard all found told =
     done-or-put c h index count now user.number number j legal shard all (caller-placed c who user found).0 told (history.is_done h j.number) (first_target h j) refl
+
+-- ---- the slot of a target
+
+slot-by : (h : List Record) (j : Job) (t : Option (AttemptId × ℕ)) → ((target : AttemptId × ℕ) → t ≡ Some target → is_some (target_event h j target) ≡ true) → HasSlot h j t
+slot-by h j None found = tt
+slot-by h j (Some target) found = found target refl
+
+slots-there : (c h : List Record) (index count number : ℕ) (j : Job) → IsLegalCatalog c → IsLegal index count h → AllAgree c h → job c number ≡ Some j → HasSlot h j (first_target h j)
+slots-there c h index count number j legal shard all told =
+    slot-by h j (first_target h j) (λ target first. steps_law.found c h index count number j target legal shard all told first)
 
 -- ---- the position of a job that is done
 
@@ -277,4 +281,4 @@ floor-within : (c h : List Record) (quiz : ℕ) → AllAgree c h → history.flo
 floor-within c h quiz all = floor-from c h [] h quiz 0 all refl (omega arith)
 
 pub working_law : GoesOnWorking
-working_law = record { there = job-there; known = known-so; worked = worked-agrees; newer = floor-within }
+working_law = record { there = job-there; known = known-so; worked = worked-agrees; slots = slots-there; newer = floor-within }

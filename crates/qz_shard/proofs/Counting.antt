@@ -1,6 +1,6 @@
 -- How often what a request puts grades, by the request.
 use Rattle.std.proofs.Common.{◌≡◌, ℕ, ◌+◌, ◌≤◌, Bool, true, false, List, Option, Some, None, length, refl, ap, subst, arith, option_map}
-use Rattle.std.specs.Prelude.{if◌then◌else◌, option_and_then}
+use Rattle.std.specs.Prelude.{if◌then◌else◌, option_and_then, unwrap_or}
 use Rattle.qz_grading.specs.declared.outcome.Moved.{Moved}
 use Rattle.qz_grading.specs.declared.outcome.Moved.TheVariants as moved_as
 use Rattle.qz_grading.specs.declared.question.Question.{Question}
@@ -25,14 +25,15 @@ use Rattle.qz_terms.specs.declared.ask.Ask.{Ask}
 use Rattle.qz_terms.specs.declared.plan.Planned.{Planned}
 use Rattle.qz_grading.specs.Grading.{at_place, shape}
 use Rattle.qz_grading.specs.Shapes.{same_shape}
-use Rattle.qz_terms.specs.Answer.{acted_or_noted, event_here, first_target, is_overdue, max_now, named_user, put_target, rebound_or_skipped, record_of_job, started_by, stepped_by, target_event}
-use Rattle.qz_terms.specs.History.{question, slot_count, steps, time}
+use Rattle.qz_terms.specs.Answer.{acted_or_noted, event_here, first_target, is_overdue, job_event, max_now, named_user, rebound_or_skipped, started_by, stepped_by, target_event}
+use Rattle.qz_terms.specs.History.{question, slot_count, steps}
 use Rattle.qz_shard.specs.declared.decision.Decision.TheVariants as decision
 use Rattle.qz_shard.specs.declared.working.Work.TheVariants as work
 use Rattle.qz_shard.specs.Decisions.{IsDecision}
 use Rattle.qz_shard.specs.Gradings.{most_gradings, most_of_work}
 use Rattle.qz_shard.specs.Puts.{record_by}
 use Rattle.qz_shard.specs.Works.{IsWork}
+use Rattle.qz_shard.proofs.WorkLemmas.{put-of}
 use Rattle.qz_lives.proofs.Legality.{told_event, told-pair}
 
 save-none : (h : List Record) (v : Moved) (a : AttemptId) (k : ℕ) (r : Response) → gradings_by h (acted_or_noted v a k (step.Save r)) ≤ 0
@@ -91,21 +92,16 @@ target-few h job a k (Some p) (Some t) (Some q) e is =
     let same : rebound_or_skipped h job a k t p q ≡ e = cc in
     subst (λ (d : Event). gradings_by h d ≤ length (steps h a k) + 1) same (rebound-few h job a k t p q (same_shape (shape p) (shape q)) refl)
 
-put-few : (h : List Record) (m caller : ℕ) (job : Job) (t : AttemptId × ℕ) (o : Option Event) (r : Record) → target_event h job t ≡ o → option_map (λ e. record_of_job m caller t.0.user e) o ≡ Some r → gradings_by h r.event ≤ length (steps h t.0 t.1) + 1
-put-few h m caller job t None r is put = absurd cc
-put-few h m caller job t (Some e) r is put =
-    let same : record_of_job m caller t.0.user e ≡ r = cc in
-    subst (λ (x : Record). gradings_by h x.event ≤ length (steps h t.0 t.1) + 1) same
-    (target-few h job t.0 t.1 (question h t.0 t.1) (at_place job.plan.slots t.1) (at_place job.plan.questions t.1) e is)
+put-few : (h : List Record) (job : Job) (t : AttemptId × ℕ) (o : Option Event) → target_event h job t ≡ o → gradings_by h (unwrap_or o (event.JobDone job.number job.plan.quiz job.position)) ≤ length (steps h t.0 t.1) + 1
+put-few h job t None is = omega arith
+put-few h job t (Some e) is = target-few h job t.0 t.1 (question h t.0 t.1) (at_place job.plan.slots t.1) (at_place job.plan.questions t.1) e is
 
-work-few-by : (h : List Record) (now caller : ℕ) (job : Job) (o : Option (AttemptId × ℕ)) (r : Record) → first_target h job ≡ o → put_target h now caller job o ≡ Some r → gradings_by h r.event ≤ most_of_work h job
-work-few-by h now caller job None r first put =
-    let same : record_of_job (time h 0 now) caller 0 (event.JobDone job.number job.plan.quiz job.position) ≡ r = cc in
-    subst (λ (x : Record). gradings_by h x.event ≤ most_of_work h job) same (rw first (omega arith))
-work-few-by h now caller job (Some t) r first put = rw first (put-few h (time h t.0.user now) caller job t (target_event h job t) r refl put)
+work-few-by : (h : List Record) (job : Job) (o : Option (AttemptId × ℕ)) → first_target h job ≡ o → gradings_by h (job_event h job o) ≤ most_of_work h job
+work-few-by h job None first = rw first (omega arith)
+work-few-by h job (Some t) first = rw first (put-few h job t (target_event h job t) refl)
 
 pub few-worked : (h : List Record) (now caller : ℕ) (job : Job) (r : Record) (before after : ℕ) → IsWork h now caller job (work.Put r) → after ≤ before + gradings_by h r.event → after ≤ before + most_of_work h job
 few-worked h now caller job r before after w count =
-    let put : put_target h now caller job (first_target h job) ≡ Some r = rw w.0 at w.1 in
-    let few : gradings_by h r.event ≤ most_of_work h job = work-few-by h now caller job (first_target h job) r refl put in
+    let few : gradings_by h r.event ≤ most_of_work h job =
+    subst (λ (x : Record). gradings_by h x.event ≤ most_of_work h job) (put-of h now caller job r w) (work-few-by h job (first_target h job) refl) in
     omega arith

@@ -1,7 +1,7 @@
 -- The record that a worker's request puts may stand next, and what is then answered.
 use Rattle.std.proofs.Common.{◌≡◌, ℕ, ◌-◌, Bool, true, false, List, [], ◌∷◌, ◌++◌, Option, Some, None, refl, sym, ap, subst, ◌∙◌, option_map, eq-eqb, All}
 use Rattle.std.specs.List.{list_all}
-use Rattle.std.specs.Prelude.{◌-◌, ◌==◌, if◌then◌else◌, option_and_then, slice_get}
+use Rattle.std.specs.Prelude.{◌-◌, ◌==◌, if◌then◌else◌, is_some, option_and_then, slice_get, unwrap_or}
 use Rattle.std.proofs.lemmas.List.Elements.{All-cons, All-nil}
 use Rattle.std.proofs.lemmas.Option.{get_or_from_slice_get, slice_get_within}
 use Rattle.qz_grading.specs.declared.question.Question.{Question}
@@ -23,7 +23,7 @@ use Rattle.qz_terms.proofs.Walks.{first_of-push}
 use Rattle.qz_index.specs.Jobs.{done_in}
 use Rattle.qz_shard.specs.declared.working.Work.TheVariants as work
 use Rattle.qz_book.specs.Held.{IsHeld}
-use Rattle.qz_shard.specs.Holdings.{IsWorkable}
+use Rattle.qz_shard.specs.Holdings.{HasSlot, IsWorkable}
 use Rattle.qz_book.specs.Nexts.{IsNext}
 use Rattle.qz_shard.specs.Puts.{IsPutWith}
 use Rattle.qz_shard.specs.Works.{IsWork, IsWorked}
@@ -50,11 +50,12 @@ undone h job told = undone-by (is_done h job) (done_place h job) told
 pub done-there : (h : List Record) (now caller : ℕ) (job : Job) (place : ℕ) → Some place ≡ done_in h job.number → IsWork h now caller job (work.AlreadyDone place)
 done-there h now caller job place told = done-by (is_done h job.number) (done_place h job.number) place told
 
-pub put-work : (h : List Record) (now caller : ℕ) (job : Job) (r : Record) → is_done h job.number ≡ false → Some r ≡ put_target h now caller job (first_target h job) → IsWork h now caller job (work.Put r)
-put-work h now caller job r still is = (still, rw still (sym is))
+pub put-work : (h : List Record) (now caller : ℕ) (job : Job) (r : Record) → is_done h job.number ≡ false → r ≡ put_target h now caller job (first_target h job) → IsWork h now caller job (work.Put r)
+put-work h now caller job r still is = (still, rw (still, is) refl)
 
-pub no-work : (h : List Record) (now caller : ℕ) (job : Job) → is_done h job.number ≡ false → None ≡ put_target h now caller job (first_target h job) → IsWork h now caller job work.NoSlot
-no-work h now caller job still is = (still, rw still (sym is))
+-- the record of a job that isn't done
+pub put-of : (h : List Record) (now caller : ℕ) (job : Job) (r : Record) → IsWork h now caller job (work.Put r) → put_target h now caller job (first_target h job) ≡ r
+put-of h now caller job r w = let some : Some (put_target h now caller job (first_target h job)) ≡ Some r = rw w.0 at w.1 in cc
 
 -- ---- what is read of a plan
 
@@ -114,9 +115,6 @@ module _ (index count : ℕ) (h : List Record) (now caller : ℕ) (job : Job) (h
     here : is_here index count a.user ≡ true
     here = start-here index count h a of_target.begun held.legal of_target.begun_is
 
-    job_record : Event → Record
-    job_record e = record_of_job (time h a.user now) caller a.user e
-
     module _ (old newer : Question) (s : Planned) (old_is : question h a k ≡ Some old) (planned_is : at_place job.plan.slots k ≡ Some s) (newer_is : at_place job.plan.questions k ≡ Some newer) where
       -- the version that is bound was learned with this question, or is learned now
       newer-known : (o : Option Question) → version h s.entry s.version ≡ o → version (h ++ record_of_job (time h a.user now) caller a.user (event.Rebound job.number a k (bind job.position s) (new_versions h (learned_as (s, newer) ∷ []))) ∷ []) s.entry s.version ≡ Some newer
@@ -173,11 +171,9 @@ module _ (index count : ℕ) (h : List Record) (now caller : ℕ) (job : Job) (h
     target-next : (e : Event) → IsEventOf h job a k e → IsNext index count h (record_of_job (time h a.user now) caller a.user e)
     target-next e t = subst (λ (d : Event). IsNext index count h (record_of_job (time h a.user now) caller a.user d)) t.event_is (event-next t.old t.newer t.planned t.old_is t.planned_is t.newer_is (same_shape (shape t.old) (shape t.newer)) refl)
 
-    target-put : (r : Record) (o : Option Event) → target_event h job (a, k) ≡ o → option_map (λ e. record_of_job (time h a.user now) caller a.user e) o ≡ Some r → IsNext index count h r
-    target-put r None is put = absurd cc
-    target-put r (Some e) is put =
-        let same : record_of_job (time h a.user now) caller a.user e ≡ r = cc in
-        subst (IsNext index count h) same (target-next e (event-of h job a k e is))
+    target-put : (o : Option Event) → target_event h job (a, k) ≡ o → is_some o ≡ true → IsNext index count h (record_of_job (time h a.user now) caller a.user (unwrap_or o (event.JobDone job.number job.plan.quiz job.position)))
+    target-put None is there = absurd cc
+    target-put (Some e) is there = target-next e (event-of h job a k e is)
 
   done-next : first_target h job ≡ None → IsNext index count h (record_of_job (time h 0 now) caller 0 (event.JobDone job.number job.plan.quiz job.position))
   done-next none = record {
@@ -191,35 +187,20 @@ module _ (index count : ℕ) (h : List Record) (now caller : ℕ) (job : Job) (h
     asked = refl;
   }
 
-  next-by : (r : Record) (t : Option (AttemptId × ℕ)) → first_target h job ≡ t → put_target h now caller job t ≡ Some r → IsNext index count h r
-  next-by r None none put =
-      let same : record_of_job (time h 0 now) caller 0 (event.JobDone job.number job.plan.quiz job.position) ≡ r = cc in
-      subst (IsNext index count h) same (done-next none)
-  next-by r (Some t) first put = target-put t.0 t.1 first r (target_event h job t) refl put
+  next-by : (t : Option (AttemptId × ℕ)) → first_target h job ≡ t → HasSlot h job t → IsNext index count h (put_target h now caller job t)
+  next-by None none there = done-next none
+  next-by (Some t) first there = target-put t.0 t.1 first (target_event h job t) refl there
 
 pub work-next : (index count : ℕ) (h : List Record) (now caller : ℕ) (job : Job) (r : Record) → IsHeld index count h → IsWorkable h job now → IsWork h now caller job (work.Put r) → IsNext index count h r
 work-next index count h now caller job r held able w =
-    let put : put_target h now caller job (first_target h job) ≡ Some r = rw w.0 at w.1 in
-    next-by index count h now caller job held able w.0 r (first_target h job) refl put
+    subst (IsNext index count h) (put-of h now caller job r w) (next-by index count h now caller job held able w.0 (first_target h job) refl able.has_slot)
 
 -- ---- what is answered
 
 pub worked-put : (h g : List Record) (now caller : ℕ) (job : Job) (r : Record) (told : Reply) → IsWork h now caller job (work.Put r) → IsPutWith h g r told → IsWorked h now caller job told g
-worked-put h g now caller job r told w put =
-    let made : put_target h now caller job (first_target h job) ≡ Some r = rw w.0 at w.1 in
-    record { reply = put.said_so ∙ rw (w.0, made) refl; list = put.put ∙ rw w.1 refl }
+worked-put h g now caller job r told w put = record { reply = put.said_so ∙ rw w.1 refl; list = put.put ∙ rw w.1 refl }
 
 -- ---- a record of a job has no key
 
-keyless-map : (m caller u : ℕ) (o : Option Event) (r : Record) → option_map (λ e. record_of_job m caller u e) o ≡ Some r → r.key ≡ None
-keyless-map m caller u None r is = absurd cc
-keyless-map m caller u (Some e) r is = let same : record_of_job m caller u e ≡ r = cc in ap (λ (x : Record). x.key) (sym same)
-
-keyless-target : (h : List Record) (now caller : ℕ) (job : Job) (o : Option (AttemptId × ℕ)) (r : Record) → put_target h now caller job o ≡ Some r → r.key ≡ None
-keyless-target h now caller job None r is = keyless-map (time h 0 now) caller 0 (Some (event.JobDone job.number job.plan.quiz job.position)) r is
-keyless-target h now caller job (Some t) r is = keyless-map (time h t.0.user now) caller t.0.user (target_event h job t) r is
-
 pub keyless-work : (h : List Record) (now caller : ℕ) (job : Job) (r : Record) → IsWork h now caller job (work.Put r) → r.key ≡ None
-keyless-work h now caller job r told =
-    let undone : is_done h job.number ≡ false = told.0 in
-    keyless-target h now caller job (first_target h job) r (subst (λ (b : Bool). (if b then None else put_target h now caller job (first_target h job)) ≡ Some r) undone told.1)
+keyless-work h now caller job r told = ap (λ (x : Record). x.key) (sym (put-of h now caller job r told))

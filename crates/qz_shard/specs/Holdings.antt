@@ -1,6 +1,7 @@
 -- What a shard is seen as, what is asked of it, and how it answers.
-use Rattle.std.specs.Prelude.{◌≡◌, ℕ, ◌-◌, ◌⊎◌, Bool, true, false, List, [], ◌∷◌, ◌++◌, length, if◌then◌else◌, nat_lt, Some, None, Option}
+use Rattle.std.specs.Prelude.{◌≡◌, ℕ, ◌-◌, ◌⊎◌, Bool, true, false, List, [], ◌∷◌, ◌++◌, length, if◌then◌else◌, nat_lt, IfSome, is_some, Some, None, Option}
 use Rattle.qz_grading.specs.declared.question.Question.{Question}
+use Rattle.qz_grading.specs.declared.refusal.AttemptId.{AttemptId}
 use Rattle.qz_grading.specs.declared.refusal.Refusal.TheVariants as refusal
 use Rattle.qz_grading.specs.Grading.{at_place}
 use Rattle.qz_terms.specs.declared.ask.Ask.{Ask}
@@ -13,7 +14,7 @@ use Rattle.qz_terms.specs.declared.reply.Reply.{Reply}
 use Rattle.qz_terms.specs.declared.reply.Reply.TheVariants as reply
 use Rattle.qz_terms.specs.declared.request.Request.{Request}
 use Rattle.qz_terms.specs.declared.request.Request.TheVariants as request
-use Rattle.qz_terms.specs.Answer.{answer_here, list_after, said, work_after, work_answer}
+use Rattle.qz_terms.specs.Answer.{answer_here, first_target, list_after, said, target_event, work_after, work_answer}
 use Rattle.qz_terms.specs.Cause.{forbidden, is_keyed, is_student, missing_here, spells}
 use Rattle.qz_terms.specs.History as history
 use Rattle.qz_terms.specs.Kept.{IsKeptPlan, KeepsAsked, is_moment}
@@ -60,10 +61,15 @@ abbrev pub StartsHere : Holding → User → Plan → Request → Type 0
 StartsHere s user plan (request.Start quiz) = (is_here s.index s.count user.number ≡ true) × (length plan.questions ≡ length plan.slots)
 StartsHere s user plan x = Unit {0}
 
+-- the job's plan has the slot of its first target, and its question, if a target is left
+abbrev pub HasSlot : List Record → Job → Option (AttemptId × ℕ) → Type 0
+HasSlot h job first = IfSome first (λ t. is_some (target_event h job t) ≡ true)
+
 -- a worker's job: its plan is kept, and a version in it that the shard has learned has there the question learned
 pub record IsWorkable (h : List Record) (job : Job) (moment : ℕ) : Type 0 where
   pub kept_plan : IsKeptPlan job.plan
   pub known : (k : ℕ) (s : Planned) (q x : Question) → at_place job.plan.slots k ≡ Some s → at_place job.plan.questions k ≡ Some q → history.version h s.entry s.version ≡ Some x → x ≡ q
+  pub has_slot : HasSlot h job (first_target h job)
   pub kept_moment : is_moment moment ≡ true
 
 -- ---- how it answers

@@ -1,5 +1,5 @@
 -- What a worker's request to a shard comes to.
-use Rattle.std.specs.Prelude.{◌≡◌, ℕ, true, false, List, None, Some}
+use Rattle.std.specs.Prelude.{◌≡◌, ℕ, true, false, List, Some}
 use Rattle.qz_terms.specs.declared.plan.Job.{Job}
 use Rattle.qz_terms.specs.declared.record.Record.{Record}
 use Rattle.qz_terms.specs.declared.reply.Reply.{Reply}
@@ -8,10 +8,9 @@ use Rattle.qz_terms.specs.History.{is_done}
 use Rattle.qz_shard.specs.declared.working.Work.{Work}
 use Rattle.qz_shard.specs.declared.working.Work.TheVariants as work
 
--- the job is done already, or the plan has no slot for its first target, or this record is put
+-- the job is done already, or this record is put
 abbrev pub IsWork : List Record → ℕ → ℕ → Job → Work → Type 0
 IsWork h now caller job (work.AlreadyDone place) = (is_done h job.number ≡ true) × (place ≡ done_place h job.number)
-IsWork h now caller job work.NoSlot = (is_done h job.number ≡ false) × (put_by_job h now caller job ≡ None)
 IsWork h now caller job (work.Put r) = (is_done h job.number ≡ false) × (put_by_job h now caller job ≡ Some r)
 
 -- the reply is the answer, and the list is what it leaves

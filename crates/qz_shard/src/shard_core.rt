@@ -358,7 +358,6 @@ impl ShardCore {
                     done: Done::AlreadyDone { job: job.number },
                 });
             }
-            Work::NoSlot => return Ok(Reply::Refused(Refusal::Unknown { what: Thing::Slot })),
             Work::Put(made) => made,
         };
         self.put(alloc, made, recorder, steps)

@@ -4,9 +4,10 @@ ghost use Rattle.std.specs.Prelude.{◌≡◌, ◌∷◌, [], option_copied, All
 ghost use Rattle.qz_grading.specs.Grading.{at_place};
 ghost use Rattle.qz_grading.specs.Questions.{IsQuestion};
 ghost use Rattle.qz_grading.specs.Shapes.{same_shape};
-ghost use Rattle.qz_terms.specs.Answer.{learned_as, new_versions, put_target, rebound_or_skipped, record_of_job, target_event};
+ghost use Rattle.qz_terms.specs.Answer.{first_target, learned_as, new_versions, put_target, rebound_or_skipped, record_of_job, target_event};
 ghost use Rattle.qz_book.specs.Cursors.{AreCursors};
 ghost use Rattle.qz_book.specs.Held.{IsSound};
+ghost use Rattle.qz_shard.specs.Holdings.{HasSlot};
 ghost use Rattle.qz_shard.specs.Works.{IsWork};
 
 use qz_book::{Book, Cursors, next_target, question_of};
@@ -20,8 +21,6 @@ use std::alloc::Global;
 pub(crate) enum Work {
     /// The job is done already, at this place in the list, from 1.
     AlreadyDone(u64),
-    /// The job's plan has no slot for its first target.
-    NoSlot,
     /// This record is put.
     Put(Record),
 }
@@ -141,7 +140,7 @@ fn record_of(moment: u64, caller: u32, owner: u32, event: Event) -> Record
     }
 }
 
-/// The record of the first target, or of the job that is done.
+/// The record of the first target, whose slot the job's plan has, or of the job that is done.
 fn put_target(
     alloc: Global,
     book: &Book,
@@ -149,9 +148,10 @@ fn put_target(
     caller: u32,
     job: &Job,
     target: Option<(AttemptId, u16)>,
-) -> Result<Option<Record>, NoMemory>
+) -> Result<Record, NoMemory>
     requires sound { IsSound book.now }
     requires questions { All IsQuestion job.now.plan.questions }
+    requires slot { HasSlot book.now job.now target }
     ensures { IfOk result (λ put. put ≡ put_target book.now now caller job.now target) }
 {
     let Some((attempt, slot)) = target else {
@@ -160,13 +160,13 @@ fn put_target(
             quiz: job.plan.quiz,
             position: job.position,
         };
-        return Ok(Some(record_of(book.time(0, now), caller, 0, done)));
+        return Ok(record_of(book.time(0, now), caller, 0, done));
     };
     let Some(event) = target_event(alloc, book, job, attempt, slot)? else {
-        return Ok(None);
+        unreachable!()
     };
     let moment = book.time(attempt.user, now);
-    Ok(Some(record_of(moment, caller, attempt.user, event)))
+    Ok(record_of(moment, caller, attempt.user, event))
 }
 
 /// What a worker's request comes to. One target is taken, and the job is done where none is left. How far the job has come is kept.
@@ -180,6 +180,7 @@ pub(crate) fn work_on(
 ) -> Result<Work, NoMemory>
     requires sound { IsSound book.now }
     requires questions { All IsQuestion job.now.plan.questions }
+    requires slot { HasSlot book.now job.now (first_target book.now job.now) }
     requires cursors { AreCursors cursors.old book.now }
     ensures work { IfOk result (IsWork book.now now caller job.now) }
     ensures cursors { AreCursors cursors.new book.now }
@@ -195,8 +196,6 @@ pub(crate) fn work_on(
         job.plan.quiz,
         job.position,
     )?;
-    match put_target(alloc, book, now, caller, job, target)? {
-        Some(record) => Ok(Work::Put(record)),
-        None => Ok(Work::NoSlot),
-    }
+    let record = put_target(alloc, book, now, caller, job, target)?;
+    Ok(Work::Put(record))
 }

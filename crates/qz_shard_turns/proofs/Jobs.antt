@@ -37,13 +37,15 @@ job-on c d n job p is = subst (λ (l : List Record). catalog.job l n ≡ Some jo
 user-on : (c d : List Record) (caller : ℕ) (job : Job) (moment : ℕ) → IsPrefix c d → (w : CanWork c caller job moment) → catalog.user_of d w.who ≡ Some w.user
 user-on c d caller job moment p w = subst (λ (l : List Record). catalog.user_of l w.who ≡ Some w.user) p.1 (staying_law.caller c p.0 w.who w.user w.known)
 
-pub work-asked : (c d : List Record) (caller : ℕ) (job : Job) (moment : ℕ) (held : Held) → CanWork c caller job moment → IsPrefix c d → IsLegalCatalog d → EachMayStand (AllAgree d) held → EachMayStand (λ h. IsWorkable h job moment) held
-work-asked c d caller job moment held w p legal agree = stand_as (λ h. IsWorkable h job moment) (AllAgree d) held
-    (λ h all. record {
+pub work-asked : (c d : List Record) (index count caller : ℕ) (job : Job) (moment : ℕ) (held : Held) → CanWork c caller job moment → IsPrefix c d → IsLegalCatalog d → EachMayStand (AllAgree d) held → EachMayStand (IsLegal index count) held
+    → EachMayStand (λ h. IsWorkable h job moment) held
+work-asked c d index count caller job moment held w p legal agree own = stand_as (λ h. IsWorkable h job moment) (λ h. AllAgree d h × IsLegal index count h) held
+    (λ h stands. record {
       kept_plan = w.job_is.kept;
-      known = λ j planned q x slot question learned. working_law.known d h w.number j job planned q x legal all (job-on c d w.number job p w.job_is.job_is) slot question learned;
+      known = λ j planned q x slot question learned. working_law.known d h w.number j job planned q x legal stands.0 (job-on c d w.number job p w.job_is.job_is) slot question learned;
+      has_slot = working_law.slots d h index count w.number job legal stands.1 stands.0 (job-on c d w.number job p w.job_is.job_is);
       kept_moment = w.in_range;
-    }) agree
+    }) (stand_both (AllAgree d) (IsLegal index count) held agree own)
 
 -- ---- the shard stays tied
 

@@ -21,12 +21,12 @@ use Rattle.qz_terms.specs.Catalog as catalog
 use Rattle.qz_terms.specs.CatalogAnswer.{asks_catalog}
 use Rattle.qz_terms.specs.Cause.{forbidden}
 use Rattle.qz_terms.specs.Kept.{is_moment}
-use Rattle.qz_terms.specs.Legal.{AllAgree, IsLegalCatalog}
+use Rattle.qz_terms.specs.Legal.{AllAgree, IsLegal, IsLegalCatalog}
 use Rattle.qz_terms.specs.SchoolAnswer.{first_refusal}
 use Rattle.qz_school.proofs.Working.{working_law}
 use Rattle.qz_serial.specs.Calls.{ShardAnswers}
 use Rattle.qz_school.specs.Answering.{PartAnswers}
-use Rattle.qz_school.proofs.Calls.{stand_as}
+use Rattle.qz_school.proofs.Calls.{stand_as, stand_both}
 use Rattle.qz_solo.proofs.Serving.{GoesTo, part_means}
 use Rattle.qz_school.proofs.Missing.{job_absent, job_present, shard_there}
 
@@ -66,13 +66,14 @@ work_goes c n ask user number shard k job is may there inside =
     let within = shard_there n shard inside.1 in
     record { goes = rw is refl; among = rw (is, free, present, within) refl; part_is = rw is (sym inside.0) }
 
-pub workable : {K : Type 0} (c : List Record) (number : ℕ) (job : Job) (moment : ℕ) (s : part.Keeping K) → IsLegalCatalog c → IsJob c number job → is_moment moment ≡ true → EachMayStand (AllAgree c) s.held → EachMayStand (λ h. IsWorkable h job moment) s.held
-workable c number job moment s legal there in_range agree = stand_as (λ h. IsWorkable h job moment) (AllAgree c) s.held
-    (λ h all. record {
+pub workable : {K : Type 0} (c : List Record) (number : ℕ) (job : Job) (moment : ℕ) (s : part.Keeping K) → IsLegalCatalog c → IsJob c number job → is_moment moment ≡ true → EachMayStand (AllAgree c) s.held → EachMayStand (IsLegal s.index s.count) s.held → EachMayStand (λ h. IsWorkable h job moment) s.held
+workable c number job moment s legal there in_range agree own = stand_as (λ h. IsWorkable h job moment) (λ h. AllAgree c h × IsLegal s.index s.count h) s.held
+    (λ h stands. record {
       kept_plan = there.kept;
-      known = λ j planned q x slot question learned. working_law.known c h number j job planned q x legal all there.job_is slot question learned;
+      known = λ j planned q x slot question learned. working_law.known c h number j job planned q x legal stands.0 there.job_is slot question learned;
+      has_slot = working_law.slots c h s.index s.count number job legal stands.1 stands.0 there.job_is;
       kept_moment = in_range;
-    }) agree
+    }) (stand_both (AllAgree c) (IsLegal s.index s.count) s.held agree own)
 
 pub work_means : {K : Type 0} (sound : K → Type 0) (faults : K → ℕ) (c : List Record) (now : ℕ) (ask : Ask) (user : User) (number shard : ℕ) (job : Job) (s g : part.Keeping K) (told : Reply) → ask.request ≡ request.Work number shard → forbidden user ask.request ≡ None → catalog.job c number ≡ Some job
     → PartAnswers sound faults (λ h t l. IsWorked h now user.number job t l) s g told → PartAnswers sound faults (ShardAnswers c now user ask) s g told

@@ -286,14 +286,8 @@ by_list-own : (b : Bool) (c h : List Record) (now : ℕ) (user : User) (ask : As
 by_list-own true c h now user ask = catalog-own c now user ask
 by_list-own false c h now user ask = shard-own c h now user ask
 
--- the job is done, or a record is put, or the target has no slot
-work-own : (b : Bool) (h : List Record) (put : Option Record) (place : ℕ) (d : Done) → tells_of_outside (cond b (reply.Ok place d) (said_of_put h put (reply.Refused (refusal.Unknown thing.Slot)))) ≡ false
-work-own true h put place d = refl
-work-own false h None place d = refl
-work-own false h (Some r) place d = refl
-
 job-own : (c h : List Record) (now : ℕ) (user : User) (number : ℕ) → tells_of_outside (job_answer c h now user number) ≡ false
-job-own c h now user number = or-own (work_answer h now user.number) (catalog.job c number) (reply.Refused (refusal.Unknown thing.Job)) (λ (job : Job). work-own (history.is_done h job.number) h (put_by_job h now user.number job) (done_place h job.number) (done.AlreadyDone job.number)) refl
+job-own c h now user number = or-own (work_answer h now user.number) (catalog.job c number) (reply.Refused (refusal.Unknown thing.Job)) (λ (job : Job). put-own h (put_by_job h now user.number job) (done_place h job.number) (done.AlreadyDone job.number)) refl
 
 by-own : (c h : List Record) (now : ℕ) (user : User) (ask : Ask) (x : Request) → tells_of_outside (answer_by c h now user ask x) ≡ false
 by-own c h now user ask (request.Work job shard) = job-own c h now user job

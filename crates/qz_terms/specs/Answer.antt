@@ -5,8 +5,6 @@ use Rattle.qz_grading.specs.declared.outcome.Moved.TheVariants.{Kept, Same}
 use Rattle.qz_grading.specs.declared.outcome.State.{State}
 use Rattle.qz_grading.specs.declared.question.Question.{Question}
 use Rattle.qz_grading.specs.declared.refusal.AttemptId.{AttemptId}
-use Rattle.qz_grading.specs.declared.refusal.Refusal.TheVariants as refusal
-use Rattle.qz_grading.specs.declared.refusal.Thing.TheVariants as thing
 use Rattle.qz_grading.specs.declared.response.Step.{Step}
 use Rattle.qz_grading.specs.declared.response.Step.TheVariants as step
 use Rattle.qz_grading.specs.Behaviours.{moved}
@@ -119,13 +117,21 @@ target_event h job t = option_and_then (λ old. option_and_then (λ s. option_ma
 abbrev pub first_target : List Record → Job → Option (AttemptId × ℕ)
 first_target h job = first_of (history.targets h job.number job.plan.quiz job.position)
 
-abbrev pub put_target : List Record → ℕ → ℕ → Job → Option (AttemptId × ℕ) → Option Record
-put_target h now caller job None = Some (record_of_job (history.time h 0 now) caller 0 (event.JobDone job.number job.plan.quiz job.position))
-put_target h now caller job (Some t) = option_map (λ e. record_of_job (history.time h t.0.user now) caller t.0.user e) (target_event h job t)
+-- what a worker's request makes: what becomes of the first target, or the job is done where none is left. Of a school each target
+-- has its slot and its question in the plan of its job.
+abbrev pub job_event : List Record → Job → Option (AttemptId × ℕ) → Event
+job_event h job first = unwrap_or (option_and_then (target_event h job) first) (event.JobDone job.number job.plan.quiz job.position)
+
+-- the student of a target; the record of a job that is done is nobody's
+abbrev pub target_owner : Option (AttemptId × ℕ) → ℕ
+target_owner first = unwrap_or (option_map (λ (t : AttemptId × ℕ). t.0.user) first) 0
+
+abbrev pub put_target : List Record → ℕ → ℕ → Job → Option (AttemptId × ℕ) → Record
+put_target h now caller job first = record_of_job (history.time h (target_owner first) now) caller (target_owner first) (job_event h job first)
 
 -- a job that is done in the shard puts nothing
 abbrev pub put_by_job : List Record → ℕ → ℕ → Job → Option Record
-put_by_job h now caller job = if history.is_done h job.number then None else put_target h now caller job (first_target h job)
+put_by_job h now caller job = if history.is_done h job.number then None else Some (put_target h now caller job (first_target h job))
 
 -- ---- what is said of a record of a shard
 
@@ -258,11 +264,9 @@ list_after h now user plan ask = list_at h (moment_of h now user ask.request) us
 abbrev pub done_place : List Record → ℕ → ℕ
 done_place h job = length (up_to_first (history.is_done_in job) h)
 
--- a target for which the job has no slot is refused, and nothing is put
+-- a job that is done is told again, with its place
 abbrev pub work_answer : List Record → ℕ → ℕ → Job → Reply
-work_answer h now caller job =
-    if history.is_done h job.number then reply.Ok (done_place h job.number) (done.AlreadyDone job.number)
-    else said_of_put h (put_by_job h now caller job) (reply.Refused (refusal.Unknown thing.Slot))
+work_answer h now caller job = said_of_put h (put_by_job h now caller job) (reply.Ok (done_place h job.number) (done.AlreadyDone job.number))
 
 abbrev pub work_after : List Record → ℕ → ℕ → Job → List Record
 work_after h now caller job = h ++ option_to_list (put_by_job h now caller job)

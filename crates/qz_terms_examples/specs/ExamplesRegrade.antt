@@ -1,5 +1,5 @@
 -- Worked lines: a question is corrected and regraded while one attempt is finished and another goes on.
-use Rattle.std.specs.Prelude.{◌≡◌, ℕ, false, List, [], ◌∷◌, map, length, pos, Some, None, codes, option_map, refl}
+use Rattle.std.specs.Prelude.{◌≡◌, ℕ, false, List, [], ◌∷◌, map, length, pos, None, codes, refl}
 use Rattle.qz_grading.specs.declared.outcome.State.TheVariants as state
 use Rattle.qz_grading.specs.declared.refusal.AttemptId.{AttemptId}
 use Rattle.qz_grading.specs.declared.refusal.Refusal.TheVariants as refusal
@@ -7,7 +7,6 @@ use Rattle.qz_grading.specs.declared.refusal.Thing.TheVariants as thing
 use Rattle.qz_grading.specs.declared.response.Answer.TheVariants as answer
 use Rattle.qz_terms.specs.declared.ask.Ask.{Ask}
 use Rattle.qz_terms.specs.declared.people.Caller.TheVariants as caller
-use Rattle.qz_terms.specs.declared.plan.Job.{Job}
 use Rattle.qz_terms.specs.declared.record.Event.{Event}
 use Rattle.qz_terms.specs.declared.record.Event.TheVariants as event
 use Rattle.qz_terms.specs.declared.record.Record.{Record}
@@ -15,8 +14,6 @@ use Rattle.qz_terms.specs.declared.reply.Done.TheVariants as done
 use Rattle.qz_terms.specs.declared.reply.Reply.TheVariants as reply
 use Rattle.qz_terms.specs.declared.reply.Shown.TheVariants as shown
 use Rattle.qz_terms.specs.declared.request.Request.TheVariants as request
-use Rattle.qz_terms.specs.Answer.{work_after, work_answer}
-use Rattle.qz_terms.specs.Catalog as catalog
 use Rattle.qz_terms_examples.specs.ExamplesFirstAttempt.{finished}
 use Rattle.qz_terms_examples.specs.ExamplesSchool.{School, asked_with, first_attempt, look, then_has, told, true_false}
 use Rattle.qz_terms.specs.History as history
@@ -136,13 +133,3 @@ a_worker_works = refl
 
 pub no_such_job : told with_job 180 (look root (request.Work 2 0)) ≡ reply.Refused (refusal.Unknown thing.Job)
 no_such_job = refl
-
--- a job without a slot for its target, as none of a school is, says so and puts nothing
-abbrev slotless : Job → Job
-slotless job = record job { plan = record job.plan { slots = []; questions = [] } }
-
-pub no_slot_planned : option_map (λ job. work_answer with_job.part 180 1 (slotless job)) (catalog.job with_job.records 1) ≡ Some (reply.Refused (refusal.Unknown thing.Slot))
-no_slot_planned = refl
-
-pub nothing_is_put : option_map (λ job. length (work_after with_job.part 180 1 (slotless job))) (catalog.job with_job.records 1) ≡ Some 5
-nothing_is_put = refl

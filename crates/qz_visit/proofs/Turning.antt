@@ -6,7 +6,9 @@ use Rattle.qz_catalog_turns.specs.Owning.{TurnReplies}
 use Rattle.qz_catalog_turns.specs.Turning.{Fails, TurnCalls, held_of}
 use Rattle.qz_grading.specs.declared.refusal.AttemptId.{AttemptId}
 use Rattle.qz_grading.specs.declared.refusal.Refusal.{Refusal}
+use Rattle.qz_grading.specs.declared.refusal.Refusal.TheVariants as refusal
 use Rattle.qz_keeper.specs.Lists.{Looks}
+use Rattle.qz_serial.specs.Calls as calls
 use Rattle.qz_serial.specs.Calls.{ShardAnswers}
 use Rattle.qz_serial.proofs.Composing.{look_ends, looks_are_calls}
 use Rattle.qz_serial.proofs.Workers.{err-is}
@@ -26,7 +28,9 @@ use Rattle.qz_terms.specs.Answer.{live_answer}
 use Rattle.qz_terms.specs.History as history
 use Rattle.qz_terms.specs.History.{live_after}
 use Rattle.qz_terms.specs.Legal.{AllAgree, IsLegalCatalog}
+use Rattle.qz_terms.specs.Serial.{Mended}
 use Rattle.qz_turn.specs.Passes.{Lock, Standing}
+use Rattle.qz_visit.specs.Visits.{TookTurn}
 use Rattle.qz_visit.specs.Ways as way
 use Rattle.qz_visit.specs.Ways.{AreTied, MayPlan, Part, Planned, Seen, Stepped, Tried, refused_with}
 use Rattle.qz_visit.proofs.Passing.{found_rested, sees_on, took_after, took_turned, turn_looked, turn_sees}
@@ -40,6 +44,16 @@ pub planned_none : (so s sn : Seen) (po p : Part) (now : ℕ) (ask : Ask) (user 
 planned_none so s sn po p now ask user quiz owner whole r sees looks clear t =
     way.planless r (took_after so s sn sees (took_turned IsLegalCatalog (λ r. Err r) (Looks (TellsPlan quiz owner whole)) s sn (Err r) t))
     (look_ends (Fails sn.found sn.seen) (λ r. Err r) (TellsPlan quiz owner whole) (held_of sn.found) (held_of sn.seen) (Err r) t.calls.call) (found_rested po p looks) clear refl
+
+-- it gave one, and was mended
+pub planned_gave : (so s m : Seen) (quiz owner : ℕ) (whole : Bool) (plan : Plan) → HasLooked so s → TurnCalls IsLegalCatalog (λ r. Err r) (Looks (TellsPlan quiz owner whole)) s m (Ok plan) → TookTurn so m × Mended (held_of m.found) (held_of m.seen)
+planned_gave so s m quiz owner whole plan sees t =
+    (took_after so s m sees (took_turned IsLegalCatalog (λ r. Err r) (Looks (TellsPlan quiz owner whole)) s m (Ok plan) t), (look_told (Fails m.found m.seen) (TellsPlan quiz owner whole) (held_of m.found) (held_of m.seen) plan t.calls.call).0.mends)
+
+-- it gave so many that no more are asked for
+pub planned_short : (so sn : Seen) (po p : Part) (now : ℕ) (ask : Ask) (user : User) (quiz owner : ℕ) (whole : Bool) → TookTurn so sn × Mended (held_of sn.found) (held_of sn.seen) → HasLooked po p → (po.seen.doubt ≡ None → p.seen.doubt ≡ None)
+    → Planned so sn po p now ask user quiz owner whole (refused_with refusal.Memory)
+planned_short so sn po p now ask user quiz owner whole gave looks clear = way.planless refusal.Memory gave.0 (calls.unlooked gave.1 refl) (found_rested po p looks) clear refl
 
 -- it gave one, and the shard answers under it
 pub planned_told : (P : List Record → Type 0) (so s m sn : Seen) (po p pn : Part) (now : ℕ) (ask : Ask) (user : User) (quiz owner : ℕ) (whole : Bool) (plan : Plan) (told : Replied) → HasLooked so s → HasLooked po p

@@ -19,7 +19,7 @@ use std::alloc::Global;
 use std::sync::Wait;
 
 /// Answers a request under the plan of a quiz for a user. The catalogue gives the plan, and where a job that is done in the shard is newer
-/// than it, once more.
+/// than it, once more. After 2^64 - 1 plans that were older it is `Memory`.
 pub(crate) fn answer_planned<K: Keeper, R: Wait>(
     records: &Turns<Records<K>>,
     parts: &Turns<Part<K>>,
@@ -42,7 +42,7 @@ pub(crate) fn answer_planned<K: Keeper, R: Wait>(
         (λ r. Planned seen.old seen.new pass.old pass.new moment ask.now user.now quiz owner whole
         (refused_with r)) }
 {
-    for _ in rt.forever() {
+    for _tries in 0..u64::MAX {
         let plan = plan(records, rt, seen, alloc, quiz, owner, whole)?;
         match answer(
             records, parts, rt, seen, pass, alloc, user, &plan, ask, moment,
@@ -51,7 +51,7 @@ pub(crate) fn answer_planned<K: Keeper, R: Wait>(
             Err(Older { .. }) => {}
         }
     }
-    unreachable!()
+    Err(Refusal::Memory)
 }
 
 /// Answers a request that names an attempt, under the plan of the attempt's quiz for its user. The shard tells the quiz first; an attempt that

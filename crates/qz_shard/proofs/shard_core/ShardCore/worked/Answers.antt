@@ -1,4 +1,5 @@
-use Rattle.std.proofs.Common.{◌≡◌, ◌+◌, ◌≤◌, ◌∷◌, ◌++◌, [], List, refl, sym, ap, subst}
+use Rattle.std.proofs.Common.{◌≡◌, ◌+◌, ◌≤◌, ◌∷◌, ◌++◌, [], IfOk, List, refl, sym, ap, subst}
+use Rattle.std.proofs.lemmas.Result.{IfOk-weaker}
 use Rattle.qz_keeper.specs.Recording.{one_put}
 use Rattle.qz_terms.specs.Answer.{said}
 use Rattle.qz_book.specs.Nexts.{IsNext}
@@ -7,10 +8,17 @@ use Rattle.qz_shard.specs.declared.working.Work.{Work}
 use Rattle.qz_shard.specs.declared.working.Work.TheVariants as work
 use Rattle.qz_shard.specs.Holdings.{Holding, IsWorkable}
 use Rattle.qz_lives.specs.Changes.{gradings_by}
-use Rattle.qz_shard.specs.Works.{IsWork}
+use Rattle.qz_shard.specs.Puts.{IsPutWith}
+use Rattle.qz_shard.specs.Works.{IsWork, IsWorked}
 use Rattle.qz_shard.proofs.Counting.{few-worked}
 use Rattle.qz_shard.proofs.WorkLemmas.{keyless-work, work-next, worked-put}
 use Rattle.qz_shard.proofs.shard_core.ShardCore.worked.Goals as goal
+
+pub work_on-requires-clause-slot : goal.work_on-requires-clause-slot
+work_on-requires-clause-slot g c =
+    let able : IsWorkable c.self.inside.book c.args.job.now c.args.now =
+    subst (λ (s : Holding). IsWorkable s.records c.args.job.now c.args.now) (sym c.self.view_is) c.requires.workable in
+    able.has_slot
 
 pub put-requires-clause-next : goal.put-requires-clause-next
 put-requires-clause-next g c =
@@ -25,6 +33,15 @@ put-requires-clause-ready g c =
     let told : IsWork c.self.inside.book c.args.now c.args.caller c.args.job.now (work.Put c.in-Put.made) = subst (λ (w : Work). IsWork c.self.inside.book c.args.now c.args.caller c.args.job.now w) c.in-Put.is c.in_ok-place.ensures.work in
     let next = subst (λ (s : Holding). IsNext s.index s.count s.records c.in-Put.made) c.self.view_is (put-requires-clause-next g c) in
     c.requires.ready.each c.in-Put.made next (keyless-work c.self.inside.book c.args.now c.args.caller c.args.job.now c.in-Put.made told)
+
+pub returns-clause-worked : goal.returns-clause-worked
+returns-clause-worked g c =
+    let h = c.self.inside.book in
+    let view : h ≡ c.args.self.now.records = ap (λ (s : Holding). s.records) c.self.view_is in
+    let told : IsWork h c.args.now c.args.caller c.args.job.now (work.Put c.in-Put.made) = subst (λ (w : Work). IsWork h c.args.now c.args.caller c.args.job.now w) c.in-Put.is c.in_ok-place.ensures.work in
+    subst (λ (l : List Record). IfOk c.put.result (λ reply. IsWorked l c.args.now c.args.caller c.args.job.now reply c.put.new.self.records)) view
+    (IfOk-weaker c.put.result (IsPutWith h c.put.new.self.records c.in-Put.made) (λ reply. IsWorked h c.args.now c.args.caller c.args.job.now reply c.put.new.self.records)
+    (λ reply put. worked-put h c.put.new.self.records c.args.now c.args.caller c.args.job.now c.in-Put.made reply told put) c.put.ensures.put)
 
 pub returns-clause-recorded : goal.returns-clause-recorded
 returns-clause-recorded g c =

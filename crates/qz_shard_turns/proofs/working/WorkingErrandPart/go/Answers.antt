@@ -12,8 +12,8 @@ worked-told-requires-clause-workable g c =
     let noted : c.args.self.now.note ≡ Some c.in-Some.note = sym c.take.ensures.value ∙ c.in-Some.is in
     let w = rw noted at c.requires.can_go.2 in
     let tied = subst (IsTied c.requires.key) (sym c.part.view_is) c.requires.fits_key in
-    work-asked c.in-Some.note.seen.list c.join.new.pass.seen.list _ _ _ c.part.inside.shard.held w (joined-second _ _ _ c.join.ensures) (joined-legal _ _ _ c.join.ensures tied.catalog w.legal)
-    (tied-before c.requires.key (record { shard = c.part.inside.shard; note = c.part.inside.note }) c.in-Some.note c.join.new.pass tied c.join.ensures)
+    work-asked c.in-Some.note.seen.list c.join.new.pass.seen.list _ _ _ _ _ c.part.inside.shard.held w (joined-second _ _ _ c.join.ensures) (joined-legal _ _ _ c.join.ensures tied.catalog w.legal)
+    (tied-before c.requires.key (record { shard = c.part.inside.shard; note = c.part.inside.note }) c.in-Some.note c.join.new.pass tied c.join.ensures) c.len-found.ensures.legal
 
 pub returns-clause-done : goal.returns-clause-done
 returns-clause-done g c =

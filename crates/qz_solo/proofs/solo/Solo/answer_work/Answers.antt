@@ -49,7 +49,7 @@ work-requires g c =
     let inside : c.in_ok-index.index < length ss = omega (arith, at, within, long) in
     let own : IsJob c.core.result.now c.args.job c.in_ok-job.job = record { job_is = c.in_ok-job.ensures.job; kept = c.in_ok-job.ensures.kept; each = c.in_ok-job.ensures.each } in
     let given : IsJob cs.held.list c.args.job c.in_ok-job.job = rw c.core.ensures at own in
-    workable cs.held.list c.args.job c.in_ok-job.job c.args.moment s c.len-records.ensures.legal.without given c.requires.asked.moment_kept (c.self.invariant.agree.each c.in_ok-index.index s (part_there ss c.in_ok-index.index s inside c.index_mut-shard.ensures.value))
+    workable cs.held.list c.args.job c.in_ok-job.job c.args.moment s c.len-records.ensures.legal.without given c.requires.asked.moment_kept (c.self.invariant.agree.each c.in_ok-index.index s (part_there ss c.in_ok-index.index s inside c.index_mut-shard.ensures.value)) c.len-length.ensures.legal
 
 pub invariant_of-self : goal.invariant_of-self
 invariant_of-self g c =

@@ -51,7 +51,7 @@ work-requires g c =
     let long = c.len.ensures in
     let inside : c.in_ok-index.index < length ss = omega (arith, at, within, long) in
     workable c.job.new.self.held.list c.args.job c.in_ok-job.job c.args.moment s (legal_mended cs.held c.job.new.self.held found.settled c.len-records.ensures.legal) found.is_job c.requires.asked.moment_kept
-    (solo.agree.each c.in_ok-index.index s (part_there ss c.in_ok-index.index s inside c.index_mut-shard.ensures.value))
+    (solo.agree.each c.in_ok-index.index s (part_there ss c.in_ok-index.index s inside c.index_mut-shard.ensures.value)) c.len-length.ensures.legal
 
 pub invariant_of-self-2 : goal.invariant_of-self-2
 invariant_of-self-2 g c =
