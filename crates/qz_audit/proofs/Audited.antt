@@ -44,7 +44,7 @@ module _ {K D C : Type 0} (sound : K → Type 0) (faults : K → ℕ) (serves : 
       left = left;
       closes = goes_on;
       after = after;
-      beside = beside_kept serves (told_by faults a) _ _ workers old after end (λ t on. closes_from faults t (seen_in passes) left on c) n.beside;
+      beside = beside_kept serves (told_by faults a) (told_by faults a) _ _ workers old after end refl (λ t on. closes_from faults t (seen_in passes) left on c) n.beside;
       regraded = regraded_kept serves.tells (told_by faults a) _ _ regraders (λ t on. closes_from faults t (seen_in passes) left on c) n.regraded;
       grows = grown_with school a left passes (n.beside.lasts ++ n.regraded.lasts) n.starts n.own grown n.puts;
       last = lasts;

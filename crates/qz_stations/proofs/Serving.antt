@@ -227,24 +227,10 @@ module _ {D C : Type 0} (s : Locks) (count : ℕ) (before : Seats) (numbers : Li
 
 -- ---- the others beside them
 
-abbrev pub beside_kept : {D C : Type 0} (serves : Serving D C) (told : Tellings) (Kept Known : Tellings → Type 0) (count : ℕ) (old new : List (D × C)) (end : DoorEnd) → ((t : Tellings) → Kept t → Known t)
-    → ServesBeside serves told Kept count old new end → ServesBeside serves told Known count old new end
-beside_kept serves told Kept Known count old new end to so = record {
-  ends = so.ends;
-  count_is = so.count_is;
-  end_is = so.end_is;
-  lasts = so.lasts;
-  lasts_are = so.lasts_are;
-  each = λ k e p at there.
-      let is = so.each k e p at there in
-      record { door = is.door; served = is.served; clock = is.clock; ticked = is.ticked; first = is.first; told_is = is.told_is; unturned = is.unturned; before = is.before; after = is.after; going = is.going; as_often = is.as_often; kept = to (seen_in p) is.kept };
-  others = so.others;
-  as_many = so.as_many;
-}
-
--- as much was seen before as some other tells
-abbrev pub beside_told : {D C : Type 0} (serves : Serving D C) (told other : Tellings) (Kept : Tellings → Type 0) (count : ℕ) (old new : List (D × C)) (end : DoorEnd) → told ≡ other → ServesBeside serves told Kept count old new end → ServesBeside serves other Kept count old new end
-beside_told serves told other Kept count old new end same so = record {
+-- of what the passes that were left have seen more is known, and as much was seen before as some other tells
+abbrev pub beside_kept : {D C : Type 0} (serves : Serving D C) (told other : Tellings) (Kept Known : Tellings → Type 0) (count : ℕ) (old new : List (D × C)) (end : DoorEnd) → told ≡ other → ((t : Tellings) → Kept t → Known t)
+    → ServesBeside serves told Kept count old new end → ServesBeside serves other Known count old new end
+beside_kept serves told other Kept Known count old new end same to so = record {
   ends = so.ends;
   count_is = so.count_is;
   end_is = so.end_is;
@@ -264,7 +250,7 @@ beside_told serves told other Kept count old new end same so = record {
         after = is.after;
         going = is.going;
         as_often = subst (λ (t : Tellings). HasRisenBy (faults_told t) (fault_replies (serves.replies is.going)) (faults_told (seen_in p))) same is.as_often;
-        kept = is.kept;
+        kept = to (seen_in p) is.kept;
       };
   others = so.others;
   as_many = so.as_many;
@@ -275,7 +261,7 @@ pub crew_served : {D C : Type 0} (serves : Serving D C) (s : Locks) (workers reg
     → TakesUp s (seen_in before) numbers clocks rest mid taken → NoneTurned mid taken → AreUnturned before → AreEach (HasRegraded serves.tells) taken left → length taken ≡ regraders → TakesIn s now last left → PutsAlso now last (map passes_of left)
     → ServesFirst serves mid now workers old new end → ServesCrew serves (seen_in before) (λ seen. FollowAll seen (seen_in last)) (PutsAlso before last) workers regraders old new end
 crew_served serves s workers regraders before mid now last numbers clocks rest taken left old new end so fresh unturned did all takes put first = record {
-  beside = beside_kept serves (seen_in before) (λ seen. FollowAll seen (seen_in now)) (λ seen. FollowAll seen (seen_in last)) workers old new end (λ t on. all_on t (seen_in now) (seen_in last) on takes.follows) (beside_told serves (seen_in mid) (seen_in before) (λ seen. FollowAll seen (seen_in now)) workers old new end so.seen first.beside);
+  beside = beside_kept serves (seen_in mid) (seen_in before) (λ seen. FollowAll seen (seen_in now)) (λ seen. FollowAll seen (seen_in last)) workers old new end so.seen (λ t on. all_on t (seen_in now) (seen_in last) on takes.follows) first.beside;
   regraded = regraded_beside serves.tells s (seen_in before) numbers clocks rest mid taken left so fresh did now last takes regraders all;
   put = puts_both before now last first.beside.lasts (map passes_of left) (puts_from before mid now first.beside.lasts unturned fresh.own first.put) put;
 }
@@ -291,7 +277,7 @@ pub crew_closed : {K D C : Type 0} (faults : K → ℕ) (serves : Serving D C) (
 crew_closed faults serves told s a b workers regraders before last old new end unturned starts own closed grown crew =
     let to : (t : Tellings) → FollowAll t (seen_in last) → Closes faults t b = λ t on. closes_from faults t (seen_in last) b on closed in
     record {
-      beside = beside_kept serves told (λ seen. FollowAll seen (seen_in last)) (λ seen. Closes faults seen b) workers old new end to crew.beside;
+      beside = beside_kept serves told told (λ seen. FollowAll seen (seen_in last)) (λ seen. Closes faults seen b) workers old new end refl to crew.beside;
       regraded = regraded_kept serves.tells told (λ seen. FollowAll seen (seen_in last)) (λ seen. Closes faults seen b) regraders to crew.regraded;
       put = let all = crew.beside.lasts ++ crew.regraded.lasts in grown_with s a b last all starts own grown (puts_all before last all unturned crew.put);
     }
