@@ -117,6 +117,10 @@ pub trait Disk {
         ensures blamed { blamed self.new ≡ blamed self.old }
         ensures sound { sound self.old → sound self.new };
 
+    /// Says that what stands behind so many bytes isn't needed: whoever takes the disk back may cut it off.
+    fn spare(&mut self, size: u64)
+        ensures { self.new ≡ self.old };
+
     /// Counts a failure that no call told, and that it was blamed: what was read can't stand on the disk. Of one that tells its
     /// bytes that is never so, and nothing is counted.
     fn blame(&mut self)

@@ -8,6 +8,7 @@ use qz_outside::Failed;
 use qz_text::NoMemory;
 use std::fs::File;
 use std::io;
+use std::marker::Model;
 use std::os::unix::fs::FileExt;
 
 /// A file as a disk, which tells nothing of its bytes. Std makes an interrupted call again, and any other error is a
@@ -17,8 +18,18 @@ pub struct FileDisk {
     file: File,
     /// Since the last sync the file was cut, or what became of it isn't known, so that its size has to be synced as well.
     was_cut: bool,
+    /// Where what is spared begins.
+    spared: Option<u64>,
     faults: u64,
     blamed: u64,
+}
+
+impl Model for FileDisk {
+    ghost use Rattle.qz_disks.specs.Disks.{Untold};
+
+    ghost Value = { Untold };
+
+    ghost view = { λ disk. record { faults = disk.faults; blamed = disk.blamed } };
 }
 
 impl FileDisk {
@@ -30,6 +41,7 @@ impl FileDisk {
         FileDisk {
             file,
             was_cut: true,
+            spared: None,
             faults: 0,
             blamed: 0,
         }
@@ -40,6 +52,15 @@ impl FileDisk {
         ensures { result ≡ self.now.faults }
     {
         self.faults
+    }
+
+    /// Cuts off what is spared. Where the system refuses that it stays, which is no fault.
+    pub(crate) fn trim(&mut self)
+        ensures { self.new ≡ self.old }
+    {
+        if let Some(size) = self.spared.take() {
+            let _ = self.file.set_len(size);
+        }
     }
 
     // Counts a fault where a call of std answered an error.
@@ -90,12 +111,14 @@ impl Disk for FileDisk {
             self.faults = self.faults.saturating_add(1);
             return Err(Failed);
         }
+        self.spared = None;
         let done = self.file.write_all_at(piece, at);
         self.counted(done)
     }
 
     fn cut(&mut self, size: u64) -> Result<(), Failed> {
         self.was_cut = true;
+        self.spared = None;
         let done = self.file.set_len(size);
         self.counted(done)
     }
@@ -113,6 +136,10 @@ impl Disk for FileDisk {
 
     fn reserve(&mut self, _bytes: u64) -> Result<(), NoMemory> {
         Ok(())
+    }
+
+    fn spare(&mut self, size: u64) {
+        self.spared = Some(size);
     }
 
     fn blame(&mut self) {

@@ -118,7 +118,7 @@ impl<R: Files<File = File>> Shelf for FolderShelf<R> {
         }
     }
 
-    // Closes the file, which gives its lock up.
+    // Cuts off what is spared, and closes the file, which gives its lock up.
     fn back(&mut self, folder: &[u8], name: &[u8], disk: FileDisk)
         requires { (folder_files self.old.slots).is_out (place folder.now name.now) ≡ true }
         ensures files { TakesBack (place folder.now name.now) (folder_files self.old.slots)
@@ -126,6 +126,8 @@ impl<R: Files<File = File>> Shelf for FolderShelf<R> {
         ensures faults { RisesBy disk.faults self.old.faults self.new.faults }
         ensures sum { self.new.faults ≡ min (self.old.faults + disk.faults) (2 ^ 64 - 1) }
     {
+        let mut disk = disk;
+        disk.trim();
         self.faults = self.faults.saturating_add(disk.faults());
         let _ = replace(&mut self.slots, folder, name, false);
     }

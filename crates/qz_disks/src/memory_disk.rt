@@ -377,6 +377,9 @@ impl Disk for MemoryDisk {
         Ok(())
     }
 
+    // All its bytes stay.
+    fn spare(&mut self, _size: u64) {}
+
     // It tells its bytes.
     fn blame(&mut self) {}
 }
