@@ -336,9 +336,8 @@ impl<K: Keeper> Shard<K> {
     /// A target is a slot of an attempt of the job's quiz, live or ended, that was bound before the job's position and that the job
     /// hasn't skipped; the first is that in order of user, attempt and slot. Where the plan's version of its slot has the same
     /// shape, that version is bound and the slot's steps are read again under it; else the slot is skipped. Where no target is
-    /// left the job is done here, and where it was done before nothing is put. A target for which the plan has no slot is `Unknown`,
-    /// and nothing is put. Where memory is wanting the reply is `Memory` and nothing is put. Where the keeper fails it is `KeepFault`,
-    /// nothing is put, and one record is in doubt.
+    /// left the job is done here, and where it was done before nothing is put. Where memory is wanting the reply is `Memory` and
+    /// nothing is put. Where the keeper fails it is `KeepFault`, nothing is put, and one record is in doubt.
     pub fn work<L: Ledger>(
         &mut self,
         alloc: Global,

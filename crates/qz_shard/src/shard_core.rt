@@ -303,8 +303,8 @@ impl ShardCore {
     /// hasn't skipped; the first is that in order of user, attempt and slot. Where the plan's version of its slot has the same
     /// shape, that version is bound and the slot's steps are read again under it; else the slot is skipped. Where no target is
     /// left the job is done here, and where it was done before nothing is put. The reply is the answer over the list before, and the
-    /// list afterwards has the answer's record at its end where the answer puts one. A target for which the plan has no slot
-    /// is `Unknown`, and nothing is put. Where memory is wanting the reply is `Memory` and the list is as before.
+    /// list afterwards has the answer's record at its end where the answer puts one. Where memory is wanting the reply is
+    /// `Memory` and the list is as before.
     ///
     /// A target is looked for behind the attempts that the job has passed, so that the cost of a whole job grows with its targets and
     /// the attempts of its quiz, and not with their product.
