@@ -9,7 +9,7 @@ mod records;
 mod replied;
 
 pub use answering::answer;
-pub use looking::{heading, job, plan, user};
+pub use looking::{heading, job, job_again, plan, user};
 pub use questions::Heading;
 pub use records::Records;
 pub use replied::{OwnRecord, Replied};

@@ -1,13 +1,13 @@
 //! Looks at a catalogue, each in a turn of its own.
 
 ghost use Rattle.std.specs.Prelude.{◌≡◌, ◌≢◌, [], Err};
-ghost use Rattle.qz_catalog.specs.Keeping.{TellsJob, TellsPlan, TellsUser};
+ghost use Rattle.qz_catalog.specs.Keeping.{IsJob, TellsJob, TellsPlan, TellsUser};
 ghost use Rattle.qz_keeper.specs.Lists.{Looks};
 ghost use Rattle.qz_terms.specs.Legal.{IsLegalCatalog};
 ghost use Rattle.qz_catalog_turns.specs.Headings.{TellsHeading};
 ghost use Rattle.qz_catalog_turns.specs.Turning.{TurnCalls};
 
-use crate::questions::{Heading, JobOf, OfToken, PlanFor, Question, ReportOf};
+use crate::questions::{Heading, JobOf, Mending, OfToken, PlanFor, Question, ReportOf};
 use crate::records::Records;
 use qz_disks::Keeper;
 use qz_grading::Refusal;
@@ -125,6 +125,29 @@ pub fn job<K: Keeper, R: Wait>(
         pass.old pass.new result }
 {
     look_up_in_turn(turns, rt, pass, alloc, &JobOf { number })
+}
+
+/// A job that the catalogue gave over what the pass has seen, given back without a copy: it is the same over all that is found now, since
+/// a job stays as it was made.
+///
+/// Where the list can't be mended the job is dropped.
+pub fn job_again<K: Keeper, R: Wait>(
+    turns: &Turns<Records<K>>,
+    rt: &R,
+    pass: &mut Pass<Records<K>>,
+    alloc: Global,
+    job: Job,
+) -> Result<Job, Refusal>
+    requires pass { pass.old.lock ≡ turns.now.lock }
+    requires number { pass.old.numbers ≢ [] }
+    requires job { IsJob pass.old.seen.list job.number job }
+    ensures { TurnCalls IsLegalCatalog (λ r. Err r) (Looks (TellsJob job.number))
+        pass.old pass.new result }
+{
+    match look_up_in_turn(turns, rt, pass, alloc, &Mending) {
+        Ok(()) => Ok(job),
+        Err(why) => Err(why),
+    }
 }
 
 /// What the report of a quiz says besides its rows: how many records there are, how the quiz is graded, and the users' names.

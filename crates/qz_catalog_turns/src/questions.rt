@@ -96,6 +96,22 @@ impl<K: Keeper> Question<K> for JobOf {
     }
 }
 
+/// Nothing: the list is mended, and that is all.
+#[derive(Drop)]
+pub(crate) struct Mending;
+
+impl<K: Keeper> Question<K> for Mending {
+    ghost use Rattle.std.specs.Prelude.{Ok};
+
+    type Found = ();
+
+    ghost says = { λ _ _ told. told ≡ Ok tt };
+
+    fn look_up(&self, alloc: Global, catalog: &mut Catalog<K>) -> Result<(), Refusal> {
+        catalog.mend(alloc)
+    }
+}
+
 /// What the catalogue gives for the report of a quiz.
 #[derive(Drop)]
 pub(crate) struct ReportOf {
