@@ -1,13 +1,14 @@
 -- What the calls of an append and of a mending leave, in the words of a disk that may tell its bytes.
 use Rattle.std.proofs.Common.{◌≡◌, inl, ℕ, ◌+◌, ◌≤◌, ◌<◌, List, [], ◌∷◌, ◌++◌, length, take, Ok, Option, Some, None, option_map, IfSome, refl, sym, ◌∙◌, ap, subst, arith}
-use Rattle.std.proofs.lemmas.List.{append-nil}
+use Rattle.std.proofs.lemmas.List.{append-nil, append_assoc}
 use Rattle.qz_disks.specs.Disks.{overwritten, Torn, Cut, Elapses, LeavesOnly, IsDurable}
 use Rattle.qz_disks.specs.Keepers.{with_one_more}
 use Rattle.qz_disks.proofs.Moments.{one_call, goes_on, at_end}
 use Rattle.qz_journal.specs.Frames.{header, shut_frame, stands_for}
-use Rattle.qz_journal.specs.Journals.{gate_behind, payloads_of, payloads_before, StandsFor, StandsLike, IsAtRest, IsKept, IsPut, IsRead}
+use Rattle.qz_journal.specs.Journals.{gate_behind, payloads_of, payloads_before, payload_of, HoldsFrame, StandsFor, StandsLike, IsAtRest, IsKept, IsPut, IsRead}
+use Rattle.qz_journal.proofs.Fronts.{same_ok}
 use Rattle.qz_journal.proofs.Images.{framed_of, short_image, kept_before, Resting, resting, at_rest, resting_stands, resting_place}
-use Rattle.qz_journal.proofs.Crashes.{torn_behind, written_behind, torn_gate, written_gate, length-framed, cut_behind, cut_rests, cut_short, torn_short}
+use Rattle.qz_journal.proofs.Crashes.{torn_behind, rest_behind, written_behind, torn_gate, written_gate, length-framed, cut_behind, cut_rests, cut_short, torn_short}
 
 -- a file at rest is a journal without a doubt
 pub kept_resting : (payloads : List (List ℕ)) (gate : ℕ) (bytes : List ℕ) (outcomes : List ℕ → Type 0) → Resting payloads gate bytes → IsDurable bytes outcomes
@@ -69,6 +70,19 @@ mend_begun (Some bytes) size gate a b c p q r read durable short first second =
     goes_on (StandsLike bytes) (Torn 0 9) a b c p q r (mend_emptied (Some bytes) size gate a b p q read durable short first) second
     (λ d x left torn. record { same = short_image x (torn_short d x (after d left) torn) ∙ sym (short_image bytes within) })
 
+-- the file that was begun anew
+pub mend_rests_begun : (o m n : Option (List ℕ)) (size gate : ℕ) (outcomes : List ℕ → Type 0) → IfSome o (λ bytes. IsRead size gate (payloads_of bytes) bytes) → size ≤ 9 → m ≡ option_map (take 0) o
+    → n ≡ option_map (overwritten 0 (header ++ 0 ∷ [])) m → IfSome n (λ bytes. IsDurable bytes outcomes) → IfSome n (λ bytes. IsAtRest gate bytes outcomes)
+mend_rests_begun None m n size gate outcomes read short emptied written durable = subst (λ n. IfSome n (λ bytes. IsAtRest gate bytes outcomes)) (sym (written ∙ ap (option_map (overwritten 0 (header ++ 0 ∷ []))) emptied)) read
+mend_rests_begun (Some bytes) m n size gate outcomes read short emptied written durable =
+    let is : n ≡ Some (header ++ 0 ∷ []) = written ∙ ap (option_map (overwritten 0 (header ++ 0 ∷ []))) emptied in
+    let durable_here = subst (λ n. IfSome n (λ bytes. IsDurable bytes outcomes)) is durable in
+    let within : length bytes ≤ 9 = let whole = read.whole in omega arith in
+    let none : payloads_of bytes ≡ [] = same_ok (payloads_of bytes) [] (sym read.stands ∙ short_image bytes within) in
+    let eight : gate ≡ 8 = read.place ∙ ap gate_behind none in
+    let rests : IsAtRest 8 (header ++ 0 ∷ []) outcomes = record { shut = 0; behind = []; closed = omega arith; file = refl; begins = refl; durable = durable_here } in
+    subst (λ n. IfSome n (λ bytes. IsAtRest gate bytes outcomes)) (sym is) (subst (λ g. IsAtRest g (header ++ 0 ∷ []) outcomes) (sym eight) rests)
+
 -- putting a frame
 
 pub kept_rests : (gate : ℕ) (bytes : List ℕ) (outcomes : List ℕ → Type 0) → IsKept gate None outcomes bytes → outcomes bytes → Resting (payloads_before gate bytes) gate bytes
@@ -83,31 +97,38 @@ put_behind (Some bytes) gate count a b payload p q now kept time =
     (λ c left. inl (kept.stand.each c left))
     (λ d c left torn. inl (torn_behind (payloads_before gate bytes) gate bytes rests count c (subst (λ e. Torn (gate + 1) count e c) ((kept.at_rest refl).durable.only d left) torn)))
 
-pub put_opened : (o n : Option (List ℕ)) (gate a b c : ℕ) (frame payload : List ℕ) (p q r : ℕ → List ℕ → Type 0) → IfSome o (p a) → IfSome o (IsKept gate None (p a)) → frame ≡ shut_frame payload → length payload ≤ 67108864
+-- a frame behind a gate, in parts
+frame_staged : (frame rest front : List ℕ) (gate : ℕ) (holds : HoldsFrame frame) → header ++ (front ++ gate ∷ (frame ++ rest)) ≡ header ++ (front ++ gate ∷ (shut_frame (payload_of frame) ++ (holds.behind ++ rest)))
+frame_staged frame rest front gate holds =
+    ap (λ (l : List ℕ). header ++ (front ++ gate ∷ l)) (ap (λ (l : List ℕ). l ++ rest) holds.split ∙ append_assoc (shut_frame (payload_of frame)) holds.behind rest)
+
+pub put_opened : (o n : Option (List ℕ)) (gate a b c : ℕ) (frame : List ℕ) (p q r : ℕ → List ℕ → Type 0) → IfSome o (p a) → IfSome o (IsKept gate None (p a)) → HoldsFrame frame → length (payload_of frame) ≤ 67108864
     → Elapses (Torn (gate + 1) (length frame)) a b p q → n ≡ option_map (overwritten (gate + 1) frame) o → IfSome n (λ bytes. IsDurable bytes (q b)) → Elapses (Torn gate 1) b c q r
-    → IfSome o (λ bytes. LeavesOnly (StandsFor (payloads_before gate bytes) (Some payload)) a c p r)
-put_opened None n gate a b c frame payload p q r now kept is fits first written durable second = now
-put_opened (Some bytes) n gate a b c frame payload p q r now kept is fits first written durable second =
+    → IfSome o (λ bytes. LeavesOnly (StandsFor (payloads_before gate bytes) (Some (payload_of frame))) a c p r)
+put_opened None n gate a b c frame p q r now kept holds fits first written durable second = now
+put_opened (Some bytes) n gate a b c frame p q r now kept holds fits first written durable second =
     let L = payloads_before gate bytes in
+    let payload = payload_of frame in
     let rests = kept_rests gate bytes (p a) kept now in
     let durable_here = subst (λ n. IfSome n (λ bytes. IsDurable bytes (q b))) written durable in
-    let staged_is = written_behind L gate bytes rests frame in
+    let staged_is = written_behind L gate bytes rests frame ∙ frame_staged frame (rest_behind L gate bytes rests frame) rests.front rests.gate holds in
     goes_on (StandsFor L (Some payload)) (Torn gate 1) a b c p q r (put_behind (Some bytes) gate (length frame) a b payload p q now kept first) second
-    (λ d x left torn. torn_gate L gate bytes rests payload (omega arith) x
-    (subst (λ f. Torn gate 1 (header ++ (rests.front ++ rests.gate ∷ f)) x) is (subst (λ e. Torn gate 1 e x) (durable_here.only d left ∙ staged_is) torn)))
+    (λ d x left torn. torn_gate L gate bytes rests payload (holds.behind ++ rest_behind L gate bytes rests frame) (omega arith) x
+    (subst (λ e. Torn gate 1 e x) (durable_here.only d left ∙ staged_is) torn))
 
-pub put_kept : (o n m : Option (List ℕ)) (gate : ℕ) (frame payload : List ℕ) (before outcomes : List ℕ → Type 0) → IfSome o before → IfSome o (IsKept gate None before) → frame ≡ shut_frame payload → length payload ≤ 67108864
+pub put_kept : (o n m : Option (List ℕ)) (gate : ℕ) (frame : List ℕ) (before outcomes : List ℕ → Type 0) → IfSome o before → IfSome o (IsKept gate None before) → HoldsFrame frame → length (payload_of frame) ≤ 67108864
     → n ≡ option_map (overwritten (gate + 1) frame) o → m ≡ option_map (overwritten gate (1 ∷ [])) n → IfSome m (λ bytes. IsDurable bytes outcomes)
-    → IfSome o (λ bytes. IfSome m (IsPut gate payload (payloads_before gate bytes) outcomes))
-put_kept None n m gate frame payload before outcomes now kept is fits written opened durable = now
-put_kept (Some bytes) n m gate frame payload before outcomes now kept is fits written opened durable =
+    → IfSome o (λ bytes. IfSome m (IsPut gate (payload_of frame) (payloads_before gate bytes) outcomes))
+put_kept None n m gate frame before outcomes now kept holds fits written opened durable = now
+put_kept (Some bytes) n m gate frame before outcomes now kept holds fits written opened durable =
     let L = payloads_before gate bytes in
+    let payload = payload_of frame in
     let rests = kept_rests gate bytes before kept now in
     let after = overwritten gate (1 ∷ []) (overwritten (gate + 1) frame bytes) in
     let m_is : m ≡ Some after = opened ∙ ap (option_map (overwritten gate (1 ∷ []))) written in
     let durable_here = subst (λ m. IfSome m (λ bytes. IsDurable bytes outcomes)) m_is durable in
-    let staged_is = written_behind L gate bytes rests frame ∙ ap (λ (f : List ℕ). header ++ (rests.front ++ rests.gate ∷ f)) is in
+    let staged_is = written_behind L gate bytes rests frame ∙ frame_staged frame (rest_behind L gate bytes rests frame) rests.front rests.gate holds in
     let longer : Resting (with_one_more payload L) (gate + 5 + length payload) after =
-    subst (Resting (with_one_more payload L) (gate + 5 + length payload)) (ap (overwritten gate (1 ∷ [])) (sym staged_is)) (written_gate L gate bytes rests payload (omega arith)) in
+    subst (Resting (with_one_more payload L) (gate + 5 + length payload)) (ap (overwritten gate (1 ∷ [])) (sym staged_is)) (written_gate L gate bytes rests payload (holds.behind ++ rest_behind L gate bytes rests frame) (omega arith)) in
     let both = kept_resting (with_one_more payload L) (gate + 5 + length payload) after outcomes longer durable_here in
     subst (λ m. IfSome m (IsPut gate payload L outcomes)) (sym m_is) (record { kept = both.0; list = both.1 })

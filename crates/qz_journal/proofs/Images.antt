@@ -2,7 +2,7 @@
 use Rattle.std.proofs.Common.{◌≡◌, ◌≢◌, inl, inr, ⊎_elim, ℕ, ◌+◌, ◌≤◌, ◌<◌, true, false, bytes_eq, List, [], ◌∷◌, ◌++◌, length, take, drop, Ok, Err, Result, refl, sym, ◌∙◌, ap, subst, arith, length-append, length-take, length-drop, take-append-drop}
 use Rattle.std.specs.Result.{result_unwrap_or}
 use Rattle.std.proofs.lemmas.Bool.{cases_lt, le-leb, lt-leb, cases_Bool}
-use Rattle.std.proofs.lemmas.List.{append_assoc, take_at, nil_from_length}
+use Rattle.std.proofs.lemmas.List.{append_assoc, take_at}
 use Rattle.std.proofs.lemmas.Slice.Eq.{bytes_eq-Decides}
 use Rattle.qz_disks.specs.Disks.{IsDurable}
 use Rattle.qz_journal.specs.Frames.{header, frames_from, stands_for}
@@ -84,17 +84,18 @@ kept_before image payloads more gate stands place = ap (λ (r : Result (List (Li
         none [] qs at empty = short_image (take gate image ++ 0 ∷ []) (omega (arith, at, length-append (take gate image) (0 ∷ []), length-take gate image))
         none (p ∷ ps) qs at empty = absurd (let sizes = ap length empty in omega (arith, sizes))
 
--- a file at rest: a header, open frames, and a gate that isn't open
+-- a file at rest: a header, open frames, and a gate that isn't open, whatever stands behind it
 pub record Resting (payloads : List (List ℕ)) (place : ℕ) (bytes : List ℕ) : Type 0 where
   pub front : List ℕ
   pub gate : ℕ
-  pub split : bytes ≡ header ++ (front ++ gate ∷ [])
+  pub behind : List ℕ
+  pub split : bytes ≡ header ++ (front ++ gate ∷ behind)
   pub front_is : IsFront payloads front
   pub shut : gate ≢ 1
   pub size : 8 + length front ≡ place
 
-file_size : (place gate : ℕ) (bytes : List ℕ) → bytes ≡ take place bytes ++ gate ∷ [] → length bytes ≡ place + 1
-file_size place gate bytes file = let sizes = ap length file in omega (arith, sizes, length-append (take place bytes) (gate ∷ []), length-take place bytes)
+file_size : (place gate : ℕ) (bytes behind : List ℕ) → bytes ≡ take place bytes ++ gate ∷ behind → length bytes ≡ place + 1 + length behind
+file_size place gate bytes behind file = let sizes = ap length file in omega (arith, sizes, length-append (take place bytes) (gate ∷ behind), length-take place bytes)
 
 pub resting : (payloads : List (List ℕ)) (place : ℕ) (bytes : List ℕ) (outcomes : List ℕ → Type 0) → IsAtRest place bytes outcomes → stands_for bytes ≡ Ok payloads → place ≡ gate_behind payloads → Resting payloads place bytes
 resting payloads place bytes outcomes rest stands at = ⊎_elim long short (cases_lt 9 (length bytes))
@@ -103,13 +104,11 @@ resting payloads place bytes outcomes rest stands at = ⊎_elim long short (case
     long le =
         let f = framed_of bytes payloads le stands in
         let size = length-front payloads f.front f.front_is in
-        let whole = file_size place rest.shut bytes rest.file in
-        let sizes = ap length f.split in
-        let none : f.behind ≡ [] = nil_from_length f.behind (omega (arith, sizes, size, whole, at, length-append f.front (f.gate ∷ f.behind))) in
         record {
           front = f.front;
           gate = f.gate;
-          split = f.split ∙ ap (λ (l : List ℕ). header ++ (f.front ++ f.gate ∷ l)) none;
+          behind = f.behind;
+          split = f.split;
           front_is = f.front_is;
           shut = f.shut;
           size = omega (arith, size, at);
@@ -117,14 +116,15 @@ resting payloads place bytes outcomes rest stands at = ⊎_elim long short (case
 
     short : length bytes ≤ 9 → Resting payloads place bytes
     short le =
-        let whole = file_size place rest.shut bytes rest.file in
+        let whole = file_size place rest.shut bytes rest.behind rest.file in
         let deep = gate_least payloads in
         let eight : place ≡ 8 = omega (arith, whole, deep, at) in
         let none : [] ≡ payloads = same_ok [] payloads (sym (short_image bytes le) ∙ stands) in
         record {
           front = [];
           gate = rest.shut;
-          split = rest.file ∙ ap (λ (l : List ℕ). l ++ rest.shut ∷ []) (ap (λ (n : ℕ). take n bytes) eight ∙ rest.begins);
+          behind = rest.behind;
+          split = rest.file ∙ ap (λ (l : List ℕ). l ++ rest.shut ∷ rest.behind) (ap (λ (n : ℕ). take n bytes) eight ∙ rest.begins);
           front_is = subst (λ l. IsFront l []) none refl;
           shut = rest.closed;
           size = omega (arith, eight);
@@ -133,23 +133,27 @@ resting payloads place bytes outcomes rest stands at = ⊎_elim long short (case
 pub at_rest : (payloads : List (List ℕ)) (place : ℕ) (bytes : List ℕ) (outcomes : List ℕ → Type 0) → Resting payloads place bytes → IsDurable bytes outcomes → IsAtRest place bytes outcomes
 at_rest payloads place bytes outcomes r durable = record {
   shut = r.gate;
+  behind = r.behind;
   closed = r.shut;
-  file = joined ∙ ap (λ (l : List ℕ). l ++ r.gate ∷ []) (sym front);
+  file = joined ∙ ap (λ (l : List ℕ). l ++ r.gate ∷ r.behind) (sym front);
   begins = ap (λ (l : List ℕ). take 8 l) r.split;
   durable = durable;
 }
   where
-    joined : bytes ≡ (header ++ r.front) ++ r.gate ∷ []
+    joined : bytes ≡ (header ++ r.front) ++ r.gate ∷ r.behind
     joined = r.split
 
     front : take place bytes ≡ header ++ r.front
-    front = ap (λ (l : List ℕ). take place l) joined ∙ take_at (header ++ r.front) (r.gate ∷ []) place (let size = r.size in omega (arith, size))
+    front = ap (λ (l : List ℕ). take place l) joined ∙ take_at (header ++ r.front) (r.gate ∷ r.behind) place (let size = r.size in omega (arith, size))
 
 pub resting_stands : (payloads : List (List ℕ)) (place : ℕ) (bytes : List ℕ) → Resting payloads place bytes → stands_for bytes ≡ Ok payloads
-resting_stands payloads place bytes r = ap stands_for r.split ∙ framed payloads r.front r.gate [] r.front_is r.shut
+resting_stands payloads place bytes r = ap stands_for r.split ∙ framed payloads r.front r.gate r.behind r.front_is r.shut
 
 pub resting_place : (payloads : List (List ℕ)) (place : ℕ) (bytes : List ℕ) → Resting payloads place bytes → place ≡ gate_behind payloads
 resting_place payloads place bytes r = omega (arith, r.size, length-front payloads r.front r.front_is)
 
-pub resting_size : (payloads : List (List ℕ)) (place : ℕ) (bytes : List ℕ) → Resting payloads place bytes → length bytes ≡ place + 1
-resting_size payloads place bytes r = let sizes = ap length r.split in omega (arith, sizes, r.size, length-append r.front (r.gate ∷ []))
+-- such a file up to its gate
+pub resting_gate : (payloads : List (List ℕ)) (place : ℕ) (bytes : List ℕ) (r : Resting payloads place bytes) → take (place + 1) bytes ≡ header ++ (r.front ++ r.gate ∷ [])
+resting_gate payloads place bytes r =
+    ap (λ (l : List ℕ). take (place + 1) l) (r.split ∙ ap (λ (l : List ℕ). header ++ l) (sym (append_assoc r.front (r.gate ∷ []) r.behind)))
+    ∙ take_at (header ++ (r.front ++ r.gate ∷ [])) r.behind (place + 1) (let size = r.size in omega (arith, size, length-append r.front (r.gate ∷ [])))

@@ -1,13 +1,14 @@
 -- What stays kept in a run of calls, in the words of a disk that may tell its bytes.
-use Rattle.std.proofs.Common.{◌≡◌, inl, inr, ⊎_elim, ℕ, ◌+◌, ◌-◌, false, is_some, is_none, List, [], ◌∷◌, ◌++◌, length, Ok, Option, Some, None, option_map, IfSome, refl, sym, ◌∙◌, ap, subst, arith, length-append}
+use Rattle.std.proofs.Common.{◌≡◌, inl, inr, ⊎_elim, ℕ, ◌≤◌, false, is_some, is_none, List, [], ◌∷◌, ◌++◌, length, take, drop, replicate, Ok, Option, Some, None, option_map, IfSome, refl, sym, ◌∙◌, ap, subst, arith}
 use Rattle.std.specs.Int.{to_le_bytes, w32}
+use Rattle.std.proofs.lemmas.Nat.{from_le_bytes-to_le_bytes_4}
 use Rattle.std.proofs.lemmas.Bool.{cases_lt, true≢false, false≢true}
-use Rattle.std.proofs.lemmas.List.{append-nil, take_at}
+use Rattle.std.proofs.lemmas.List.{append-nil, append_assoc, take_at}
 use Rattle.qz_disks.specs.Disks.{Same, Elapses, LeavesOnly}
 use Rattle.qz_disks.specs.Keepers.{with_one_more, MayStand}
 use Rattle.qz_disks.proofs.Moments.{started, one_call, run_end}
-use Rattle.qz_journal.specs.Frames.{shut_frame, stands_for}
-use Rattle.qz_journal.specs.Journals.{gate_behind, payloads_before, payload_of, StandsFor, StandFor, StandsAs, StandsLike, IsAtRest, IsKept, IsLoaded, IsRead}
+use Rattle.qz_journal.specs.Frames.{payload_length, shut_frame, stands_for}
+use Rattle.qz_journal.specs.Journals.{gate_behind, payloads_before, payload_of, roomy_frame, HoldsFrame, StandsFor, StandFor, StandsAs, StandsLike, IsAtRest, IsKept, IsLoaded, IsRead}
 use Rattle.qz_journal.proofs.Fronts.{same_ok}
 use Rattle.qz_journal.proofs.Images.{kept_before, resting}
 use Rattle.qz_journal.proofs.Calls.{kept_resting}
@@ -54,11 +55,19 @@ recover_loaded (Some bytes) mid (Some after) size gate b c payloads q r same tel
 
 -- frames and their payloads
 
-pub payload_framed : (payload : List ℕ) → payload_of (shut_frame payload) ≡ payload
-payload_framed payload =
+pub payload_framed : (payload behind : List ℕ) → length payload ≤ 67108864 → payload_of (shut_frame payload ++ behind) ≡ payload
+payload_framed payload behind fits =
     let size = to_le_bytes w32 (length payload) in
-    let count : length (shut_frame payload) ≡ 4 + (length payload + 1) = omega (arith, length-append size (payload ++ 0 ∷ []), length-append payload (0 ∷ [])) in
-    take_at payload (0 ∷ []) (length (shut_frame payload) - 5) (omega (arith, count))
+    let told : payload_length (shut_frame payload ++ behind) ≡ length payload = from_le_bytes-to_le_bytes_4 (length payload) (omega arith) in
+    let stands : drop 4 (shut_frame payload ++ behind) ≡ payload ++ 0 ∷ behind = append_assoc payload (0 ∷ []) behind in
+    ap (λ (n : ℕ). take n (drop 4 (shut_frame payload ++ behind))) told ∙ ap (λ (l : List ℕ). take (length payload) l) stands ∙ take_at payload (0 ∷ behind) (length payload) (omega arith)
+
+pub holds_frame : (payload frame : List ℕ) (room : ℕ) → length payload ≤ 67108864 → frame ≡ roomy_frame room payload → (payload_of frame ≡ payload) × HoldsFrame frame
+holds_frame payload frame room fits is =
+    let same : payload_of frame ≡ payload = ap payload_of is ∙ payload_framed payload (replicate room 0) fits in (
+      same,
+      record { behind = replicate room 0; split = is ∙ ap (λ (l : List ℕ). shut_frame l ++ replicate room 0) (sym same) },
+    )
 
 -- a journal that may be in doubt
 

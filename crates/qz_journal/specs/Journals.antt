@@ -1,11 +1,11 @@
 -- What a journal on a disk keeps: its list, the place of the closed gate behind it, and the payload in doubt.
-use Rattle.std.specs.Prelude.{◌≡◌, ◌⊎◌, ◌≢◌, ℕ, ◌+◌, ◌<◌, List, [], ◌∷◌, ◌++◌, ◌-◌, ◌≤◌, length, take, drop, Option, Some, None, is_some, true, Ok, Err, Result, IsErrOf, ⊤, ◌==◌, if◌then◌else◌}
+use Rattle.std.specs.Prelude.{◌≡◌, ◌⊎◌, ◌≢◌, ℕ, ◌+◌, ◌<◌, List, [], ◌∷◌, ◌++◌, ◌≤◌, length, take, drop, replicate, Option, Some, None, is_some, true, Ok, Err, Result, IsErrOf, ⊤, ◌==◌, if◌then◌else◌}
 use Rattle.std.specs.Int.{from_le_bytes, w32}
 use Rattle.std.specs.Result.{result_unwrap_or}
 use Rattle.qz_disks.specs.Disks.{IsDurable}
 use Rattle.qz_disks.specs.Keepers.{with_one_more}
 use Rattle.qz_outside.specs.Causes.{HasRisen}
-use Rattle.qz_journal.specs.Frames.{header, in_front, frames_from, stands_for}
+use Rattle.qz_journal.specs.Frames.{header, shut_frame, in_front, payload_length, frames_from, stands_for}
 use Rattle.qz_journal.specs.declared.fault.JournalFault.{JournalFault}
 use Rattle.qz_journal.specs.declared.fault.JournalFault.TheVariants.{Fault, Damaged, Memory}
 
@@ -31,11 +31,13 @@ StandsFor payloads (Some payload) image = (stands_for image ≡ Ok payloads) ⊎
 pub record StandFor (payloads : List (List ℕ)) (doubt : Option (List ℕ)) (outcomes : List ℕ → Type 0) : Type 0 where
   pub each : (c : List ℕ) → outcomes c → StandsFor payloads doubt c
 
--- the bytes are a header, what stands in front of the gate, and the gate, which isn't open; all of it is on the disk
+-- the bytes are a header, what stands in front of the gate, the gate, which isn't open, and anything behind it, as the room
+-- made ahead; all of it is on the disk
 pub record IsAtRest (gate : ℕ) (bytes : List ℕ) (outcomes : List ℕ → Type 0) : Type 0 where
   pub shut : ℕ
+  pub behind : List ℕ
   pub closed : shut ≢ 1
-  pub file : bytes ≡ take gate bytes ++ shut ∷ []
+  pub file : bytes ≡ take gate bytes ++ shut ∷ behind
   pub begins : take 8 bytes ≡ header
   pub durable : IsDurable bytes outcomes
 
@@ -88,9 +90,18 @@ pub record IsRead (size gate : ℕ) (payloads : List (List ℕ)) (bytes : List �
   pub place : gate ≡ gate_behind payloads
   pub stands : stands_for bytes ≡ Ok payloads
 
--- the payload of a frame that stands behind its own gate
+-- the payload of a frame that stands behind its own gate, whatever stands behind the frame
 abbrev pub payload_of : List ℕ → List ℕ
-payload_of frame = take (length frame - 5) (drop 4 frame)
+payload_of frame = take (payload_length frame) (drop 4 frame)
+
+-- what is written behind a gate: a payload's frame with a shut gate, and so many zeros as room for what comes
+abbrev pub roomy_frame : ℕ → List ℕ → List ℕ
+roomy_frame room payload = shut_frame payload ++ replicate room 0
+
+-- a payload's frame with a shut gate, and anything behind it
+pub record HoldsFrame (frame : List ℕ) : Type 0 where
+  pub behind : List ℕ
+  pub split : frame ≡ shut_frame (payload_of frame) ++ behind
 
 -- a journal: its disk, and the list kept and the payload in doubt, where the disk tells them
 pub record Ledger (D : Type 0) : Type 0 where

@@ -7,9 +7,10 @@ ghost use Rattle.qz_disks.specs.Sound.{StaysSound};
 ghost use Rattle.qz_disks.specs.Keepers.{with_one_more, EndsAppending, EndsReopening, HasKeepCause};
 ghost use Rattle.qz_disks.specs.declared.keeper.KeepErr.TheVariants as keep;
 ghost use Rattle.qz_disks.specs.declared.keeper.TheConstants.{MOST_PAYLOAD};
+ghost use Rattle.qz_journal.specs.declared.journal.TheConstants.{AHEAD};
 ghost use Rattle.qz_journal.specs.declared.fault.JournalFault.TheVariants as fault;
-ghost use Rattle.qz_journal.specs.Frames.{shut_frame, stands_for};
-ghost use Rattle.qz_journal.specs.Journals.{payloads_of, payloads_before, payload_of, StandsFor, StandFor, StandsAs, StandsLike, IsAtRest, IsKept, IsLoaded, IsPut, IsRead, IsSound, TellsDamage, HasJournalCause};
+ghost use Rattle.qz_journal.specs.Frames.{stands_for};
+ghost use Rattle.qz_journal.specs.Journals.{payloads_of, payloads_before, payload_of, roomy_frame, HoldsFrame, StandsFor, StandFor, StandsAs, StandsLike, IsAtRest, IsKept, IsLoaded, IsPut, IsRead, IsSound, TellsDamage, HasJournalCause};
 
 use crate::JournalFault;
 use crate::disk_steps::{cut_synced, write_synced};
@@ -27,18 +28,26 @@ const BEGUN: [u8; 9] = [0x51, 0x5a, 0x4a, 0x31, 1, 0, 0, 0, 0];
 const SHUT: u8 = 0;
 
 /// How many bytes a frame has besides its payload: a gate, and the length in four bytes.
-const FRAME: u64 = 5;
+const FRAME: usize = 5;
+
+/// How many zeros are written behind a frame that makes the file longer.
+const AHEAD: usize = 4_096;
 
 /// A list of payloads on a disk.
 ///
 /// After its payloads the file has a gate that is shut, and it is shut on the disk before anything is written behind it. An
 /// append writes the payload's frame behind it, syncs, opens the gate, and syncs. So a crash at any moment leaves the
 /// payloads acknowledged, and the one in flight whole or not at all.
+///
+/// What stands behind the shut gate says nothing. An append that makes the file longer writes zeros behind its frame, as
+/// room for those that come: a file system writes a journal of its own at each sync of a file that grew.
 #[derive(Drop)]
 pub struct Journal<D: Disk> {
     disk: D,
     /// The place of the gate behind the payloads.
     gate: u64,
+    /// How far the file reaches, as far as it's known: up to there is room.
+    end: u64,
     /// The frame of the payload in doubt.
     doubt: Option<Bytes>,
 }
@@ -97,6 +106,7 @@ impl<D: Disk> Journal<D> {
                 let journal = Journal {
                     disk,
                     gate: found.gate,
+                    end: found.gate + 1,
                     doubt: None,
                 };
                 Ok((journal, found.payloads))
@@ -105,34 +115,56 @@ impl<D: Disk> Journal<D> {
         }
     }
 
-    /// The disk, as it is: a crash leaves of it the payloads kept, with the one in doubt or without.
+    /// The disk, as it is: a crash leaves of it the payloads kept, with the one in doubt or without. The room behind the
+    /// gate is spared where none is in doubt.
     pub fn into_disk(self) -> D
         ensures disk { result ≡ self.disk }
         ensures tells { is_some self.kept ≡ is_some (D.reads result) }
         ensures stands { IfSome self.kept (λ payloads.
             StandFor payloads self.doubt (D.left_at result (D.moment result))) }
     {
-        self.disk
+        let is_settled = self.doubt.is_none();
+        let needed = self.gate + 1;
+        let mut disk = self.disk;
+        if is_settled {
+            disk.spare(needed);
+        }
+        disk
     }
 }
 
-// What stands behind the gate of a payload: its length, itself, and a shut gate.
-fn framed(alloc: Global, payload: &[u8]) -> Result<Bytes, AllocError>
-    requires { length payload.now ≤ MOST_PAYLOAD }
-    ensures { IfOk result (λ frame. frame ≡ shut_frame payload.now) }
+// What stands behind the gate of a payload: its length, itself, a shut gate, and so many zeros.
+fn framed(alloc: Global, payload: &[u8], room: usize) -> Result<Bytes, AllocError>
+    requires size { length payload.now ≤ MOST_PAYLOAD }
+    requires room { room ≤ AHEAD }
+    ensures { IfOk result (λ frame. frame ≡ roomy_frame room payload.now) }
 {
-    let mut items = Vec::with_capacity(alloc, payload.len() + FRAME as usize)?;
+    let mut items = Vec::with_capacity(alloc, payload.len() + FRAME + room)?;
     items.extend_from_slice(&(payload.len() as u32).to_le_bytes())?;
     items.extend_from_slice(payload)?;
     items.push(SHUT)?;
+    let frame = items.len();
+    items.resize(frame + room, 0)?;
     Ok(Bytes { items })
+}
+
+// How many zeros go behind the frame of so many bytes of a payload, where the file reaches so far from the gate on.
+fn room_behind(reach: u64, count: usize) -> usize
+    requires { count ≤ MOST_PAYLOAD }
+    ensures { result ≤ AHEAD }
+{
+    if reach > (count + FRAME) as u64 {
+        0
+    } else {
+        AHEAD
+    }
 }
 
 // Puts a frame behind the gate, and opens it.
 fn put<D: Disk>(disk: &mut D, gate: u64, frame: &[u8]) -> Result<(), Failed>
     requires kept { IfSome (D.reads disk.old)
         (IsKept gate None (D.left_at disk.old (D.moment disk.old))) }
-    requires framed { frame.now ≡ shut_frame (payload_of frame.now) }
+    requires framed { HoldsFrame frame.now }
     requires size { length (payload_of frame.now) ≤ MOST_PAYLOAD }
     requires gate { gate + 1 < 2 ^ 64 }
     requires room { HasRoom 4 (length frame.now) (D.room disk.old) }
@@ -232,11 +264,13 @@ impl<D: Disk> Keeper for Journal<D> {
             (D.left_at self.new.disk (D.moment self.new.disk)))) }
     {
         let gate = self.gate;
-        let frame = framed(alloc, payload)?;
+        let room = room_behind(self.end.saturating_sub(gate), payload.len());
+        let frame = framed(alloc, payload, room)?;
         self.disk.reserve(frame.items.len() as u64)?;
         match put(&mut self.disk, gate, frame.as_slice()) {
             Ok(()) => {
-                self.gate = gate + FRAME + payload.len() as u64;
+                self.end = self.end.max(gate + 1 + frame.items.len() as u64);
+                self.gate = gate + (FRAME + payload.len()) as u64;
                 Ok(())
             }
             Err(Failed) => {
@@ -275,6 +309,7 @@ impl<D: Disk> Keeper for Journal<D> {
                 }
                 mend(&mut self.disk, found.size, found.gate)?;
                 self.gate = found.gate;
+                self.end = found.gate + 1;
                 self.doubt = None;
                 Ok(found.payloads)
             }

@@ -11,10 +11,10 @@ pub returns-clause-put : goal.returns-clause-put
 returns-clause-put g c =
     let first = c.in_ok-write_synced.ensures in
     on_ok_both c.write_synced-2.result c.write_synced-2.ensures.written c.write_synced-2.ensures.durable
-    (λ opened durable. put_kept _ _ _ c.args.gate c.args.frame.now (payload_of c.args.frame.now) _ _ (g.met.D.Disk.reads_now c.args.disk.now) c.requires.kept c.requires.framed c.requires.size first.written opened durable)
+    (λ opened durable. put_kept _ _ _ c.args.gate c.args.frame.now _ _ (g.met.D.Disk.reads_now c.args.disk.now) c.requires.kept c.requires.framed c.requires.size first.written opened durable)
 
 pub returns-clause-crash : goal.returns-clause-crash
 returns-clause-crash g c =
     let first = c.in_ok-write_synced.ensures in
-    put_opened _ _ c.args.gate _ _ _ c.args.frame.now (payload_of c.args.frame.now) _ _ _ (g.met.D.Disk.reads_now c.args.disk.now) c.requires.kept c.requires.framed c.requires.size
+    put_opened _ _ c.args.gate _ _ _ c.args.frame.now _ _ _ (g.met.D.Disk.reads_now c.args.disk.now) c.requires.kept c.requires.framed c.requires.size
     first.crash first.written first.durable c.write_synced-2.ensures.crash
