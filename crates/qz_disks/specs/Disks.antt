@@ -59,8 +59,3 @@ pub record Spends (calls bytes : ℕ) (before now : Room) : Type 0 where
 pub record HasRoom (calls bytes : ℕ) (room : Room) : Type 0 where
   pub calls_fit : calls ≤ room.calls
   pub bytes_fit : bytes ≤ room.bytes
-
--- a disk that tells nothing but how often it has failed, and was blamed
-pub record Untold : Type 0 where
-  pub faults : ℕ
-  pub blamed : ℕ

@@ -117,9 +117,16 @@ pub trait Disk {
         ensures blamed { blamed self.new ≡ blamed self.old }
         ensures sound { sound self.old → sound self.new };
 
-    /// Says that what stands behind so many bytes isn't needed: whoever takes the disk back may cut it off.
+    /// Gives up what stands behind so many bytes: from then on a crash may leave the disk cut there, and who takes it back
+    /// may cut it, where that tells nothing of its bytes.
     fn spare(&mut self, size: u64)
-        ensures { self.new ≡ self.old };
+        ensures reads { reads self.new ≡ reads self.old }
+        ensures crash { Elapses (Cut size) (moment self.old) (moment self.new)
+            (left_at self.old) (left_at self.new) }
+        ensures room { Spends 0 0 (room self.old) (room self.new) }
+        ensures faults { faults self.new ≡ faults self.old }
+        ensures blamed { blamed self.new ≡ blamed self.old }
+        ensures sound { sound self.old → sound self.new };
 
     /// Counts a failure that no call told, and that it was blamed: what was read can't stand on the disk. Of one that tells its
     /// bytes that is never so, and nothing is counted.

@@ -8,7 +8,6 @@ use qz_outside::Failed;
 use qz_text::NoMemory;
 use std::fs::File;
 use std::io;
-use std::marker::Model;
 use std::os::unix::fs::FileExt;
 
 /// A file as a disk, which tells nothing of its bytes. Std makes an interrupted call again, and any other error is a
@@ -22,14 +21,6 @@ pub struct FileDisk {
     spared: Option<u64>,
     faults: u64,
     blamed: u64,
-}
-
-impl Model for FileDisk {
-    ghost use Rattle.qz_disks.specs.Disks.{Untold};
-
-    ghost Value = { Untold };
-
-    ghost view = { λ disk. record { faults = disk.faults; blamed = disk.blamed } };
 }
 
 impl FileDisk {
@@ -56,7 +47,8 @@ impl FileDisk {
 
     /// Cuts off what is spared. Where the system refuses that it stays, which is no fault.
     pub(crate) fn trim(&mut self)
-        ensures { self.new ≡ self.old }
+        ensures faults { self.new.faults ≡ self.old.faults }
+        ensures blamed { self.new.blamed ≡ self.old.blamed }
     {
         if let Some(size) = self.spared.take() {
             let _ = self.file.set_len(size);
