@@ -1,7 +1,7 @@
 //! Files of a folder as journals.
 
 ghost use Rattle.std.specs.Prelude.{◌≡◌, ℕ, List, true, false, IfSome, IfOk, IfErr, OnOk, OnErr, IsErrOf, is_some};
-ghost use Rattle.qz_disks.specs.Shelves.{place, disk_file, ChangesAt, TakesBack, RisesBy};
+ghost use Rattle.qz_disks.specs.Shelves.{place, ChangesAt, RisesBy};
 ghost use Rattle.qz_disks.specs.Sound.{StaysSound};
 ghost use Rattle.qz_journal.specs.Frames.{stands_for};
 ghost use Rattle.qz_journal.specs.Journals.{StandFor};
@@ -52,12 +52,13 @@ pub fn open<F: Shelf>(
     }
 }
 
-/// Gives a file back that is out as a journal. It takes no memory, and writes nothing.
+/// Gives a file back that is out as a journal. It takes no memory, and writes nothing; the room behind what is kept may be cut off.
 pub fn give_back<F: Shelf>(shelf: &mut F, folder: &[u8], name: &[u8], journal: Journal<F::Disk>)
     requires { (F.files shelf.old).is_out (place folder.now name.now) ≡ true }
-    ensures files { TakesBack (place folder.now name.now) (F.files shelf.old) (F.files shelf.new)
-        (disk_file (F.Disk.reads journal.disk) (F.Disk.moment journal.disk)
-        (F.Disk.left_at journal.disk)) }
+    ensures here { (F.files shelf.new).is_out (place folder.now name.now) ≡ false }
+    ensures reads { ((F.files shelf.new).file (place folder.now name.now)).reads
+        ≡ F.Disk.reads journal.disk }
+    ensures others { ChangesAt (place folder.now name.now) (F.files shelf.old) (F.files shelf.new) }
     ensures tells { is_some journal.kept
         ≡ is_some ((F.files shelf.new).file (place folder.now name.now)).reads }
     ensures stands { IfSome journal.kept (λ payloads. StandFor payloads journal.doubt

@@ -3,11 +3,11 @@ use Rattle.std.proofs.Common.{◌≡◌, inl, ℕ, ◌+◌, ◌≤◌, ◌<◌, 
 use Rattle.std.proofs.lemmas.List.{append-nil, append_assoc}
 use Rattle.qz_disks.specs.Disks.{overwritten, Torn, Cut, Elapses, LeavesOnly, IsDurable}
 use Rattle.qz_disks.specs.Keepers.{with_one_more}
-use Rattle.qz_disks.proofs.Moments.{one_call, goes_on, at_end}
+use Rattle.qz_disks.proofs.Moments.{one_call, goes_on, at_end, run_end}
 use Rattle.qz_journal.specs.Frames.{header, shut_frame, stands_for}
-use Rattle.qz_journal.specs.Journals.{gate_behind, payloads_of, payloads_before, payload_of, HoldsFrame, StandsFor, StandsLike, IsAtRest, IsKept, IsPut, IsRead}
+use Rattle.qz_journal.specs.Journals.{gate_behind, payloads_of, payloads_before, payload_of, HoldsFrame, StandsFor, StandFor, StandsLike, IsAtRest, IsKept, IsPut, IsRead}
 use Rattle.qz_journal.proofs.Fronts.{same_ok}
-use Rattle.qz_journal.proofs.Images.{framed_of, short_image, kept_before, Resting, resting, at_rest, resting_stands, resting_place}
+use Rattle.qz_journal.proofs.Images.{Framed, framed_of, short_image, kept_before, Resting, resting, at_rest, resting_stands, resting_place}
 use Rattle.qz_journal.proofs.Crashes.{torn_behind, rest_behind, written_behind, torn_gate, written_gate, length-framed, cut_behind, cut_rests, cut_short, torn_short}
 
 -- a file at rest is a journal without a doubt
@@ -132,3 +132,21 @@ put_kept (Some bytes) n m gate frame before outcomes now kept holds fits written
     subst (Resting (with_one_more payload L) (gate + 5 + length payload)) (ap (overwritten gate (1 ∷ [])) (sym staged_is)) (written_gate L gate bytes rests payload (holds.behind ++ rest_behind L gate bytes rests frame) (omega arith)) in
     let both = kept_resting (with_one_more payload L) (gate + 5 + length payload) after outcomes longer durable_here in
     subst (λ m. IfSome m (IsPut gate payload L outcomes)) (sym m_is) (record { kept = both.0; list = both.1 })
+
+-- giving the room behind the gate up
+
+pub spare_run : (o : Option (List ℕ)) (gate a b : ℕ) (doubt : Option (List ℕ)) (p q : ℕ → List ℕ → Type 0) → doubt ≡ None → IfSome o (p a) → IfSome o (IsKept gate doubt (p a)) → Elapses (Cut (gate + 1)) a b p q
+    → IfSome (option_map (payloads_before gate) o) (λ payloads. LeavesOnly (StandsFor payloads doubt) a b p q)
+spare_run None gate a b doubt p q none now kept time = now
+spare_run (Some bytes) gate a b doubt p q none now kept time =
+    let L = payloads_before gate bytes in
+    let settled = subst (λ d. IsKept gate d (p a) bytes) none kept in
+    let r = kept_rests gate bytes (p a) settled now in
+    let f : Framed L bytes = record { front = r.front; gate = r.gate; behind = r.behind; split = r.split; front_is = r.front_is; shut = r.shut } in
+    subst (λ d. LeavesOnly (StandsFor L d) a b p q) (sym none) (one_call (StandsFor L None) (Cut (gate + 1)) a b p q time settled.stand.each
+    (λ d c left cut. cut_behind L gate bytes f settled.place c (subst (λ e. Cut (gate + 1) e c) ((settled.at_rest refl).durable.only d left) cut)))
+
+pub spare_stands : (o : Option (List ℕ)) (gate a b : ℕ) (doubt : Option (List ℕ)) (p q : ℕ → List ℕ → Type 0) → IfSome (option_map (payloads_before gate) o) (λ payloads. LeavesOnly (StandsFor payloads doubt) a b p q)
+    → IfSome (option_map (payloads_before gate) o) (λ payloads. StandFor payloads doubt (q b))
+spare_stands None gate a b doubt p q run = run
+spare_stands (Some bytes) gate a b doubt p q run = record { each = run_end (StandsFor (payloads_before gate bytes) doubt) a b p q run }

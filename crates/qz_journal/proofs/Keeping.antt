@@ -185,3 +185,8 @@ reopen_crash o mid gate a b c p q r same now time mended = crash_kept o gate a c
 pub doubtful : (doubt : Option (List ℕ)) → is_none doubt ≡ false → option_map payload_of doubt ≡ None → ⊥
 doubtful None none same = true≢false none
 doubtful (Some frame) none same = true≢false (ap is_some same)
+
+-- and no frame is none
+pub settled : (doubt : Option (List ℕ)) → is_some doubt ≡ false → option_map payload_of doubt ≡ None
+settled None none = refl
+settled (Some frame) none = absurd (true≢false none)

@@ -115,20 +115,27 @@ impl<D: Disk> Journal<D> {
         }
     }
 
-    /// The disk, as it is: a crash leaves of it the payloads kept, with the one in doubt or without. The room behind the
-    /// gate is spared where none is in doubt.
+    /// The disk: a crash leaves of it the payloads kept, with the one in doubt or without. Where none is in doubt the room
+    /// behind the gate is given up.
     pub fn into_disk(self) -> D
-        ensures disk { result ≡ self.disk }
+        ensures reads { D.reads result ≡ D.reads self.disk }
         ensures tells { is_some self.kept ≡ is_some (D.reads result) }
         ensures stands { IfSome self.kept (λ payloads.
             StandFor payloads self.doubt (D.left_at result (D.moment result))) }
+        ensures faults { D.faults result ≡ D.faults self.disk }
+        ensures blamed { D.blamed result ≡ D.blamed self.disk }
+        ensures sound { D.sound self.disk → D.sound result }
+
+        // A crash at each moment of the call leaves the list, with the payload in doubt or without.
+        ensures any_moment { IfSome self.kept (λ payloads. LeavesOnly (StandsFor payloads self.doubt)
+            (D.moment self.disk) (D.moment result) (D.left_at self.disk) (D.left_at result)) }
     {
-        let is_settled = self.doubt.is_none();
+        if self.doubt.is_some() {
+            return self.disk;
+        }
         let needed = self.gate + 1;
         let mut disk = self.disk;
-        if is_settled {
-            disk.spare(needed);
-        }
+        disk.spare(needed);
         disk
     }
 }

@@ -86,7 +86,7 @@ pub(crate) fn give_back_parts<F: Shelf>(
     rest.destroy_empty();
 }
 
-/// Gives every file of a school's lists back. It takes no memory, and writes nothing.
+/// Gives every file of a school's lists back. It takes no memory, and writes nothing; the room behind what is kept may be cut off.
 pub fn close<F: Shelf>(shelf: &mut F, folder: &[u8], loaded: Loaded<F::Disk>)
     requires few { length loaded.shards.items ≤ MOST_SHARDS }
     requires out { IsOut folder.now (length loaded.shards.items) (F.files shelf.old) }
