@@ -94,10 +94,18 @@ def images(folder):
     return {file.name: file.read_bytes() for file in folder.iterdir()}
 
 
-def lists(folder):
-    """The files of a folder, where nothing stands behind the last gate. That is shut by any byte but 1; and a file that isn't
-    longer than a header and a gate stands for no record, whatever it holds."""
-    return {name: normal(image) for name, image in images(folder).items()}
+def lists(folder, held=False):
+    """The files of a folder, where nothing stands behind the last gate, or zeros where a program holds them. That gate is shut
+    by any byte but 1; and a file that isn't longer than a header and a gate stands for no record, whatever it holds."""
+    return {name: normal(without_zeros(image) if held else image) for name, image in images(folder).items()}
+
+
+def without_zeros(image):
+    """A file, cut behind the first gate that isn't open where nothing but zeros stands there."""
+    gate = len(BEGUN) - 1
+    while image[gate:gate + 1] == OPEN:
+        gate += 5 + int.from_bytes(image[gate + 1:gate + 5], "little")
+    return image if any(image[gate + 1:]) else image[:gate + 1]
 
 
 def normal(image):
@@ -179,7 +187,7 @@ class Exam:
         script = Script(folder)
         for line in self.lines:
             self.replies.append(script.ask(line))
-            self.images.append(lists(folder))
+            self.images.append(lists(folder, True))
         ended = script.end()
         self.again = self.loads(folder, self.lines)
         self.left = lists(folder)

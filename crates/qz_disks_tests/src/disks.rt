@@ -114,6 +114,29 @@ fn read_fourth<R: Files<File = File>>(
     Ok((target, faults))
 }
 
+fn length_of(rt: &impl Files<File = File>, path: &str) -> io::Result<u64> {
+    Ok(File::open(rt, path)?.metadata()?.len())
+}
+
+// Spares all but the first bytes of a file, and writes to it or not. How long it is while it is out, and then.
+fn lengths<R: Files<File = File>>(
+    rt: &(impl Abort + Files<File = File>),
+    alloc: Global,
+    shelf: &mut FolderShelf<R>,
+    folder: &[u8],
+    path: &str,
+    piece: Option<&[u8]>,
+) -> Result<(u64, u64), Fail> {
+    let mut disk = opened(rt, alloc, shelf, folder)?;
+    disk.spare(3);
+    if let Some(piece) = piece {
+        disk.write_at(4, piece)?;
+    }
+    let out = length_of(rt, path)?;
+    closed(rt, shelf, folder, disk);
+    Ok((out, length_of(rt, path)?))
+}
+
 #[test]
 fn a_folder_is_a_shelf(rt: HostRuntime) -> Result<(), Fail> {
     let alloc = rt.alloc();
@@ -126,12 +149,18 @@ fn a_folder_is_a_shelf(rt: HostRuntime) -> Result<(), Fail> {
     assert_eq!(rt; (shelf.faults(), other.faults()), (1, 1));
     let told = read_fourth(&rt, alloc, &mut other, folder)?;
     assert_eq!(rt; told, (*b"d", 0));
+    // What is spared is cut off as the file is given back, unless it was written to since.
+    let path = "qz_disks_shelf.tmp/one";
+    for (piece, told) in [(Some(b"ef".as_slice()), (6, 6)), (None, (6, 3))] {
+        let found = lengths(&rt, alloc, &mut shelf, folder, path, piece)?;
+        assert_eq!(rt; found, told);
+    }
     // One folder is made, and none above it; a name that is no text is no file's.
     for folder in [b"qz_disks_none.tmp/deep".as_slice(), b"\xff"] {
         let refused = opened(&rt, alloc, &mut shelf, folder).err();
         assert_eq!(rt; refused, Some(ShelfErr::Failed));
     }
-    fs::remove_file(&rt, "qz_disks_shelf.tmp/one")?;
+    fs::remove_file(&rt, path)?;
     fs::remove_dir(&rt, "qz_disks_shelf.tmp")?;
     Ok(())
 }

@@ -38,11 +38,41 @@ fn payloads_stand_in_frames(rt: HostRuntime) -> Result<(), Fail> {
     journal.append(alloc, b"")?;
     let disk = journal.into_disk();
     let image = b"QZJ1\x01\0\0\0\x01\x02\0\0\0\x07\x08\x01\0\0\0\0\0";
-    assert_eq!(rt; disk.bytes(), image.as_slice());
-    let (_, payloads) = loaded(alloc, image, &[])?;
+    let (told, room) = disk.bytes().split_at(image.len());
+    assert_eq!(rt; told, image.as_slice());
+    assert!(rt; room.iter().all(|byte| *byte == 0));
+    let (_, payloads) = loaded(alloc, disk.bytes(), &[])?;
     assert_eq!(rt; payloads.items.len(), 2);
     assert_eq!(rt; payloads.items[0].as_slice(), [7u8, 8].as_slice());
     assert_eq!(rt; payloads.items[1].as_slice(), b"".as_slice());
+    Ok(())
+}
+
+// How long a file is after appends of payloads of so many bytes.
+fn reach(alloc: Global, counts: &[usize]) -> Result<usize, Fail> {
+    let (mut journal, _) = loaded(alloc, b"", &[])?;
+    for count in counts {
+        let payload = vec![in alloc; 1u8; *count]?;
+        journal.append(alloc, &payload)?;
+    }
+    Ok(journal.into_disk().bytes().len())
+}
+
+// A file grows by a frame and 4,096 zeros, and not again as long as a frame fits in them.
+#[test]
+fn room_is_made_ahead(rt: HostRuntime) -> Result<(), Fail> {
+    let alloc = rt.alloc();
+    let rows: [(&[usize], usize); 5] = [
+        (&[], 9),
+        (&[2], 4_112),
+        (&[2, 0], 4_112),
+        (&[2, 0, 4_086], 4_112),
+        (&[2, 0, 4_087], 8_209),
+    ];
+    for (counts, told) in rows {
+        let found = reach(alloc, counts)?;
+        assert_eq!(rt; found, told);
+    }
     Ok(())
 }
 
