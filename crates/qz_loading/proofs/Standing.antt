@@ -4,7 +4,7 @@ use Rattle.qz_disks.specs.Shelves.{File, SameFile}
 use Rattle.qz_folders.proofs.Files.{carried}
 use Rattle.qz_folders.specs.Opening.{IsOpened, LeavesSince, StandsStill}
 use Rattle.qz_journal.specs.Frames.{stands_for}
-use Rattle.qz_journal.specs.Journals.{Ledger, StandsAs}
+use Rattle.qz_journal.specs.Journals.{Ledger, StandFor, StandsAs, StandsFor}
 use Rattle.qz_loading.specs.Closing.{IsBack, StandForList}
 use Rattle.qz_loading.specs.Places.{StaysLike}
 use Rattle.qz_terms.specs.Serial.{Held}
@@ -78,3 +78,15 @@ stood old new held payloads (Some bytes) kept list is here none spelled back =
 pub stays_back : {D : Type 0} (moment : D → ℕ) (left_at : D → ℕ → List ℕ → Type 0) (old new : File) (journal : Ledger D) (held : Held) (payloads : List (List ℕ)) → IsOpened moment left_at old journal payloads → IfSome old.reads old.left
     → held.doubt ≡ None → map spelling held.list ≡ payloads → IsBack journal held new → StaysLike old new
 stays_back moment left_at old new journal held payloads opened here none spelled back = stood old new held payloads old.reads journal.kept opened.list opened.kept here none spelled back.stands
+
+-- a journal that was given back with the payloads it was opened with
+given : (old new : File) (payloads : List (List ℕ)) (doubt : Option (List ℕ)) (o : Option (List ℕ)) (kept : Option (List (List ℕ))) → IfSome o (λ bytes. stands_for bytes ≡ Ok payloads) → kept ≡ option_map (λ _. payloads) o → doubt ≡ None → IfSome o old.left
+    → IfSome kept (λ l. StandFor l doubt new.left) → IfSome o (λ _. StandsStill old.left new.left)
+given old new payloads doubt None kept list is none here back = tt
+given old new payloads doubt (Some bytes) kept list is none here back =
+    let stand = subst (λ k. IfSome k (λ l. StandFor l doubt new.left)) is back in
+    record { each = λ c left. record { outcome = bytes; possible = here; same = subst (λ d. StandsFor payloads d c) none (stand.each c left) ∙ sym list } }
+
+pub stays_given : {D : Type 0} (moment : D → ℕ) (left_at : D → ℕ → List ℕ → Type 0) (old new : File) (journal : Ledger D) (payloads : List (List ℕ)) → IsOpened moment left_at old journal payloads → IfSome old.reads old.left
+    → IfSome journal.kept (λ l. StandFor l journal.doubt new.left) → StaysLike old new
+stays_given moment left_at old new journal payloads opened here back = given old new payloads journal.doubt old.reads journal.kept opened.list opened.kept opened.no_doubt here back
