@@ -38,7 +38,9 @@ fn payloads_stand_in_frames(rt: HostRuntime) -> Result<(), Fail> {
     journal.append(alloc, b"")?;
     let disk = journal.into_disk();
     let image = b"QZJ1\x01\0\0\0\x01\x02\0\0\0\x07\x08\x01\0\0\0\0\0";
-    let (told, room) = disk.bytes().split_at(image.len());
+    let bytes = disk.bytes();
+    assert!(rt; image.len() <= bytes.len());
+    let (told, room) = bytes.split_at(image.len());
     assert_eq!(rt; told, image.as_slice());
     assert!(rt; room.iter().all(|byte| *byte == 0));
     let (_, payloads) = loaded(alloc, disk.bytes(), &[])?;
@@ -48,13 +50,25 @@ fn payloads_stand_in_frames(rt: HostRuntime) -> Result<(), Fail> {
     Ok(())
 }
 
-// How long a file is after appends of payloads of so many bytes.
-fn reach(alloc: Global, counts: &[usize]) -> Result<usize, Fail> {
-    let (mut journal, _) = loaded(alloc, b"", &[])?;
-    for count in counts {
-        let payload = vec![in alloc; 1u8; *count]?;
-        journal.append(alloc, &payload)?;
-    }
+// Appends a payload of so many bytes.
+fn with_one(
+    alloc: Global,
+    mut journal: Journal<MemoryDisk>,
+    count: u16,
+) -> Result<Journal<MemoryDisk>, Fail>
+    requires { journal.doubt ≡ None }
+    ensures { IfOk result (λ made. made.doubt ≡ None) }
+{
+    let payload = vec![in alloc; 1u8; usize::from(count)]?;
+    journal.append(alloc, &payload)?;
+    Ok(journal)
+}
+
+// How long a file is after appends of two payloads of so many bytes.
+fn reach(alloc: Global, first: u16, second: u16) -> Result<usize, Fail> {
+    let (journal, _) = loaded(alloc, b"", &[])?;
+    let journal = with_one(alloc, journal, first)?;
+    let journal = with_one(alloc, journal, second)?;
     Ok(journal.into_disk().bytes().len())
 }
 
@@ -62,15 +76,13 @@ fn reach(alloc: Global, counts: &[usize]) -> Result<usize, Fail> {
 #[test]
 fn room_is_made_ahead(rt: HostRuntime) -> Result<(), Fail> {
     let alloc = rt.alloc();
-    let rows: [(&[usize], usize); 5] = [
-        (&[], 9),
-        (&[2], 4_112),
-        (&[2, 0], 4_112),
-        (&[2, 0, 4_086], 4_112),
-        (&[2, 0, 4_087], 8_209),
-    ];
-    for (counts, told) in rows {
-        let found = reach(alloc, counts)?;
+    for (first, second, told) in [
+        (2, 0, 4_112),
+        (2, 4_091, 4_112),
+        (2, 4_092, 8_209),
+        (5_000, 0, 9_110),
+    ] {
+        let found = reach(alloc, first, second)?;
         assert_eq!(rt; found, told);
     }
     Ok(())
